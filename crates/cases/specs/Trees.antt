@@ -1,0 +1,53 @@
+-- The trees of document 01's "Figures to check by". "Where a case is silent, g is 1, phi 4, budget 8, P 16, Nr and Nw are
+-- 1".
+--
+-- ports x y            a port table with x at port 0, y at port 1 and the rest empty
+-- interconnect j p g c interconnect on port p of interconnect j, with granularity g and the port table c
+-- block j p phi b      accelerator on port p of interconnect j, with outstanding limit phi and budget b
+-- tree P xs ys         the configuration with window P, interconnects xs and accelerators ys
+-- chain                the tree of case 1: three interconnects, each at port 1 of the one above
+-- pair g P f h b       one interconnect of granularity g with two accelerators, of phi f and h, at ports 0 and 1, each of
+--                      budget b
+use Prim.Native.Nat.{ℕ, _-_}
+use mathlib.Core.List.{List, [], _∷_, _++_}
+use lib.ListN.{length, replicate}
+use Rattle.model.specs.declared.Tree.{Tree}
+use Rattle.model.specs.declared.Interconnect.{Interconnect}
+use Rattle.model.specs.declared.Accelerator.{Accelerator}
+use Rattle.model.specs.declared.PortCell.{PortCell}
+use Rattle.model.specs.declared.Port.{Port}
+use Rattle.model.specs.declared.Port.the-variants.{Empty, Acc, Int}
+use Rattle.model.specs.Tree.{emptyCell, noInterconnect, noAccelerator}
+
+abbrev pub ports : Port → Port → List PortCell
+ports x y = record { port = x } ∷ record { port = y } ∷ replicate 6 emptyCell
+
+abbrev pub interconnect : ℕ → ℕ → ℕ → List PortCell → Interconnect
+interconnect j p g c = record { parent = j; port = p; granularity = g; ports = c }
+
+abbrev pub block : ℕ → ℕ → ℕ → ℕ → Accelerator
+block j p phi b =
+    record { interconnect = j; port = p; phi = phi; budget = b; reads = 1; writes = 1; computing = 0; period = 1 }
+
+abbrev pub tree : ℕ → List Interconnect → List Accelerator → Tree
+tree P xs ys =
+    record {
+      bus = record { window = P; ta = 1; da = 4; dd = 2; db = 2; pr = 30; pw = 25; td = 1; tb = 1; burst = 16 };
+      interconnects = xs ++ replicate (15 - length xs) noInterconnect;
+      accelerators = ys ++ replicate (32 - length ys) noAccelerator;
+      ints = length xs;
+      accs = length ys;
+    }
+
+abbrev pub chain : Tree
+chain =
+    tree 16
+    (interconnect 0 0 1 (ports (Acc 0) (Int 1))
+    ∷ interconnect 0 1 1 (ports (Acc 1) (Int 2))
+    ∷ interconnect 1 1 1 (ports (Acc 2) (Acc 3))
+    ∷ [])
+    (block 0 0 4 8 ∷ block 1 0 4 8 ∷ block 2 0 4 8 ∷ block 2 1 4 8 ∷ [])
+
+abbrev pub pair : ℕ → ℕ → ℕ → ℕ → ℕ → Tree
+pair g P f h b =
+    tree P (interconnect 0 0 g (ports (Acc 0) (Acc 1)) ∷ []) (block 0 0 f b ∷ block 0 1 h b ∷ [])

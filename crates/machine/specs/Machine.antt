@@ -1,0 +1,127 @@
+-- Fresh state, offer and slot (document 01, "What is refused" and "Turns").
+--
+-- Answer               what a call answers: an offer is admitted, a slot serves an accelerator or is idle, a call is
+--                      refused by a number of document 01's table
+-- Outcome              a call's answer and the state that it returns
+-- zeroState            the state with nothing in it
+-- freshState t         "At the start nothing waits, all admitted counts and the slot are 0, every allowance is 0 and the
+--                      last port of every interconnect in the tree is 7"
+-- freshened t          the starting state, or 11, and then no state but zeros
+-- admit s a            "waiting and admitted rise by one"
+-- offered t s a        the offer of one transaction: 11, 7, 8, 9 in this order, or admitted
+-- noneWaits s          nothing waits
+-- opens t n            slot n + 1 is in another window than slot n
+-- lastSlot             the slot count at which a slot is refused
+-- tick t s             "Then the slot count rises by one; where that opens a new window, all admitted counts become 0"
+-- chosen t s           the accelerator to serve: "The choice begins at the root"
+-- takeOne s a          one transaction of accelerator a less waits
+-- serve t s            the state once the chosen accelerator's oldest transaction is served, before the slot count rises
+-- slotted t s          one slot: 11, 10 in this order, or idle, or the accelerator served
+use Prim.Native.Nat.{ℕ, suc, _+_, _-_}
+use mathlib.Core.Bool.{Bool, not}
+use mathlib.Core.List.{_++_}
+use lib.ListN.{set, replicate}
+use lib.Dec.{leb, eqb}
+use Rattle.model.specs.declared.Tree.{Tree}
+use Rattle.model.specs.declared.State.{State}
+use Rattle.model.specs.Fold.{pick, all}
+use Rattle.model.specs.Tree.{limitOf, budgetOf, windowOf, waitingOf, outstandingOf, admittedOf}
+use Rattle.model.specs.Rules.{treeKeeps, keeps}
+use Rattle.machine.specs.Turns.{who, after}
+
+pub data Answer : Type 0 where
+  admitted : Answer
+  served : ℕ → Answer
+  idle : Answer
+  started : Answer
+  refused : ℕ → Answer
+
+pub record Outcome : Type 0 where
+  pub answer : Answer
+  pub state : State
+
+abbrev pub outcome : Answer → State → Outcome
+outcome a s = record { answer = a; state = s }
+
+abbrev pub zeroState : State
+zeroState =
+    record {
+      waiting = replicate 32 0;
+      admitted = replicate 32 0;
+      last = replicate 15 0;
+      allowance = replicate 15 0;
+      slot = 0;
+    }
+
+abbrev pub freshState : Tree → State
+freshState t =
+    record {
+      waiting = replicate 32 0;
+      admitted = replicate 32 0;
+      last = replicate (t .ints) 7 ++ replicate (15 - t .ints) 0;
+      allowance = replicate 15 0;
+      slot = 0;
+    }
+
+unfoldable pub freshened : Tree → Outcome
+freshened t = pick (treeKeeps t) (outcome started (freshState t)) (outcome (refused 11) zeroState)
+
+abbrev pub admit : State → ℕ → State
+admit s a =
+    record {
+      waiting = set (s .waiting) a (waitingOf s a + 1);
+      admitted = set (s .admitted) a (admittedOf s a + 1);
+      last = s .last;
+      allowance = s .allowance;
+      slot = s .slot;
+    }
+
+unfoldable pub offered : Tree → State → ℕ → Outcome
+offered t s a =
+    pick (not (keeps t s)) (outcome (refused 11) s)
+    (pick (leb (t .accs) a) (outcome (refused 7) s)
+    (pick (leb (limitOf t a) (outstandingOf s a)) (outcome (refused 8) s)
+    (pick (leb (budgetOf t a) (admittedOf s a)) (outcome (refused 9) s)
+    (outcome admitted (admit s a)))))
+
+abbrev pub noneWaits : State → Bool
+noneWaits s = all 32 (λ a. eqb (waitingOf s a) 0)
+
+abbrev pub opens : Tree → ℕ → Bool
+opens t n = not (eqb (windowOf t (n + 1)) (windowOf t n))
+
+unfoldable pub tick : Tree → State → State
+tick t s =
+    record {
+      waiting = s .waiting;
+      admitted = pick (opens t (s .slot)) (replicate 32 0) (s .admitted);
+      last = s .last;
+      allowance = s .allowance;
+      slot = s .slot + 1;
+    }
+
+abbrev pub lastSlot : ℕ
+lastSlot = 4294967295
+
+abbrev pub chosen : Tree → State → ℕ
+chosen t s = who 4 t s 0
+
+abbrev pub takeOne : State → ℕ → State
+takeOne s a =
+    record {
+      waiting = set (s .waiting) a (waitingOf s a - 1);
+      admitted = s .admitted;
+      last = s .last;
+      allowance = s .allowance;
+      slot = s .slot;
+    }
+
+abbrev pub serve : Tree → State → State
+serve t s = takeOne (after 4 t s 0) (chosen t s)
+
+unfoldable pub slotted : Tree → State → Outcome
+slotted t s =
+    pick (not (keeps t s)) (outcome (refused 11) s)
+    (pick (eqb (s .slot) lastSlot) (outcome (refused 10) s)
+    (pick (noneWaits s) (outcome idle (tick t s))
+    (outcome (served (chosen t s)) (tick t (serve t s)))))

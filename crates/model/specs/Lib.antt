@@ -1,0 +1,5 @@
+pub mod Fold
+pub mod Tree
+pub mod Beneath
+pub mod Rules
+pub mod Answer

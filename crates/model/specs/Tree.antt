@@ -1,0 +1,107 @@
+-- A configuration and a state, read by document 01's terms. Each accessor answers zero, or an empty port, past the end
+-- of its array.
+--
+-- portOf t j p          what port p of interconnect j carries ("A port is empty, or carries one accelerator, or one
+--                       lower interconnect")
+-- granularityOf t j     g of interconnect j
+-- parentOf t j          the parent of interconnect j
+-- parentPortOf t j      the port on the parent that carries interconnect j
+-- homeOf t a            the interconnect that accelerator a is on
+-- homePortOf t a        the port there that carries accelerator a
+-- limitOf t a           how many transactions of accelerator a may be outstanding: phi
+-- budgetOf t a          the budget of accelerator a, in transactions a window
+-- windowOf t n          the window of slot n ("slot s is in window floor(s / P), slots counted from 0")
+-- above n t j           the crossings above interconnect j, nearest first: parent and port, at most n of them
+-- path t a              the crossings of accelerator a, from its own interconnect up to the root
+-- levelOf t j           the level of interconnect j ("A level is the count of interconnects from the root to here, the
+--                       root 1")
+-- waitingOf s a         the transactions of accelerator a that wait
+-- outstandingOf s a     the transactions of accelerator a that are outstanding: those that wait ("A transaction stops
+--                       being outstanding in the slot that serves it")
+-- admittedOf s a        the transactions of accelerator a admitted in this window
+-- lastOf s j            the last port of interconnect j
+-- allowanceOf s j       the allowance of interconnect j
+use Prim.Native.Nat.{ℕ, zero, suc, _/_}
+use mathlib.Core.List.{List, [], _∷_}
+use lib.ListN.{getD, length, replicate}
+use lib.Dec.{eqb}
+use Rattle.model.specs.declared.Tree.{Tree}
+use Rattle.model.specs.declared.State.{State}
+use Rattle.model.specs.declared.Interconnect.{Interconnect}
+use Rattle.model.specs.declared.Accelerator.{Accelerator}
+use Rattle.model.specs.declared.PortCell.{PortCell}
+use Rattle.model.specs.declared.Port.{Port}
+use Rattle.model.specs.declared.Port.the-variants.{Empty}
+use Rattle.model.specs.Fold.{pick}
+
+abbrev pub emptyCell : PortCell
+emptyCell = record { port = Empty }
+
+abbrev pub noInterconnect : Interconnect
+noInterconnect = record { parent = 0; port = 0; granularity = 0; ports = replicate 8 emptyCell }
+
+abbrev pub noAccelerator : Accelerator
+noAccelerator = record { interconnect = 0; port = 0; phi = 0; budget = 0; reads = 0; writes = 0; computing = 0; period = 0 }
+
+abbrev pub interconnectOf : Tree → ℕ → Interconnect
+interconnectOf t j = getD (t .interconnects) j noInterconnect
+
+abbrev pub acceleratorOf : Tree → ℕ → Accelerator
+acceleratorOf t a = getD (t .accelerators) a noAccelerator
+
+abbrev pub portOf : Tree → ℕ → ℕ → Port
+portOf t j p = getD (interconnectOf t j .ports) p emptyCell .port
+
+abbrev pub granularityOf : Tree → ℕ → ℕ
+granularityOf t j = interconnectOf t j .granularity
+
+abbrev pub parentOf : Tree → ℕ → ℕ
+parentOf t j = interconnectOf t j .parent
+
+abbrev pub parentPortOf : Tree → ℕ → ℕ
+parentPortOf t j = interconnectOf t j .port
+
+abbrev pub homeOf : Tree → ℕ → ℕ
+homeOf t a = acceleratorOf t a .interconnect
+
+abbrev pub homePortOf : Tree → ℕ → ℕ
+homePortOf t a = acceleratorOf t a .port
+
+abbrev pub limitOf : Tree → ℕ → ℕ
+limitOf t a = acceleratorOf t a .phi
+
+abbrev pub budgetOf : Tree → ℕ → ℕ
+budgetOf t a = acceleratorOf t a .budget
+
+abbrev pub windowOf : Tree → ℕ → ℕ
+windowOf t n = n / (t .bus .window)
+
+pub record Crossing : Type 0 where
+  pub interconnect : ℕ
+  pub port : ℕ
+
+unfoldable pub above : ℕ → Tree → ℕ → List Crossing
+above zero t j = []
+above (suc n) t j =
+    pick (eqb j 0) [] (record { interconnect = parentOf t j; port = parentPortOf t j } ∷ above n t (parentOf t j))
+
+abbrev pub path : Tree → ℕ → List Crossing
+path t a = record { interconnect = homeOf t a; port = homePortOf t a } ∷ above 15 t (homeOf t a)
+
+abbrev pub levelOf : Tree → ℕ → ℕ
+levelOf t j = suc (length (above 15 t j))
+
+abbrev pub waitingOf : State → ℕ → ℕ
+waitingOf s a = getD (s .waiting) a 0
+
+abbrev pub outstandingOf : State → ℕ → ℕ
+outstandingOf s a = waitingOf s a
+
+abbrev pub admittedOf : State → ℕ → ℕ
+admittedOf s a = getD (s .admitted) a 0
+
+abbrev pub lastOf : State → ℕ → ℕ
+lastOf s j = getD (s .last) j 0
+
+abbrev pub allowanceOf : State → ℕ → ℕ
+allowanceOf s j = getD (s .allowance) j 0

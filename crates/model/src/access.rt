@@ -1,0 +1,155 @@
+// Reading a configuration and a state: total, by value.
+use crate::Accelerator;
+use crate::Interconnect;
+use crate::Port;
+use crate::PortCell;
+use crate::State;
+use crate::Tree;
+ghost use mathlib.Core.Path.{_≡_};
+ghost use Prim.Native.Nat.{_≤_, _*_, _^_};
+ghost use lib.ListN.{length};
+ghost use Rattle.model.specs.Tree.{interconnectOf, acceleratorOf, portOf, levelOf, above, waitingOf, admittedOf, lastOf, allowanceOf};
+ghost use Rattle.model.specs.Beneath.{under, inside, waitsUnder};
+
+pub fn interconnect_at(t: Tree, j: u8) -> Interconnect
+    ensures { λ r. ⌜ r ≡ interconnectOf t j ⌝ }
+{
+    let i = j as usize;
+    if i < 15 {
+        return t.interconnects[i];
+    }
+    let ports = [PortCell { port: Port::Empty }; 8];
+    Interconnect {
+        parent: 0,
+        port: 0,
+        granularity: 0,
+        ports: ports,
+    }
+}
+
+pub fn accelerator_at(t: Tree, a: u8) -> Accelerator
+    ensures { λ r. ⌜ r ≡ acceleratorOf t a ⌝ }
+{
+    let i = a as usize;
+    if i < 32 {
+        return t.accelerators[i];
+    }
+    Accelerator {
+        interconnect: 0,
+        port: 0,
+        phi: 0,
+        budget: 0,
+        reads: 0,
+        writes: 0,
+        computing: 0,
+        period: 0,
+    }
+}
+
+pub fn port_at(t: Tree, j: u8, p: u8) -> Port
+    ensures { λ r. ⌜ r ≡ portOf t j p ⌝ }
+{
+    let q = p as usize;
+    let x = interconnect_at(t, j);
+    if q < 8 {
+        let c = x.ports[q];
+        return c.port;
+    }
+    Port::Empty
+}
+
+pub fn waiting_of(s: State, a: u8) -> u8
+    ensures { λ r. ⌜ r ≡ waitingOf s a ⌝ }
+{
+    let i = a as usize;
+    if i < 32 {
+        return s.waiting[i];
+    }
+    0
+}
+
+pub fn admitted_of(s: State, a: u8) -> u16
+    ensures { λ r. ⌜ r ≡ admittedOf s a ⌝ }
+{
+    let i = a as usize;
+    if i < 32 {
+        return s.admitted[i];
+    }
+    0
+}
+
+pub fn last_of(s: State, j: u8) -> u8
+    ensures { λ r. ⌜ r ≡ lastOf s j ⌝ }
+{
+    let i = j as usize;
+    if i < 15 {
+        return s.last[i];
+    }
+    0
+}
+
+pub fn allowance_of(s: State, j: u8) -> u8
+    ensures { λ r. ⌜ r ≡ allowanceOf s j ⌝ }
+{
+    let i = j as usize;
+    if i < 15 {
+        return s.allowance[i];
+    }
+    0
+}
+
+// How many interconnects are above interconnect j, counted over at most n parents.
+fn parents(t: Tree, n: u8, j: u8) -> u8
+    requires { ⌜ n ≤ 15 ⌝ }
+    ensures { λ r. ⌜ (r ≡ length (above n t j)) × (r ≤ n) ⌝ }
+{
+    if n == 0 {
+        return 0;
+    }
+    if j == 0 {
+        return 0;
+    }
+    let x = interconnect_at(t, j);
+    parents(t, n - 1, x.parent) + 1
+}
+
+pub fn level_of(t: Tree, j: u8) -> u8
+    ensures { λ r. ⌜ r ≡ levelOf t j ⌝ }
+{
+    parents(t, 15, j) + 1
+}
+
+fn widen(n: u8) -> u32
+    ensures { λ r. ⌜ r ≡ n ⌝ }
+{
+    n as u32
+}
+
+// What waits beneath a port that carries `port`, over `levels` levels of interconnects.
+fn waiting_beneath(t: Tree, s: State, levels: u8, port: Port) -> u32
+    requires { ⌜ levels ≤ 4 ⌝ }
+    ensures { λ r. ⌜ (r ≡ under (waitingOf s) (inside levels t (waitingOf s)) port) × (r ≤ 255 * 8 ^ levels) ⌝ }
+{
+    match port {
+        Port::Empty => 0,
+        Port::Acc(a) => widen(waiting_of(s, a)),
+        Port::Int(j) => {
+            if levels == 0 {
+                return 0;
+            }
+            let mut sum: u32 = 0;
+            let mut p: u8 = 0;
+            while p < 8 {
+                sum += waiting_beneath(t, s, levels - 1, port_at(t, j, p));
+                p += 1;
+            }
+            sum
+        }
+    }
+}
+
+pub fn waits_under(t: Tree, s: State, j: u8, p: u8) -> u32
+    ensures { λ r. ⌜ r ≡ waitsUnder t s j p ⌝ }
+{
+    waiting_beneath(t, s, 3, port_at(t, j, p))
+}

@@ -1,0 +1,109 @@
+// The configuration and the state of document 01, and the check of their rules.
+//
+// Everything here goes by value. Each accessor answers zero, or an empty port, past the end of its array, so that each
+// check answers on any value whatever.
+pub mod access;
+pub mod rules;
+
+ghost use mathlib.Core.Path.{_≡_};
+ghost use Rattle.model.specs.Answer.{numberOf};
+
+// What a port carries: nothing, the accelerator or the lower interconnect of this number.
+pub enum Port {
+    Empty,
+    Acc(u8),
+    Int(u8),
+}
+
+pub struct PortCell {
+    pub port: Port,
+}
+
+// The bus line: the window P in slots; the delays tA, dA, dD, dB, pR, pW, tD, tB in clock cycles; the burst length B.
+pub struct Bus {
+    pub window: u16,
+    pub ta: u8,
+    pub da: u8,
+    pub dd: u8,
+    pub db: u8,
+    pub pr: u16,
+    pub pw: u16,
+    pub td: u8,
+    pub tb: u8,
+    pub burst: u16,
+}
+
+// An interconnect: the parent and the port on it that carries this one (0 and 0 at the root, whose line has "-" there),
+// granularity g, and what each of its eight input ports carries.
+pub struct Interconnect {
+    pub parent: u8,
+    pub port: u8,
+    pub granularity: u8,
+    pub ports: [PortCell; 8],
+}
+
+// An accelerator: the interconnect and port that it is on, outstanding limit phi, budget of transactions a window, and of
+// a job the reads Nr, writes Nw, computing C and period T.
+pub struct Accelerator {
+    pub interconnect: u8,
+    pub port: u8,
+    pub phi: u8,
+    pub budget: u16,
+    pub reads: u16,
+    pub writes: u16,
+    pub computing: u32,
+    pub period: u32,
+}
+
+// A configuration: the first `ints` interconnects and the first `accs` accelerators are in the tree.
+pub struct Tree {
+    pub bus: Bus,
+    pub interconnects: [Interconnect; 15],
+    pub accelerators: [Accelerator; 32],
+    pub ints: u8,
+    pub accs: u8,
+}
+
+// The state of one channel: for each accelerator the transactions that wait and those admitted in this window; for each
+// interconnect its last port and its allowance; and the slot count.
+pub struct State {
+    pub waiting: [u8; 32],
+    pub admitted: [u16; 32],
+    pub last: [u8; 15],
+    pub allowance: [u8; 15],
+    pub slot: u32,
+}
+
+// Why a file, a call or a state is refused.
+pub enum Refusal {
+    Shape,
+    Limit,
+    Order,
+    Taken,
+    Level,
+    Falling,
+    Unknown,
+    Outstanding,
+    Budget,
+    LastSlot,
+    Rules,
+}
+
+// The number of a refusal in document 01's table.
+pub fn number(r: Refusal) -> u8
+    ensures { λ n. ⌜ n ≡ numberOf r ⌝ }
+{
+    match r {
+        Refusal::Shape => 1,
+        Refusal::Limit => 2,
+        Refusal::Order => 3,
+        Refusal::Taken => 4,
+        Refusal::Level => 5,
+        Refusal::Falling => 6,
+        Refusal::Unknown => 7,
+        Refusal::Outstanding => 8,
+        Refusal::Budget => 9,
+        Refusal::LastSlot => 10,
+        Refusal::Rules => 11,
+    }
+}
