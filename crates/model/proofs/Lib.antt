@@ -1,2 +1,5 @@
+pub mod Folds
 pub mod Lists
 pub mod Sums
+pub mod Sound
+pub mod Beneath

@@ -2,8 +2,7 @@
 use Prim.Native.Nat.{ℕ, zero, suc, _≤_, _<_}
 use mathlib.Core.List.{List, [], _∷_, map}
 use mathlib.Core.Path.{_≡_, refl, sym, _∙_, ap₂}
-use mathlib.Core.Bool.{Bool, true, false, _&&_, true≢false, false≢true}
-use Rattle.model.specs.Fold.{pick}
+use mathlib.Core.Bool.{Bool, _&&_}
 use native.Mathlib.Nat.{le-of-suc-le-suc, not-suc-le-zero}
 use native.Mathlib.Omega.{arith}
 use lib.ListN.{getD, length, length-map, List·getD-eq-default}
@@ -23,14 +22,5 @@ any-default (x ∷ l) c d zero h = refl
 any-default (x ∷ l) c d (suc i) h = any-default l c d i (le-of-suc-le-suc h)
 
 -- a conjunction of equal tests is equal
-pub both : {a b x y : Bool} → a ≡ x → b ≡ y → (a && b) ≡ (x && y)
-both e d = ap₂ (λ (p q : Bool). p && q) e d
-
--- which of two values is picked
-pub pick-yes : {A : Type 0} (c : Bool) (x y z : A) → c ≡ true → z ≡ x → z ≡ pick c x y
-pick-yes true x y z e d = d
-pick-yes false x y z e d = absurd (false≢true e)
-
-pub pick-no : {A : Type 0} (c : Bool) (x y z : A) → c ≡ false → z ≡ y → z ≡ pick c x y
-pick-no true x y z e d = absurd (true≢false e)
-pick-no false x y z e d = d
+pub and-cong : {a b x y : Bool} → a ≡ x → b ≡ y → (a && b) ≡ (x && y)
+and-cong e d = ap₂ (λ (p q : Bool). p && q) e d

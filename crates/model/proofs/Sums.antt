@@ -9,7 +9,7 @@ use native.Mathlib.Omega.{arith}
 use lib.Dec.{lit<}
 use lib.ListN.{length}
 use borrow.Author.Tests.{eq-eqb, ne-eqb}
-use Rattle.model.proofs.Lists.{both}
+use Rattle.model.proofs.Lists.{and-cong}
 use Rattle.model.specs.declared.Tree.{Tree}
 use Rattle.model.specs.declared.State.{State}
 use Rattle.model.specs.Rules.{sized}
@@ -84,7 +84,7 @@ pub byte-beneath : (n r : ℕ) → r < 256 → r ≤ 255 * 8 ^ n
 byte-beneath n r h = le-trans (omega arith) (le-mul-of-pos-right 255 (one-le-pow n 8 (lit< tt)))
 
 pub all-turn : (p : ℕ) (f : ℕ → Bool) (a b : Bool) → a ≡ all p f → b ≡ f p → (a && b) ≡ all (p + 1) f
-all-turn p f a b e d = both e d ∙ sym (all-more p f)
+all-turn p f a b e d = and-cong e d ∙ sym (all-more p f)
 
 pub all-end : (p n : ℕ) (f : ℕ → Bool) (a : Bool) → a ≡ all p f → p ≤ n → n ≤ p → a ≡ all n f
 all-end p n f a e h k = e ∙ ap (λ (m : ℕ). all m f) (le-antisymm h k)

@@ -5,13 +5,13 @@ use borrow.Author.Tests.{le-ltb, lt-ltb, le-leb, lt-leb, eq-eqb, ne-eqb}
 use lib.ListN.{length, take, drop, getD, set}
 use borrow.Author.Needs.{needs}
 use Rattle.model.specs.Rules.{busKeeps}
-use Rattle.model.proofs.Lists.{both}
+use Rattle.model.proofs.Lists.{and-cong}
 use Rattle.model.proofs.rules.bus_keeps.Statement.{statement}
 use Rattle.model.proofs.rules.bus_keeps.Tie as tie
 
 returns : tie.Need-returns
 unfolding busKeeps
-returns c = both (both (both (both (both (both (both (both (both (c .before .before .before .before .before .before .before .before .before .before .before .before .before .before .before .before .before .before .in-limits .ensures) (c .before .before .before .before .before .before .before .before .before .before .before .before .before .before .before .before .in-limits2 .ensures)) (c .before .before .before .before .before .before .before .before .before .before .before .before .before .before .in-limits3 .ensures)) (c .before .before .before .before .before .before .before .before .before .before .before .before .in-limits4 .ensures)) (c .before .before .before .before .before .before .before .before .before .before .in-limits5 .ensures)) (c .before .before .before .before .before .before .before .before .in-limits6 .ensures)) (c .before .before .before .before .before .before .in-limits7 .ensures)) (c .before .before .before .before .in-limits8 .ensures)) (c .before .before .in-limits9 .ensures)) (c .in-limits10 .ensures)
+returns c = and-cong (and-cong (and-cong (and-cong (and-cong (and-cong (and-cong (and-cong (and-cong (c .before .before .before .before .before .before .before .before .before .before .before .before .before .before .before .before .before .before .in-limits .ensures) (c .before .before .before .before .before .before .before .before .before .before .before .before .before .before .before .before .in-limits2 .ensures)) (c .before .before .before .before .before .before .before .before .before .before .before .before .before .before .in-limits3 .ensures)) (c .before .before .before .before .before .before .before .before .before .before .before .before .in-limits4 .ensures)) (c .before .before .before .before .before .before .before .before .before .before .in-limits5 .ensures)) (c .before .before .before .before .before .before .before .before .in-limits6 .ensures)) (c .before .before .before .before .before .before .in-limits7 .ensures)) (c .before .before .before .before .in-limits8 .ensures)) (c .before .before .in-limits9 .ensures)) (c .in-limits10 .ensures)
 
 pub bus-keeps-spec : {M : Type 1} → statement M
 bus-keeps-spec =

@@ -6,7 +6,7 @@ use borrow.Author.Needs.{needs}
 use Rattle.model.specs.declared.Interconnect.{Interconnect}
 use Rattle.model.specs.Tree.{portOf}
 use Rattle.model.specs.Rules.{childPlaced, isInt}
-use Rattle.model.proofs.Lists.{both}
+use Rattle.model.proofs.Lists.{and-cong}
 use Rattle.model.proofs.rules.child_placed.Statement.{statement}
 use Rattle.model.proofs.rules.child_placed.Tie as tie
 
@@ -15,7 +15,7 @@ unfolding childPlaced
 returns c =
     let e = c .before .before .before .before .interconnect-at .ensures in
     let a = c .before .before .before .before .before .args in
-    both (ap (λ (x : Interconnect). ltb (x .parent) (a .j) && leb (x .port) 7) e)
+    and-cong (ap (λ (x : Interconnect). ltb (x .parent) (a .j) && leb (x .port) 7) e)
     (c .is-int .ensures ∙ ap (isInt (a .j)) (c .before .port-at .ensures ∙ ap (λ (x : Interconnect). portOf (a .t) (x .parent) (x .port)) e))
 
 pub child-placed-spec : {M : Type 1} → statement M

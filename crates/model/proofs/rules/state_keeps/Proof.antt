@@ -2,7 +2,7 @@
 use mathlib.Core.Path.{sym}
 use borrow.Author.Needs.{needs}
 use Rattle.model.specs.Rules.{stateKeeps}
-use Rattle.model.proofs.Lists.{both}
+use Rattle.model.proofs.Lists.{and-cong}
 use Rattle.model.proofs.Sums.{sized-yes}
 use Rattle.model.proofs.rules.state_keeps.Statement.{statement}
 use Rattle.model.proofs.rules.state_keeps.Tie as tie
@@ -11,7 +11,7 @@ returns : tie.Need-returns
 unfolding stateKeeps
 returns c =
     let s = c .before .before .args .s in
-    both (both (sym (sized-yes s (search needs) (search needs) (search needs) (search needs))) (c .before .records-keep .ensures)) (c .turns-keep .ensures)
+    and-cong (and-cong (sym (sized-yes s (search needs) (search needs) (search needs) (search needs))) (c .before .records-keep .ensures)) (c .turns-keep .ensures)
 
 pub state-keeps-spec : {M : Type 1} → statement M
 state-keeps-spec = tie.close (tie.spec (λ c κs. search needs) (λ c κs. search needs) returns)

@@ -1,14 +1,14 @@
 -- `tree_keeps` meets its contract: the tests are those of the rule, on what the callees give.
 use borrow.Author.Needs.{needs}
 use Rattle.model.specs.Rules.{treeKeeps}
-use Rattle.model.proofs.Lists.{both}
+use Rattle.model.proofs.Lists.{and-cong}
 use Rattle.model.proofs.rules.tree_keeps.Statement.{statement}
 use Rattle.model.proofs.rules.tree_keeps.Tie as tie
 
 returns : tie.Need-returns
 unfolding treeKeeps
 returns c =
-    both (both (both (both (c .before .before .before .before .before .before .bus-keeps .ensures) (c .before .before .before .before .in-limits .ensures)) (c .before .before .in-limits2 .ensures))
+    and-cong (and-cong (and-cong (and-cong (c .before .before .before .before .before .before .bus-keeps .ensures) (c .before .before .before .before .in-limits .ensures)) (c .before .before .in-limits2 .ensures))
     (c .before .interconnects-keep .ensures)) (c .accelerators-keep .ensures)
 
 pub tree-keeps-spec : {M : Type 1} → statement M

@@ -5,14 +5,14 @@ use lib.Dec.{eqb}
 use borrow.Author.Needs.{needs}
 use Rattle.model.specs.declared.Interconnect.{Interconnect}
 use Rattle.model.specs.Rules.{unusedInterconnect}
-use Rattle.model.proofs.Lists.{both}
+use Rattle.model.proofs.Lists.{and-cong}
 use Rattle.model.proofs.rules.unused_interconnect.Statement.{statement}
 use Rattle.model.proofs.rules.unused_interconnect.Tie as tie
 
 returns : tie.Need-returns
 unfolding unusedInterconnect
 returns c =
-    both (ap (λ (x : Interconnect). eqb (x .granularity) 0 && eqb (x .parent) 0 && eqb (x .port) 0) (c .before .before .before .before .interconnect-at .ensures))
+    and-cong (ap (λ (x : Interconnect). eqb (x .granularity) 0 && eqb (x .parent) 0 && eqb (x .port) 0) (c .before .before .before .before .interconnect-at .ensures))
     (c .ports-empty .ensures)
 
 pub unused-interconnect-spec : {M : Type 1} → statement M

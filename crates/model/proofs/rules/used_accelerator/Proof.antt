@@ -7,7 +7,7 @@ use Rattle.model.specs.declared.Accelerator.{Accelerator}
 use Rattle.model.specs.Fold.{within}
 use Rattle.model.specs.Tree.{portOf}
 use Rattle.model.specs.Rules.{usedAccelerator, isAcc}
-use Rattle.model.proofs.Lists.{both}
+use Rattle.model.proofs.Lists.{and-cong}
 use Rattle.model.proofs.rules.used_accelerator.Statement.{statement}
 use Rattle.model.proofs.rules.used_accelerator.Tie as tie
 
@@ -16,7 +16,7 @@ unfolding usedAccelerator
 returns c =
     let e = c .before .before .before .before .before .before .before .before .before .before .before .before .before .before .before .before .before .accelerator-at .ensures in
     let a = c .before .before .before .before .before .before .before .before .before .before .before .before .before .before .before .before .before .before .args in
-    both (both (both (both (both (both (both (ap (λ (x : Accelerator). ltb (x .interconnect) (a .t .ints) && leb (x .port) 7) e)
+    and-cong (and-cong (and-cong (and-cong (and-cong (and-cong (and-cong (ap (λ (x : Accelerator). ltb (x .interconnect) (a .t .ints) && leb (x .port) 7) e)
     (c .before .before .before .before .before .before .before .before .before .before .before .before .is-acc .ensures ∙ ap (isAcc (a .a)) (c .before .before .before .before .before .before .before .before .before .before .before .before .before .port-at .ensures ∙ ap (λ (x : Accelerator). portOf (a .t) (x .interconnect) (x .port)) e)))
     (c .before .before .before .before .before .before .before .before .before .before .in-limits .ensures ∙ ap (λ (x : Accelerator). within 1 (x .phi) 16) e))
     (c .before .before .before .before .before .before .before .before .in-limits2 .ensures ∙ ap (λ (x : Accelerator). within 1 (x .budget) 1024) e))

@@ -6,14 +6,14 @@ use borrow.Author.Needs.{needs}
 use Rattle.model.specs.declared.Interconnect.{Interconnect}
 use Rattle.model.specs.Fold.{within}
 use Rattle.model.specs.Rules.{usedInterconnect}
-use Rattle.model.proofs.Lists.{both}
+use Rattle.model.proofs.Lists.{and-cong}
 use Rattle.model.proofs.rules.used_interconnect.Statement.{statement}
 use Rattle.model.proofs.rules.used_interconnect.Tie as tie
 
 returns : tie.Need-returns
 unfolding usedInterconnect
 returns c =
-    both (both (both
+    and-cong (and-cong (and-cong
     (c .before .before .before .in-limits .ensures ∙ ap (λ (x : Interconnect). within 1 (x .granularity) 16) (c .before .before .before .before .before .interconnect-at .ensures))
     (c .before .before .placed .ensures))
     (ap (λ (k : ℕ). leb k 4) (c .before .level-of .ensures)))
