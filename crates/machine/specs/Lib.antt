@@ -1,3 +1,4 @@
 pub mod Turns
 pub mod Machine
 pub mod Calls
+pub mod Answers

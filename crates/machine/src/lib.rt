@@ -1,1 +1,224 @@
+// The machine of document 01: the fresh state, the offer of one transaction, and one slot of service. Each call takes the
+// configuration and a state by value and returns its answer with the next state; a refusal returns the state it was handed.
+mod table;
+pub mod turns;
+
+use model::Port;
+use model::Refusal;
+use model::State;
+use model::Tree;
+use model::access::accelerator_at;
+use model::access::admitted_of;
+use model::access::waiting_of;
+use model::rules::both_keep;
+use model::rules::tree_keeps;
+use turns::choose;
+use turns::less_one;
 ghost use mathlib.Core.Path.{_≡_};
+ghost use Prim.Native.Nat.{_<_, _≤_};
+ghost use Rattle.model.specs.Tree.{waitingOf, admittedOf};
+ghost use Rattle.machine.specs.Machine.{freshState, zeroState, freshened, admit, offered, noneWaits, tick, takeOne, lastSlot, slotted};
+ghost use Rattle.machine.specs.Answers.{freshOutcome, offerOutcome, slotOutcome};
+
+pub enum FreshAnswer {
+    Started,
+    Refused(Refusal),
+}
+
+pub struct FreshReply {
+    pub answer: FreshAnswer,
+    pub state: State,
+}
+
+pub enum OfferAnswer {
+    Admitted,
+    Refused(Refusal),
+}
+
+pub struct OfferReply {
+    pub answer: OfferAnswer,
+    pub state: State,
+}
+
+// What one slot did: nothing waited, or the accelerator of this number was served.
+pub enum SlotAnswer {
+    Idle,
+    Served(u8),
+    Refused(Refusal),
+}
+
+pub struct SlotReply {
+    pub answer: SlotAnswer,
+    pub state: State,
+}
+
+fn zero_state() -> State
+    ensures { λ r. ⌜ r ≡ zeroState ⌝ }
+{
+    State {
+        waiting: [0u8; 32],
+        admitted: [0u16; 32],
+        last: [0u8; 15],
+        allowance: [0u8; 15],
+        slot: 0,
+    }
+}
+
+fn fresh_state(t: Tree) -> State
+    requires { ⌜ t .ints ≤ 15 ⌝ }
+    ensures { λ r. ⌜ r ≡ freshState t ⌝ }
+{
+    let n = t.ints as usize;
+    let mut last = [0u8; 15];
+    let mut j: usize = 0;
+    while j < n {
+        last[j] = 7;
+        j += 1;
+    }
+    State {
+        waiting: [0u8; 32],
+        admitted: [0u16; 32],
+        last: last,
+        allowance: [0u8; 15],
+        slot: 0,
+    }
+}
+
+// The starting state of a configuration that keeps its rules; else refusal 11, with a state of zeros.
+pub fn fresh(t: Tree) -> FreshReply
+    ensures { λ r. ⌜ freshOutcome r ≡ freshened t ⌝ }
+{
+    if !tree_keeps(t) {
+        let zeros = zero_state();
+        return FreshReply {
+            answer: FreshAnswer::Refused(Refusal::Rules),
+            state: zeros,
+        };
+    }
+    let state = fresh_state(t);
+    FreshReply {
+        answer: FreshAnswer::Started,
+        state: state,
+    }
+}
+
+// One more transaction of accelerator a waits and counts against its budget.
+fn admitting(s: State, a: u8) -> State
+    requires { ⌜ (waitingOf s a < 255) × (admittedOf s a < 65535) ⌝ }
+    ensures { λ r. ⌜ r ≡ admit s a ⌝ }
+{
+    let i = a as usize;
+    let mut next = s;
+    if i < 32 {
+        next.waiting[i] = s.waiting[i] + 1;
+        next.admitted[i] = s.admitted[i] + 1;
+    }
+    next
+}
+
+// The offer of one transaction of accelerator a.
+pub fn offer(t: Tree, s: State, a: u8) -> OfferReply
+    ensures { λ r. ⌜ offerOutcome r ≡ offered t s a ⌝ }
+{
+    if !both_keep(t, s) {
+        return OfferReply {
+            answer: OfferAnswer::Refused(Refusal::Rules),
+            state: s,
+        };
+    }
+    if t.accs <= a {
+        return OfferReply {
+            answer: OfferAnswer::Refused(Refusal::Unknown),
+            state: s,
+        };
+    }
+    let x = accelerator_at(t, a);
+    if x.phi <= waiting_of(s, a) {
+        return OfferReply {
+            answer: OfferAnswer::Refused(Refusal::Outstanding),
+            state: s,
+        };
+    }
+    if x.budget <= admitted_of(s, a) {
+        return OfferReply {
+            answer: OfferAnswer::Refused(Refusal::Budget),
+            state: s,
+        };
+    }
+    let next = admitting(s, a);
+    OfferReply {
+        answer: OfferAnswer::Admitted,
+        state: next,
+    }
+}
+
+fn none_waits(s: State) -> bool
+    ensures { λ r. ⌜ r ≡ noneWaits s ⌝ }
+{
+    let mut ok = true;
+    let mut a: u8 = 0;
+    while a < 32 {
+        ok = ok & (waiting_of(s, a) == 0);
+        a += 1;
+    }
+    ok
+}
+
+// The slot count rises by one, and where that opens a new window the admitted counts return to 0.
+fn ticked(t: Tree, s: State) -> State
+    requires { ⌜ (0 < t .bus .window) × (s .slot < lastSlot) ⌝ }
+    ensures { λ r. ⌜ r ≡ tick t s ⌝ }
+{
+    let mut next = s;
+    let window = t.bus.window as u32;
+    let slot = s.slot;
+    next.slot = slot + 1;
+    if (slot + 1) / window != slot / window {
+        next.admitted = [0u16; 32];
+    }
+    next
+}
+
+fn take_one(s: State, a: u8) -> State
+    ensures { λ r. ⌜ r ≡ takeOne s a ⌝ }
+{
+    let i = a as usize;
+    let mut next = s;
+    if i < 32 {
+        next.waiting[i] = less_one(s.waiting[i]);
+    }
+    next
+}
+
+// One slot: serves the transaction whose turn it is, or is idle if none waits.
+pub fn slot(t: Tree, s: State) -> SlotReply
+    ensures { λ r. ⌜ slotOutcome r ≡ slotted t s ⌝ }
+{
+    if !both_keep(t, s) {
+        return SlotReply {
+            answer: SlotAnswer::Refused(Refusal::Rules),
+            state: s,
+        };
+    }
+    if s.slot == 4294967295 {
+        return SlotReply {
+            answer: SlotAnswer::Refused(Refusal::LastSlot),
+            state: s,
+        };
+    }
+    if none_waits(s) {
+        let next = ticked(t, s);
+        return SlotReply {
+            answer: SlotAnswer::Idle,
+            state: next,
+        };
+    }
+    let c = choose(t, s, 4, Port::Int(0));
+    let a = c.served;
+    let turned = c.state;
+    let next = ticked(t, take_one(turned, a));
+    SlotReply {
+        answer: SlotAnswer::Served(a),
+        state: next,
+    }
+}

@@ -1,0 +1,96 @@
+-- What an offer and a slot do, by cases: the tests of their definitions, in order, read as what they test.
+use Prim.Native.Nat.{ℕ, _≤_, _<_}
+use mathlib.Core.Bool.{Bool, true, false, not}
+use mathlib.Core.Path.{_≡_, refl}
+use native.Mathlib.Decide.{decLt}
+use native.Mathlib.Omega.{arith}
+use lib.Dec.{leb, eqb}
+use borrow.Author.Tests.{leb-true, leb-false, eqb-true, eqb-false, eq-eqb, not-true, not-false}
+use Rattle.model.specs.declared.Tree.{Tree}
+use Rattle.model.specs.declared.State.{State}
+use Rattle.model.specs.Fold.{pick}
+use Rattle.model.specs.Tree.{limitOf, budgetOf, waitingOf, admittedOf}
+use Rattle.model.specs.Beneath.{inside}
+use Rattle.model.specs.Rules.{treeKeeps, stateKeeps, keeps}
+use Rattle.model.proofs.Folds.{both, joined, all-at, at-all}
+use Rattle.model.proofs.Sound.{Sound, sound, Kept, kept, keeping}
+use Rattle.model.proofs.Beneath.{root-zero}
+use Rattle.machine.specs.Machine.{admitted, served, idle, refused, Outcome, outcome, admit, offered, noneWaits, lastSlot, tick, chosen, serve, slotted}
+
+pub sound-of : (t : Tree) (s : State) → keeps t s ≡ true → Sound t
+sound-of t s e = sound t (both (treeKeeps t) (stateKeeps t s) e .0)
+
+pub kept-of : (t : Tree) (s : State) → keeps t s ≡ true → Kept t s
+kept-of t s e = kept t s (sound-of t s e) (both (treeKeeps t) (stateKeeps t s) e .1)
+
+-- another state of the same tree keeps its rules
+pub keeps-of : (t : Tree) (s r : State) → keeps t s ≡ true → Kept t r → keeps t r ≡ true
+keeps-of t s r e k = joined (treeKeeps t) (stateKeeps t r) (both (treeKeeps t) (stateKeeps t s) e .0) (keeping t r k)
+
+-- a choice on a test, by its two cases
+cases : {A : Type 0} (P : A → Type 0) (c : Bool) (x y : A) → (c ≡ true → P x) → (c ≡ false → P y) → P (pick c x y)
+cases P true x y f g = f refl
+cases P false x y f g = g refl
+
+-- why an offer is refused by its number
+pub data Refuses (t : Tree) (s : State) (a : ℕ) : ℕ → Type 0 where
+  broken : keeps t s ≡ false → Refuses t s a 11
+  unknown : t .accs ≤ a → Refuses t s a 7
+  outstanding : a < t .accs → limitOf t a ≤ waitingOf s a → Refuses t s a 8
+  spent : a < t .accs → budgetOf t a ≤ admittedOf s a → Refuses t s a 9
+
+pub data Offered (t : Tree) (s : State) (a : ℕ) : Outcome → Type 0 where
+  refuses : {n : ℕ} → Refuses t s a n → Offered t s a (outcome (refused n) s)
+  admits : a < t .accs → waitingOf s a < limitOf t a → admittedOf s a < budgetOf t a
+      → Offered t s a (outcome admitted (admit s a))
+
+pub offer-cases : (t : Tree) (s : State) (a : ℕ) → Offered t s a (offered t s a)
+unfolding offered
+offer-cases t s a =
+    let P = Offered t s a in
+    cases P (not (keeps t s)) _ _ (λ e. refuses (Refuses.broken (not-true (keeps t s) e))) (λ _.
+    cases P (leb (t .accs) a) _ _ (λ e. refuses (unknown (leb-true _ _ e))) (λ e.
+    let la = leb-false (t .accs) a e in
+    cases P (leb (limitOf t a) (waitingOf s a)) _ _ (λ f. refuses (outstanding la (leb-true _ _ f))) (λ f.
+    cases P (leb (budgetOf t a) (admittedOf s a)) _ _ (λ g. refuses (spent la (leb-true _ _ g))) (λ g.
+    admits la (leb-false _ _ f) (leb-false _ _ g)))))
+
+-- why a slot is refused by its number
+pub data Stops (t : Tree) (s : State) : ℕ → Type 0 where
+  broken : keeps t s ≡ false → Stops t s 11
+  stopped : s .slot ≡ lastSlot → Stops t s 10
+
+pub data Slotted (t : Tree) (s : State) : Outcome → Type 0 where
+  stops : {n : ℕ} → Stops t s n → Slotted t s (outcome (refused n) s)
+  idles : keeps t s ≡ true → (s .slot ≡ lastSlot → ⊥) → ((a : ℕ) → waitingOf s a ≡ 0)
+      → Slotted t s (outcome idle (tick t s))
+  serves : keeps t s ≡ true → (s .slot ≡ lastSlot → ⊥) → 0 < inside 4 t (waitingOf s) 0
+      → Slotted t s (outcome (served (chosen t s)) (tick t (serve t s)))
+
+-- nothing waits for an unused record
+pub zero-all : (t : Tree) (s : State) → Kept t s → ((a : ℕ) → a < t .accs → waitingOf s a ≡ 0) → (a : ℕ)
+    → waitingOf s a ≡ 0
+zero-all t s k h a = elim (decLt a (t .accs)) [ yes l ↦ h a l | no d ↦ k .no-waiting a (omega arith) ]
+
+none-waits : (t : Tree) (s : State) → keeps t s ≡ true → noneWaits s ≡ true → (a : ℕ) → waitingOf s a ≡ 0
+none-waits t s k e =
+    zero-all t s (kept-of t s k) (λ a l. eqb-true _ _ (all-at 32 _ e a (omega (arith, sound-of t s k .most-accs))))
+
+some-waits : (t : Tree) (s : State) → keeps t s ≡ true → noneWaits s ≡ false → 0 < inside 4 t (waitingOf s) 0
+some-waits t s k e = elim (decLt 0 (inside 4 t (waitingOf s) 0)) [
+  | yes h ↦ h
+  | no d ↦
+      let z = zero-all t s (kept-of t s k) (root-zero t (sound-of t s k) (waitingOf s) .0 (omega arith)) in
+      let f : noneWaits s ≡ true = at-all 32 _ (λ a l. eq-eqb _ _ (z a)) in
+      let y : _≡_ {A = ℕ} 0 1 = cc in absurd (omega arith)
+]
+
+pub slot-cases : (t : Tree) (s : State) → Slotted t s (slotted t s)
+unfolding slotted
+slot-cases t s =
+    let P = Slotted t s in
+    cases P (not (keeps t s)) _ _ (λ e. stops (Stops.broken (not-true (keeps t s) e))) (λ k′.
+    let k = not-false (keeps t s) k′ in
+    cases P (eqb (s .slot) lastSlot) _ _ (λ e. stops (stopped (eqb-true _ _ e))) (λ e.
+    let d = eqb-false (s .slot) lastSlot e in
+    cases P (noneWaits s) _ _ (λ f. idles k d (none-waits t s k f)) (λ f. serves k d (some-waits t s k f))))

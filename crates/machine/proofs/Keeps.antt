@@ -1,0 +1,210 @@
+-- The fresh state, an admission, a service and a tick keep the rules of a state. An admission adds one beneath the path
+-- of its accelerator and a service takes one off there, and the service takes one off each allowance of that path too.
+use Prim.Native.Nat.{ℕ, _+_, _-_, _≤_, _<_}
+use mathlib.Core.Bool.{Bool, true, false, not}
+use mathlib.Core.List.{List}
+use mathlib.Core.Path.{_≡_, refl, sym, _∙_, ap, subst, fun-ext}
+use native.Mathlib.Decide.{decLt, ℕ-discrete}
+use native.Mathlib.Omega.{arith}
+use lib.ListN.{getD, length, set, replicate, length-set, length-append, length-replicate, getD-replicate, List·getD-append, List·getD-eq-default}
+use lib.Seq.{getD-set-same, getD-set-other, getD-append-add}
+use Rattle.model.specs.declared.Tree.{Tree}
+use Rattle.model.specs.declared.State.{State}
+use Rattle.model.specs.Fold.{pick}
+use Rattle.model.specs.Tree.{granularityOf, limitOf, budgetOf, path, waitingOf, admittedOf, lastOf, allowanceOf, portOf}
+use Rattle.model.specs.Beneath.{weightUnder, waitsUnder}
+use Rattle.model.proofs.Sound.{Sound, Kept}
+use Rattle.model.proofs.Beneath.{On, on?, only, only-same, only-other, under-sum, weight-on, weight-off, path-bounds}
+use Rattle.machine.specs.Turns.{turnPort}
+use Rattle.machine.specs.Machine.{freshState, admit, opens, tick, takeOne}
+use Rattle.machine.proofs.Choice.{Turned, Unturned, Choice}
+
+-- a count stored at place a: what relates it to the count before, by one there and by nothing elsewhere
+stored : (Q : ℕ → ℕ → ℕ → Type 0) (l : List ℕ) (a x : ℕ) → a < length l → Q x (getD l a 0) 1 → ((y : ℕ) → Q y y 0)
+    → (b : ℕ) → Q (getD (set l a x) b 0) (getD l b 0) (only a b)
+stored Q l a x h own other b = elim (ℕ-discrete a b) [
+  | yes e ↦ subst (λ i. Q (getD (set l a x) i 0) (getD l i 0) (only a i)) e
+      (rw (getD-set-same l a x 0 h, only-same a a refl) own)
+  | no d ↦ rw (getD-set-other l a b x 0 (λ e. d (sym e)), only-other a b d) (other (getD l b 0))
+]
+
+pub zeros : (n i : ℕ) → _≡_ {A = ℕ} (getD (replicate n 0) i 0) 0
+zeros n i = elim (decLt i n) [
+  | yes l ↦ getD-replicate n i 0 0 l
+  | no d ↦ List·getD-eq-default (replicate n 0) 0 (omega (arith, length-replicate {A = ℕ} n 0))
+]
+
+-- one more is within a limit that was not reached
+bump : (f g : ℕ → ℕ) (a b : ℕ) → f a < g a → f b ≤ g b → f b + only a b ≤ g b
+bump f g a b h l = elim (ℕ-discrete a b) [
+  | yes e ↦ let h′ : f b < g b = subst (λ x. f x < g x) e h in omega (arith, only-same a b e)
+  | no d ↦ omega (arith, only-other a b d)
+]
+
+module _ (t : Tree) (S : Sound t) where
+  fresh-last : (j : ℕ) → j < t .ints → lastOf (freshState t) j ≡ 7
+  fresh-last j l = List·getD-append (replicate (t .ints) 7) _ 0 j (omega (arith, length-replicate {A = ℕ} (t .ints) 7))
+      ∙ getD-replicate (t .ints) j 7 0 l
+
+  fresh-unused : (j : ℕ) → t .ints ≤ j → lastOf (freshState t) j ≡ 0
+  fresh-unused j l = ap (lastOf (freshState t)) past
+      ∙ getD-append-add (replicate (t .ints) 7) (replicate (15 - t .ints) 0) (j - t .ints) 0
+      ∙ zeros (15 - t .ints) (j - t .ints)
+    where
+      past : j ≡ length (replicate {A = ℕ} (t .ints) 7) + (j - t .ints)
+      past = omega (arith, length-replicate {A = ℕ} (t .ints) 7)
+
+  pub fresh-kept : Kept t (freshState t)
+  fresh-kept = record {
+    waiting-size = refl;
+    admitted-size = refl;
+    last-size = simp (length-append, length-replicate) (omega (arith, S .most-ints));
+    allowance-size = refl;
+    waiting = λ a l. omega (arith, zeros 32 a);
+    admitted = λ a l. omega (arith, zeros 32 a);
+    no-waiting = λ a l. zeros 32 a;
+    no-admitted = λ a l. zeros 32 a;
+    last = λ j l. omega (arith, fresh-last j l);
+    allowance = λ j l. omega (arith, zeros 15 j);
+    allowance-waits = λ j l. omega (arith, zeros 15 j);
+    no-last = fresh-unused;
+    no-allowance = λ j l. zeros 15 j;
+  }
+
+  module _ (s : State) (K : Kept t s) where
+    recount : (m : List ℕ) → length m ≡ 32 → ((a : ℕ) → a < t .accs → getD m a 0 ≤ budgetOf t a)
+        → ((a : ℕ) → t .accs ≤ a → getD m a 0 ≡ 0)
+        → Kept t (record {
+          waiting = s .waiting;
+          admitted = m;
+          last = s .last;
+          allowance = s .allowance;
+          slot = s .slot + 1;
+        })
+    recount m e h z = record {
+      waiting-size = K .waiting-size;
+      admitted-size = e;
+      last-size = K .last-size;
+      allowance-size = K .allowance-size;
+      waiting = K .waiting;
+      admitted = h;
+      no-waiting = K .no-waiting;
+      no-admitted = z;
+      last = K .last;
+      allowance = K .allowance;
+      allowance-waits = K .allowance-waits;
+      no-last = K .no-last;
+      no-allowance = K .no-allowance;
+    }
+
+    pub tick-kept : Kept t (tick t s)
+    unfolding tick
+    tick-kept = go (opens t (s .slot))
+      where
+        go : (c : Bool) → Kept t
+            (record {
+              waiting = s .waiting;
+              admitted = pick c (replicate 32 0) (s .admitted);
+              last = s .last;
+              allowance = s .allowance;
+              slot = s .slot + 1;
+            })
+        go true = recount (replicate 32 0) refl (λ a l. omega (arith, zeros 32 a)) (λ a l. zeros 32 a)
+        go false = recount (s .admitted) (K .admitted-size) (K .admitted) (K .no-admitted)
+
+    module _ (a : ℕ) (la : a < t .accs) where
+      pub admit-waiting : (b : ℕ) → waitingOf (admit s a) b ≡ waitingOf s b + only a b
+      admit-waiting = stored (λ new old n. new ≡ old + n) (s .waiting) a _
+          (omega (arith, S .most-accs, K .waiting-size)) refl (λ y. omega arith)
+
+      pub admit-admitted : (b : ℕ) → admittedOf (admit s a) b ≡ admittedOf s b + only a b
+      admit-admitted = stored (λ new old n. new ≡ old + n) (s .admitted) a _
+          (omega (arith, S .most-accs, K .admitted-size)) refl (λ y. omega arith)
+
+      admit-waits : (j p : ℕ) → waitsUnder t s j p ≤ waitsUnder t (admit s a) j p
+      admit-waits j p = omega (
+        arith,
+        under-sum 3 t (waitingOf s) (only a) (portOf t j p),
+        ap (λ w. weightUnder t w j p) (fun-ext admit-waiting),
+      )
+
+      pub admit-kept : waitingOf s a < limitOf t a → admittedOf s a < budgetOf t a → Kept t (admit s a)
+      admit-kept h m = record {
+        waiting-size = length-set (s .waiting) _ _ ∙ K .waiting-size;
+        admitted-size = length-set (s .admitted) _ _ ∙ K .admitted-size;
+        last-size = K .last-size;
+        allowance-size = K .allowance-size;
+        waiting = λ b l. omega (arith, admit-waiting b, bump (waitingOf s) (limitOf t) a b h (K .waiting b l));
+        admitted = λ b l. omega (arith, admit-admitted b, bump (admittedOf s) (budgetOf t) a b m (K .admitted b l));
+        no-waiting = λ b l. omega (arith, admit-waiting b, K .no-waiting b l, only-other a b (omega arith));
+        no-admitted = λ b l. omega (arith, admit-admitted b, K .no-admitted b l, only-other a b (omega arith));
+        last = K .last;
+        allowance = K .allowance;
+        allowance-waits = λ j l. omega (arith, K .allowance-waits j l, admit-waits j (lastOf s j));
+        no-last = K .no-last;
+        no-allowance = K .no-allowance;
+      }
+
+    module _ (a : ℕ) (r : State) (C : Choice t s a r) where
+      same-waiting : (b : ℕ) → waitingOf r b ≡ waitingOf s b
+      same-waiting b = ap (λ l. getD l b 0) (C .frame .waiting)
+
+      same-admitted : (b : ℕ) → admittedOf r b ≡ admittedOf s b
+      same-admitted b = ap (λ l. getD l b 0) (C .frame .admitted)
+
+      pub take-waiting : (b : ℕ) → waitingOf s b ≡ waitingOf (takeOne r a) b + only a b
+      take-waiting b = sym (same-waiting b)
+          ∙ stored (λ new old n. old ≡ new + n) (r .waiting) a (waitingOf r a - 1)
+          (omega (arith, C .acc, S .most-accs, K .waiting-size, ap length (C .frame .waiting)))
+          (omega (arith, C .waits, same-waiting a)) (λ y. omega arith) b
+
+      took : (j p : ℕ) → waitsUnder t s j p ≡ weightUnder t (λ b. waitingOf (takeOne r a) b + only a b) j p
+      took j p = ap (λ w. weightUnder t w j p) (fun-ext take-waiting)
+
+      by-turn : (Q : Type 0) (j : ℕ) → (On j (turnPort t s j) (path t a) → Turned t s r j (turnPort t s j) → Q)
+          → ((On j (turnPort t s j) (path t a) → ⊥) → Unturned s r j → Q) → Q
+      by-turn Q j f g = elim (on? j (turnPort t s j) (path t a)) [ yes o ↦ f o (C .on j _ o) | no d ↦ g d (C .off j d) ]
+
+      outside : (j : ℕ) → t .ints ≤ j → Unturned s r j
+      outside j l = C .off j (λ o. omega (arith, path-bounds t S a (C .acc) j _ o))
+
+      take-allowance-waits : (j : ℕ) → j < t .ints → allowanceOf r j ≤ waitsUnder t (takeOne r a) j (lastOf r j)
+      take-allowance-waits j l = by-turn (allowanceOf r j ≤ waitsUnder t (takeOne r a) j (lastOf r j)) j
+          (λ o u. subst (λ p. allowanceOf r j ≤ waitsUnder t (takeOne r a) j p) (sym (u .last))
+          (omega (
+            arith,
+            u .allowance,
+            u .turn .covered,
+            u .turn .some,
+            took j (turnPort t s j),
+            weight-on t S a (C .acc) (waitingOf (takeOne r a)) j (turnPort t s j) o,
+          )))
+          (λ d u. subst (λ p. allowanceOf r j ≤ waitsUnder t (takeOne r a) j p) (sym (u .last))
+          (omega (
+            arith,
+            u .allowance,
+            K .allowance-waits j l,
+            took j (lastOf s j),
+            weight-off t S a (C .acc) (waitingOf (takeOne r a)) j (lastOf s j) l (K .last j l)
+                (λ o. d (subst (λ p. On j p (path t a)) (C .on j (lastOf s j) o .port) o)),
+          )))
+
+      pub take-kept : Kept t (takeOne r a)
+      take-kept = record {
+        waiting-size = length-set (r .waiting) _ _ ∙ ap length (C .frame .waiting) ∙ K .waiting-size;
+        admitted-size = ap length (C .frame .admitted) ∙ K .admitted-size;
+        last-size = C .frame .last-size ∙ K .last-size;
+        allowance-size = C .frame .allowance-size ∙ K .allowance-size;
+        waiting = λ b l. omega (arith, take-waiting b, K .waiting b l);
+        admitted = λ b l. omega (arith, same-admitted b, K .admitted b l);
+        no-waiting = λ b l. omega (arith, take-waiting b, K .no-waiting b l);
+        no-admitted = λ b l. omega (arith, same-admitted b, K .no-admitted b l);
+        last = λ j l. by-turn (lastOf r j < 8) j (λ o u. omega (arith, u .last, u .turn .port))
+            (λ d u. omega (arith, u .last, K .last j l));
+        allowance = λ j l. by-turn (allowanceOf r j ≤ granularityOf t j) j
+            (λ o u. omega (arith, u .allowance, u .turn .granted))
+            (λ d u. omega (arith, u .allowance, K .allowance j l));
+        allowance-waits = take-allowance-waits;
+        no-last = λ j l. outside j l .last ∙ K .no-last j l;
+        no-allowance = λ j l. outside j l .allowance ∙ K .no-allowance j l;
+      }

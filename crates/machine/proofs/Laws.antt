@@ -1,0 +1,281 @@
+-- The laws of the machine. Each follows from what the call does, by its cases.
+use Prim.Native.Nat.{ℕ, _+_, _%_, _≤_, _<_, min}
+use mathlib.Core.Bool.{Bool, true, false, not}
+use mathlib.Core.Logic.{_↔_}
+use mathlib.Core.Path.{_≡_, refl, sym, _∙_, ap, ap₂, subst}
+use native.Mathlib.Omega.{arith}
+use lib.ListN.{getD}
+use lib.Seq.{getD-set-other}
+use lib.Dec.{leb}
+use borrow.Author.Tests.{eq-eqb, ne-eqb}
+use Rattle.model.specs.declared.Tree.{Tree}
+use Rattle.model.specs.declared.State.{State}
+use Rattle.model.specs.Fold.{pick}
+use Rattle.model.specs.Tree.{granularityOf, limitOf, budgetOf, windowOf, path, waitingOf, admittedOf, lastOf, allowanceOf}
+use Rattle.model.specs.Beneath.{waitsUnder}
+use Rattle.model.specs.Rules.{treeKeeps, keeps}
+use Rattle.model.proofs.Folds.{joined, picked, passed}
+use Rattle.model.proofs.Sound.{Sound, sound, Kept, keeping}
+use Rattle.model.proofs.Beneath.{On, only, only-same, only-other, root-zero}
+use Rattle.machine.specs.Turns.{turnPort, after}
+use Rattle.machine.specs.Machine.{Answer, admitted, served, idle, refused, Outcome, outcome, freshState, admit, offered, opens, lastSlot, tick, chosen, takeOne, slotted}
+use Rattle.machine.proofs.Choice.{Turned, Unturned, Choice, choice}
+use Rattle.machine.proofs.Cases.{sound-of, kept-of, keeps-of, Offered, refuses, admits, offer-cases, Stops, stopped, Slotted, stops, idles, serves, slot-cases}
+use Rattle.machine.proofs.Keeps.{zeros, fresh-kept, tick-kept, admit-waiting, admit-admitted, admit-kept, take-waiting, take-kept}
+use Rattle.machine.proofs.Windows.{window-opens}
+
+pub fresh-keeps : (t : Tree) → treeKeeps t ≡ true → keeps t (freshState t) ≡ true
+fresh-keeps t e = joined (treeKeeps t) _ e (keeping t (freshState t) (fresh-kept t (sound t e)))
+
+pub allowance-bounded : (t : Tree) (s : State) → keeps t s ≡ true → (j : ℕ) → j < t .ints
+    → allowanceOf s j ≤ min (granularityOf t j) (waitsUnder t s j (lastOf s j))
+allowance-bounded t s e j l = omega (arith, kept-of t s e .allowance j l, kept-of t s e .allowance-waits j l)
+
+module _ (t : Tree) (s : State) (a : ℕ) where
+  pub offer-keeps : keeps t s ≡ true → keeps t (offered t s a .state) ≡ true
+  offer-keeps e = go (offered t s a) (offer-cases t s a)
+    where
+      go : (o : Outcome) → Offered t s a o → keeps t (o .state) ≡ true
+      go o (refuses w) = e
+      go o (admits l h m) = keeps-of t s (admit s a) e (admit-kept t (sound-of t s e) s (kept-of t s e) a l h m)
+
+  pub offer-refused : (n : ℕ) → offered t s a .answer ≡ refused n → offered t s a .state ≡ s
+  offer-refused n = go (offered t s a) (offer-cases t s a)
+    where
+      go : (o : Outcome) → Offered t s a o → o .answer ≡ refused n → o .state ≡ s
+      go o (refuses w) e = refl
+      go o (admits l h m) e = let z : _≡_ {A = ℕ} 0 1 = cc in absurd (omega arith)
+
+  -- an admission counts one more waiting and one more admitted, for its own accelerator
+  pub offer-admits : keeps t s ≡ true → offered t s a .answer ≡ admitted
+      → (waitingOf (offered t s a .state) a ≡ waitingOf s a + 1)
+      × (admittedOf (offered t s a .state) a ≡ admittedOf s a + 1)
+  offer-admits k = go (offered t s a) (offer-cases t s a)
+    where
+      go : (o : Outcome) → Offered t s a o → o .answer ≡ admitted
+          → (waitingOf (o .state) a ≡ waitingOf s a + 1) × (admittedOf (o .state) a ≡ admittedOf s a + 1)
+      go o (refuses w) e = let z : _≡_ {A = ℕ} 0 1 = cc in absurd (omega arith)
+      go o (admits l h m) e =
+          let S = sound-of t s k in
+          let K = kept-of t s k in (
+            omega (arith, admit-waiting t S s K a l a, only-same a a refl),
+            omega (arith, admit-admitted t S s K a l a, only-same a a refl),
+          )
+
+-- what an offer leaves as it was
+pub record Others (s r : State) (a : ℕ) : Type 0 where
+  pub waiting : (b : ℕ) → (b ≡ a → ⊥) → waitingOf r b ≡ waitingOf s b
+  pub admitted : (b : ℕ) → (b ≡ a → ⊥) → admittedOf r b ≡ admittedOf s b
+  pub last : r .last ≡ s .last
+  pub allowance : r .allowance ≡ s .allowance
+  pub slot : r .slot ≡ s .slot
+
+pub offer-others : (t : Tree) (s : State) (a : ℕ) → Others s (offered t s a .state) a
+offer-others t s a = go (offered t s a) (offer-cases t s a)
+  where
+    go : (o : Outcome) → Offered t s a o → Others s (o .state) a
+    go o (refuses w) = record {
+      waiting = λ b d. refl;
+      admitted = λ b d. refl;
+      last = refl;
+      allowance = refl;
+      slot = refl;
+    }
+    go o (admits l h m) = record {
+      waiting = λ b d. getD-set-other (s .waiting) a b _ 0 d;
+      admitted = λ b d. getD-set-other (s .admitted) a b _ 0 d;
+      last = refl;
+      allowance = refl;
+      slot = refl;
+    }
+
+verdict : Bool → Bool → Bool → Answer
+verdict c d e = pick c (refused 7) (pick d (refused 8) (pick e (refused 9) admitted))
+
+says : (s r : State) (c d e : Bool)
+    → pick c (outcome (refused 7) s)
+    (pick d (outcome (refused 8) s) (pick e (outcome (refused 9) s) (outcome admitted r))) .answer ≡ verdict c d e
+unfolding verdict
+says s r true d e = refl
+says s r false true e = refl
+says s r false false true = refl
+says s r false false false = refl
+
+offer-answer : (t : Tree) (s : State) (a : ℕ) → keeps t s ≡ true
+    → offered t s a .answer ≡ verdict (leb (t .accs) a) (leb (limitOf t a) (waitingOf s a))
+    (leb (budgetOf t a) (admittedOf s a))
+unfolding offered
+offer-answer t s a k =
+    ap Outcome·answer (passed _ _ _ (ap not k))
+    ∙ says s (admit s a) (leb (t .accs) a) (leb (limitOf t a) (waitingOf s a)) (leb (budgetOf t a) (admittedOf s a))
+  where
+    Outcome·answer : Outcome → Answer
+    Outcome·answer o = o .answer
+
+-- the answer depends on the accelerator's own limits and record alone
+pub offer-own : (t : Tree) (s r : State) (a : ℕ) → keeps t s ≡ true → keeps t r ≡ true → waitingOf s a ≡ waitingOf r a
+    → admittedOf s a ≡ admittedOf r a
+    → offered t s a .answer ≡ offered t r a .answer
+offer-own t s r a k l e f =
+    offer-answer t s a k ∙ ap₂ (λ w m. verdict (leb (t .accs) a) (leb (limitOf t a) w) (leb (budgetOf t a) m)) e f
+    ∙ sym (offer-answer t r a l)
+
+-- a slot that served a: one of a's that waited waits no more, and nobody else's
+pub record Served (t : Tree) (s : State) (a : ℕ) (r : State) : Type 0 where
+  pub acc : a < t .accs
+  pub waited : 0 < waitingOf s a
+  pub own : waitingOf r a + 1 ≡ waitingOf s a
+  pub others : (b : ℕ) → (b ≡ a → ⊥) → waitingOf r b ≡ waitingOf s b
+
+-- the slot count rises by one, and where that opens a window all admitted counts become 0
+pub record Ticked (t : Tree) (s r : State) : Type 0 where
+  pub slot : r .slot ≡ s .slot + 1
+  pub opened : (windowOf t (s .slot + 1) ≡ windowOf t (s .slot) → ⊥) → (a : ℕ) → admittedOf r a ≡ 0
+  pub within : windowOf t (s .slot + 1) ≡ windowOf t (s .slot) → r .admitted ≡ s .admitted
+
+ticked : (t : Tree) (s q : State) → q .slot ≡ s .slot → q .admitted ≡ s .admitted → Ticked t s (tick t q)
+unfolding tick
+ticked t s q e f = record {
+  slot = ap (λ n. n + 1) e;
+  opened = λ d a. ap (λ m. getD m a 0) (picked _ _ _ (subst (λ n. opens t n ≡ true) (sym e) (ap not (ne-eqb _ _ d))))
+      ∙ zeros 32 a;
+  within = λ w. passed _ _ _ (subst (λ n. opens t n ≡ false) (sym e) (ap not (eq-eqb _ _ w))) ∙ f;
+}
+
+module _ (t : Tree) (s : State) where
+  pub slot-keeps : keeps t s ≡ true → keeps t (slotted t s .state) ≡ true
+  slot-keeps e = go (slotted t s) (slot-cases t s)
+    where
+      S : Sound t
+      S = sound-of t s e
+
+      K : Kept t s
+      K = kept-of t s e
+
+      go : (o : Outcome) → Slotted t s o → keeps t (o .state) ≡ true
+      go o (stops w) = e
+      go o (idles k d z) = keeps-of t s (tick t s) e (tick-kept t S s K)
+      go o (serves k d w) = keeps-of t s _ e (tick-kept t S _ (take-kept t S s K _ _ (choice t S s K w)))
+
+  pub slot-refused : (n : ℕ) → slotted t s .answer ≡ refused n → slotted t s .state ≡ s
+  slot-refused n = go (slotted t s) (slot-cases t s)
+    where
+      go : (o : Outcome) → Slotted t s o → o .answer ≡ refused n → o .state ≡ s
+      go o (stops w) e = refl
+      go o (idles k d z) e = let y : _≡_ {A = ℕ} 0 1 = cc in absurd (omega arith)
+      go o (serves k d w) e = let y : _≡_ {A = ℕ} 0 1 = cc in absurd (omega arith)
+
+  pub slot-only-last : keeps t s ≡ true → (n : ℕ) → slotted t s .answer ≡ refused n → (n ≡ 10) × (s .slot ≡ lastSlot)
+  slot-only-last k n = go (slotted t s) (slot-cases t s)
+    where
+      why : {m : ℕ} → Stops t s m → (m ≡ 10) × (s .slot ≡ lastSlot)
+      why (Stops.broken f) = let y : _≡_ {A = ℕ} 0 1 = cc in absurd (omega arith)
+      why (stopped h) = (refl, h)
+
+      go : (o : Outcome) → Slotted t s o → o .answer ≡ refused n → (n ≡ 10) × (s .slot ≡ lastSlot)
+      go o (stops {n = m} w) e = let q : m ≡ n = cc in subst (λ x. (x ≡ 10) × (s .slot ≡ lastSlot)) q (why w)
+      go o (idles k d z) e = let y : _≡_ {A = ℕ} 0 1 = cc in absurd (omega arith)
+      go o (serves k d w) e = let y : _≡_ {A = ℕ} 0 1 = cc in absurd (omega arith)
+
+  -- a slot is idle exactly if nothing waits
+  pub slot-idle : keeps t s ≡ true → (s .slot ≡ lastSlot → ⊥)
+      → (slotted t s .answer ≡ idle) ↔ ((a : ℕ) → a < t .accs → waitingOf s a ≡ 0)
+  slot-idle k d = go (slotted t s) (slot-cases t s)
+    where
+      stay : {n : ℕ} → Stops t s n → ⊥
+      stay (Stops.broken f) = let y : _≡_ {A = ℕ} 0 1 = cc in omega arith
+      stay (stopped h) = d h
+
+      go : (o : Outcome) → Slotted t s o → (o .answer ≡ idle) ↔ ((a : ℕ) → a < t .accs → waitingOf s a ≡ 0)
+      go o (stops w) = absurd (stay w)
+      go o (idles k d z) = (λ e a l. z a, λ h. refl)
+      go o (serves k d w) = (
+        λ e. let y : _≡_ {A = ℕ} 0 1 = cc in absurd (omega arith),
+        λ h. absurd (omega (arith, root-zero t (sound-of t s k) (waitingOf s) .1 h)),
+      )
+
+  -- a slot that serves a: the choice comes to a, one is taken off, the slot count rises
+  record Service (a : ℕ) (r : State) : Type 0 where
+    turns : State
+    choice : Choice t s a turns
+    state : r ≡ tick t (takeOne turns a)
+
+  service : keeps t s ≡ true → (a : ℕ) → slotted t s .answer ≡ served a → Service a (slotted t s .state)
+  service e a = go (slotted t s) (slot-cases t s)
+    where
+      go : (o : Outcome) → Slotted t s o → o .answer ≡ served a → Service a (o .state)
+      go o (stops w) q = let y : _≡_ {A = ℕ} 0 1 = cc in absurd (omega arith)
+      go o (idles k d z) q = let y : _≡_ {A = ℕ} 0 1 = cc in absurd (omega arith)
+      go o (serves k d w) q =
+          let c : chosen t s ≡ a = cc in
+          subst (λ x. Service x (tick t (takeOne (after 4 t s 0) (chosen t s)))) c
+          (record { turns = after 4 t s 0; choice = choice t (sound-of t s e) s (kept-of t s e) w; state = refl })
+
+  pub slot-serves : keeps t s ≡ true → (a : ℕ) → slotted t s .answer ≡ served a → Served t s a (slotted t s .state)
+  unfolding tick
+  slot-serves e a q = record {
+    acc = v .choice .acc;
+    waited = v .choice .waits;
+    own = omega (arith, left a, only-same a a refl);
+    others = λ b d. omega (arith, left b, only-other a b (λ x. d (sym x)));
+  }
+    where
+      v : Service a (slotted t s .state)
+      v = service e a q
+
+      left : (b : ℕ) → waitingOf s b ≡ waitingOf (slotted t s .state) b + only a b
+      left b = take-waiting t (sound-of t s e) s (kept-of t s e) a (v .turns) (v .choice) b
+          ∙ ap (λ x. waitingOf x b + only a b) (sym (v .state))
+
+  -- the turns of the path are taken, and no other turn changes
+  pub slot-on-path : keeps t s ≡ true → (a : ℕ) → slotted t s .answer ≡ served a → (j p : ℕ) → On j p (path t a)
+      → Turned t s (slotted t s .state) j p
+  unfolding tick
+  slot-on-path e a q j p o =
+      let v = service e a q in
+      let u = v .choice .on j p o in
+      record {
+        turn = u .turn;
+        port = u .port;
+        last = ap (λ x. lastOf x j) (v .state) ∙ u .last;
+        allowance = ap (λ x. allowanceOf x j) (v .state) ∙ u .allowance;
+      }
+
+  pub slot-off-path : keeps t s ≡ true → (a : ℕ) → slotted t s .answer ≡ served a → (j : ℕ)
+      → ((p : ℕ) → On j p (path t a) → ⊥) → Unturned s (slotted t s .state) j
+  unfolding tick
+  slot-off-path e a q j d =
+      let v = service e a q in
+      let u = v .choice .off j (d (turnPort t s j)) in
+      record {
+        last = ap (λ x. lastOf x j) (v .state) ∙ u .last;
+        allowance = ap (λ x. allowanceOf x j) (v .state) ∙ u .allowance;
+      }
+
+  -- an idle slot changes no turn and no queue
+  pub slot-idle-turns : slotted t s .answer ≡ idle
+      → (slotted t s .state .waiting ≡ s .waiting) × (slotted t s .state .last ≡ s .last)
+      × (slotted t s .state .allowance ≡ s .allowance)
+  unfolding tick
+  slot-idle-turns = go (slotted t s) (slot-cases t s)
+    where
+      go : (o : Outcome) → Slotted t s o → o .answer ≡ idle
+          → (o .state .waiting ≡ s .waiting) × (o .state .last ≡ s .last) × (o .state .allowance ≡ s .allowance)
+      go o (stops w) q = let y : _≡_ {A = ℕ} 0 1 = cc in absurd (omega arith)
+      go o (idles k d z) q = (refl, refl, refl)
+      go o (serves k d w) q = let y : _≡_ {A = ℕ} 0 1 = cc in absurd (omega arith)
+
+  pub slot-windows : ((n : ℕ) → slotted t s .answer ≡ refused n → ⊥) → Ticked t s (slotted t s .state)
+  slot-windows = go (slotted t s) (slot-cases t s)
+    where
+      go : (o : Outcome) → Slotted t s o → ((n : ℕ) → o .answer ≡ refused n → ⊥) → Ticked t s (o .state)
+      go o (stops w) f = absurd (f _ refl)
+      go o (idles k d z) f = ticked t s s refl refl
+      go o (serves k d w) f =
+          let c = choice t (sound-of t s k) s (kept-of t s k) w in
+          ticked t s _ (c .frame .slot) (c .frame .admitted)
+
+-- the next slot opens a window exactly if its number is a multiple of the window
+pub slot-opens : (t : Tree) → treeKeeps t ≡ true → (n : ℕ)
+    → (windowOf t (n + 1) ≡ windowOf t n → ⊥) ↔ ((n + 1) % t .bus .window ≡ 0)
+slot-opens t e n = window-opens (t .bus .window) n (sound t e .window)

@@ -1,0 +1,16 @@
+-- `take_one` meets its contract: the store is that of the definition, and none past the end changes anything.
+use borrow.Author.Needs.{needs}
+use Rattle.machine.proofs.Steps.{take-far, take-near}
+use Rattle.machine.proofs.take_one.Statement.{statement}
+use Rattle.machine.proofs.take_one.Tie as tie
+
+returns : tie.Need-returns
+returns c =
+    take-near (c .before .before .before .args .t1) (c .before .before .before .args .a) _ (c .less-one .ensures)
+
+returns-2 : tie.Need-returns-2
+returns-2 c =
+    take-far (c .before .args .t1) (c .before .args .a) (search needs) (search needs)
+
+pub take-one-spec : {M : Type 1} → statement M
+take-one-spec = tie.close (tie.spec (λ c. search needs) (λ c κs. search needs) (λ c. search needs) returns returns-2)
