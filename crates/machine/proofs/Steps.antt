@@ -24,7 +24,7 @@ use Rattle.model.specs.Rules.{treeKeeps, keeps}
 use Rattle.model.proofs.Folds.{picked, passed}
 use Rattle.machine.specs.Turns.{withTurn, bitsBelow, liveSet, nextPort, turnPort, turnAllowance, nobody, reached, who, turned, after}
 use Rattle.machine.proofs.Next.{bits-bound}
-use Rattle.machine.specs.Machine.{outcome, admitted, served, idle, started, refused, zeroState, freshState, freshened, admit, offered, noneWaits, lastSlot, chosen, takeOne, serve, tick, opens, slotted}
+use Rattle.machine.specs.Machine.{outcome, admitted, served, idle, refused, started, notStarted, beginning, zeroState, freshState, freshened, admit, offered, noneWaits, lastSlot, chosen, takeOne, serve, tick, opens, slotted}
 
 pub turn-far : (s : State) (j port allowance : ℕ) → length (s .last) ≡ 15 → length (s .allowance) ≡ 15 → 15 ≤ j → s ≡ withTurn s j port allowance
 turn-far s j port allowance l o h =
@@ -114,11 +114,11 @@ module _ (t : Tree) (s : State) where
 
 -- the start
 module _ (t : Tree) where
-  pub fresh-11 : treeKeeps t ≡ false → outcome (refused 11) zeroState ≡ freshened t
+  pub fresh-11 : treeKeeps t ≡ false → beginning (notStarted 11) zeroState ≡ freshened t
   unfolding freshened
   fresh-11 k = sym (passed _ _ _ k)
 
-  pub fresh-started : treeKeeps t ≡ true → outcome started (freshState t) ≡ freshened t
+  pub fresh-started : treeKeeps t ≡ true → beginning started (freshState t) ≡ freshened t
   unfolding freshened
   fresh-started k = sym (picked _ _ _ k)
 

@@ -14,11 +14,11 @@ use Rattle.machine.specs.declared.OfferReply.{OfferReply}
 use Rattle.machine.specs.declared.SlotAnswer.{SlotAnswer}
 use Rattle.machine.specs.declared.SlotAnswer.the-variants as slot
 use Rattle.machine.specs.declared.SlotReply.{SlotReply}
-use Rattle.machine.specs.Machine.{Answer, Outcome, outcome, admitted, served, idle, started, refused}
+use Rattle.machine.specs.Machine.{Answer, Outcome, outcome, admitted, served, idle, refused, Start, started, notStarted, Beginning, beginning}
 
-abbrev pub freshMeans : FreshAnswer → Answer
+abbrev pub freshMeans : FreshAnswer → Start
 freshMeans fresh.Started = started
-freshMeans (fresh.Refused r) = refused (numberOf r)
+freshMeans (fresh.Refused r) = notStarted (numberOf r)
 
 abbrev pub offerMeans : OfferAnswer → Answer
 offerMeans offer.Admitted = admitted
@@ -29,8 +29,8 @@ slotMeans slot.Idle = idle
 slotMeans (slot.Served a) = served a
 slotMeans (slot.Refused r) = refused (numberOf r)
 
-abbrev pub freshOutcome : FreshReply → Outcome
-freshOutcome r = outcome (freshMeans (r .answer)) (r .state)
+abbrev pub freshOutcome : FreshReply → Beginning
+freshOutcome r = beginning (freshMeans (r .answer)) (r .state)
 
 abbrev pub offerOutcome : OfferReply → Outcome
 offerOutcome r = outcome (offerMeans (r .answer)) (r .state)

@@ -1,11 +1,13 @@
 -- Fresh state, offer and slot (document 01, "What is refused" and "Turns").
 --
--- Answer               what a call answers: an offer is admitted, a slot serves an accelerator or is idle, a call is
---                      refused by a number of document 01's table
+-- Answer               what an offer or a slot answers: an offer is admitted, a slot serves an accelerator or is idle, and
+--                      either is refused by a number of document 01's table
 -- Outcome              a call's answer and the state that it returns
 -- zeroState            the state with nothing in it
 -- freshState t         "At the start nothing waits, all admitted counts and the slot are 0, every allowance is 0 and the
 --                      last port of every interconnect in the tree is 7"
+-- Start                what the start answers: started, or refused by a number
+-- Beginning            the start's answer and the state that it returns
 -- freshened t          the starting state, or 11, and then no state but zeros
 -- admit s a            "waiting and admitted rise by one"
 -- offered t s a        the offer of one transaction: 11, 7, 8, 9 in this order, or admitted
@@ -33,7 +35,6 @@ pub data Answer : Type 0 where
   admitted : Answer
   served : ℕ → Answer
   idle : Answer
-  started : Answer
   refused : ℕ → Answer
 
 pub record Outcome : Type 0 where
@@ -63,8 +64,19 @@ freshState t =
       slot = 0;
     }
 
-unfoldable pub freshened : Tree → Outcome
-freshened t = pick (treeKeeps t) (outcome started (freshState t)) (outcome (refused 11) zeroState)
+pub data Start : Type 0 where
+  started : Start
+  notStarted : ℕ → Start
+
+pub record Beginning : Type 0 where
+  pub answer : Start
+  pub state : State
+
+abbrev pub beginning : Start → State → Beginning
+beginning a s = record { answer = a; state = s }
+
+unfoldable pub freshened : Tree → Beginning
+freshened t = pick (treeKeeps t) (beginning started (freshState t)) (beginning (notStarted 11) zeroState)
 
 abbrev pub admit : State → ℕ → State
 admit s a =
