@@ -1,7 +1,7 @@
 -- The fresh state, an admission, a service and a tick keep the rules of a state. An admission adds one beneath the path
 -- of its accelerator and a service takes one off there, and the service takes one off each allowance of that path too.
 use Prim.Native.Nat.{ℕ, _+_, _-_, _≤_, _<_}
-use mathlib.Core.Bool.{Bool, true, false, not}
+use mathlib.Core.Bool.{Bool, true, false}
 use mathlib.Core.List.{List}
 use mathlib.Core.Path.{_≡_, refl, sym, _∙_, ap, subst, fun-ext}
 use native.Mathlib.Decide.{decLt, ℕ-discrete}

@@ -1025,7 +1025,7 @@ pub const NEXT: [u8; 2048] = [
     6,
     0,
     0,
-    7,
+    7, // set 128, last port 0
     7,
     7,
     7,

@@ -12,7 +12,7 @@ use Rattle.model.specs.declared.Tree.{Tree}
 use Rattle.model.specs.declared.State.{State}
 use Rattle.model.specs.declared.Port.{Port}
 use Rattle.model.specs.declared.Port.the-variants.{Empty, Acc, Int}
-use Rattle.model.specs.Fold.{pick, all}
+use Rattle.model.specs.Fold.{pick}
 use Rattle.model.specs.Tree.{portOf, granularityOf, parentOf, parentPortOf, homeOf, homePortOf, limitOf, budgetOf, levelOf, above, waitingOf, admittedOf, lastOf, allowanceOf}
 use Rattle.model.specs.Beneath.{waitsUnder}
 use Rattle.model.specs.Rules.{busKeeps, carries, isAcc, isInt, childPlaced, usedInterconnect, usedAccelerator, treeKeeps, sized, recordKeeps, turnKeeps, stateKeeps}

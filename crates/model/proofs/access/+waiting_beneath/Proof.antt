@@ -1,10 +1,8 @@
-use mathlib.Core.Path.{_≡_, refl, ap, sym, _∙_}
-use Prim.Native.Nat.{ℕ, _≤_, _<_, _-_, _+_, _*_, _^_}
+-- `waiting_beneath` meets its contract: the levels fall, and the loop has added the ports below the next one.
+use mathlib.Core.Path.{_≡_, ap, sym, _∙_}
+use Prim.Native.Nat.{ℕ, _≤_, _<_, _-_, _*_, _^_}
 use native.Mathlib.Omega.{arith}
-use borrow.Author.Tests.{le-ltb, lt-ltb, le-leb, lt-leb, eq-eqb, ne-eqb}
-use lib.ListN.{length, take, drop, getD, set}
 use borrow.Author.Needs.{needs}
-use Prim.Native.Nat.{ℕ, _<_}
 use borrow.Fn.Kinds.{In}
 use borrow.Fn.PlainCycle.{Measures, is, falls, and}
 use native.Mathlib.Nat.{pos-of-ne-zero}
@@ -13,7 +11,7 @@ use Rattle.model.specs.declared.State.{State}
 use Rattle.model.specs.Fold.{sum as total}
 use Rattle.model.specs.Tree.{portOf, waitingOf}
 use Rattle.model.specs.Beneath.{under, inside}
-use Rattle.model.proofs.Sums.{sum-none, sum-more, inside-at-none, inside-step, add-port, eight-ports, sum-turn, sum-end, eight-at-most, room, byte-beneath}
+use Rattle.model.proofs.Sums.{sum-none, inside-at-none, inside-step, add-port, eight-ports, sum-turn, sum-end, eight-at-most, room, byte-beneath}
 use Rattle.model.proofs.access.waiting_beneath.Reads as waiting-beneath
 use Rattle.model.proofs.access.waiting_beneath.Kinds as waiting-beneath-kinds
 use Rattle.model.proofs.access.+waiting_beneath.Lts-waiting_beneath as lts

@@ -1,31 +1,13 @@
-use mathlib.Core.Path.{_≡_, refl, ap, sym, _∙_}
-use Prim.Native.Nat.{ℕ, _≤_, _<_, _-_, _+_, _*_}
-use native.Mathlib.Omega.{arith}
-use borrow.Author.Tests.{le-ltb, lt-ltb, le-leb, lt-leb, eq-eqb, ne-eqb}
-use lib.ListN.{length, take, drop, getD, set}
+-- `accelerator_at` meets its contract: past the end it is the unused accelerator.
 use borrow.Author.Needs.{needs}
-use Rattle.model.proofs.Lists.{long, beyond, any-default}
-use Rattle.model.specs.Tree.{noAccelerator, noInterconnect, emptyCell}
+use Rattle.model.proofs.Lists.{long, beyond}
+use Rattle.model.specs.Tree.{noAccelerator}
 use Rattle.model.proofs.access.accelerator_at.Statement.{statement}
 use Rattle.model.proofs.access.accelerator_at.Tie as tie
-use Rattle.model.proofs.access.accelerator_at.Reads as reads
-use Rattle.model.proofs.access.accelerator_at.Lts as lts
 
--- src/access.rt:34:16
-mul-result : tie.Need-mul-result
-mul-result c = search needs
-
--- src/access.rt:34:16
-element-copy-out-result : tie.Need-element-copy-out-result
-element-copy-out-result c = search needs
-
--- src/access.rt:34:9
-returns : tie.Need-returns
-returns c = search needs
-
--- src/access.rt:29:1
 returns-2 : tie.Need-returns-2
-returns-2 c = beyond (c .before .args .t1 .accelerators) noAccelerator (c .before .args .a) 32 (search (needs, long)) (search needs)
+returns-2 c =
+    beyond (c .before .args .t1 .accelerators) noAccelerator (c .before .args .a) 32 (search (needs, long)) (search needs)
 
 pub accelerator-at-spec : {M : Type 1} → statement M
-accelerator-at-spec = tie.close (tie.spec mul-result element-copy-out-result returns returns-2)
+accelerator-at-spec = tie.close (tie.spec (λ c. search needs) (λ c. search needs) (λ c. search needs) returns-2)

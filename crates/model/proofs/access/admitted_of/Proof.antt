@@ -1,30 +1,12 @@
-use mathlib.Core.Path.{_≡_, refl, ap, sym, _∙_}
-use Prim.Native.Nat.{ℕ, _≤_, _<_, _-_, _+_, _*_}
-use native.Mathlib.Omega.{arith}
-use borrow.Author.Tests.{le-ltb, lt-ltb, le-leb, lt-leb, eq-eqb, ne-eqb}
-use lib.ListN.{length, take, drop, getD, set}
+-- `admitted_of` meets its contract: past the end stands 0.
 use borrow.Author.Needs.{needs}
-use Rattle.model.proofs.Lists.{long, beyond, any-default}
+use Rattle.model.proofs.Lists.{beyond}
 use Rattle.model.proofs.access.admitted_of.Statement.{statement}
 use Rattle.model.proofs.access.admitted_of.Tie as tie
-use Rattle.model.proofs.access.admitted_of.Reads as reads
-use Rattle.model.proofs.access.admitted_of.Lts as lts
 
--- src/access.rt:75:16
-mul-result : tie.Need-mul-result
-mul-result c = search needs
-
--- src/access.rt:75:16
-element-copy-out-result : tie.Need-element-copy-out-result
-element-copy-out-result c = search needs
-
--- src/access.rt:75:9
-returns : tie.Need-returns
-returns c = search needs
-
--- src/access.rt:70:1
 returns-2 : tie.Need-returns-2
-returns-2 c = beyond (c .before .args .t1 .admitted) 0 (c .before .args .a) 32 (search needs) (search needs)
+returns-2 c =
+    beyond (c .before .args .t1 .admitted) 0 (c .before .args .a) 32 (search needs) (search needs)
 
 pub admitted-of-spec : {M : Type 1} → statement M
-admitted-of-spec = tie.close (tie.spec mul-result element-copy-out-result returns returns-2)
+admitted-of-spec = tie.close (tie.spec (λ c. search needs) (λ c. search needs) (λ c. search needs) returns-2)

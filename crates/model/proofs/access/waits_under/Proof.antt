@@ -1,3 +1,4 @@
+-- `waits_under` meets its contract: what waits beneath what the port carries, over three levels.
 use mathlib.Core.Path.{ap, _∙_}
 use borrow.Author.Needs.{needs}
 use Rattle.model.specs.Tree.{waitingOf}

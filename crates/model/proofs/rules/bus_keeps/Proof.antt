@@ -1,8 +1,4 @@
-use mathlib.Core.Path.{_≡_, refl, ap, sym, _∙_}
-use Prim.Native.Nat.{ℕ, _≤_, _<_, _-_, _+_, _*_}
-use native.Mathlib.Omega.{arith}
-use borrow.Author.Tests.{le-ltb, lt-ltb, le-leb, lt-leb, eq-eqb, ne-eqb}
-use lib.ListN.{length, take, drop, getD, set}
+-- `bus_keeps` meets its contract: each field is tested against its limits.
 use borrow.Author.Needs.{needs}
 use Rattle.model.specs.Rules.{busKeeps}
 use Rattle.model.proofs.Lists.{and-cong}
