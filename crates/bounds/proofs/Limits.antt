@@ -9,13 +9,13 @@ use borrow.Author.Tests.{lt-ltb}
 use Rattle.model.specs.declared.Tree.{Tree}
 use Rattle.model.specs.declared.Bus.{Bus}
 use Rattle.model.specs.declared.Accelerator.{Accelerator}
-use Rattle.model.specs.Tree.{acceleratorOf, homeOf, levelOf, path}
+use Rattle.model.specs.Tree.{acceleratorOf, homeOf, levelOf}
 use Rattle.model.specs.Rules.{treeKeeps, busKeeps, usedAccelerator}
 use Rattle.model.proofs.Folds.{tests, picked}
 use Rattle.model.proofs.Sound.{sound}
 use Rattle.bounds.specs.Bounds.{interference, aloneRead, aloneWrite, slotRead, slotWrite, readTime, writeTime, responseOf, shareOf}
 use Rattle.bounds.specs.Limits.{Limited}
-use Rattle.bounds.proofs.Shares.{share-least, share-most}
+use Rattle.bounds.proofs.Shares.{share-bounds}
 
 pub record Fitting (b : Bus) (x : Accelerator) (l share : ℕ) : Type 0 where
   pub slot-read : slotRead b ≤ 69630
@@ -82,8 +82,8 @@ module _ (t : Tree) (e : treeKeeps t ≡ true) (a : ℕ) (l : a < t .accs) where
         writes = omega arith;
         computing = omega arith;
         level = S .level (homeOf t a) (S .home a l);
-        some-share = share-least t (path t a);
-        most-share = share-most t S a l;
+        some-share = share-bounds t e a l .0;
+        most-share = share-bounds t e a l .1;
       }
 
   pub fits : Fitting (t .bus) (acceleratorOf t a) (levelOf t (homeOf t a)) (shareOf t a)

@@ -1,6 +1,7 @@
 -- The share is at least 1 and at most 163,047,361: seven other ports count for at most 16 each, and a path crosses at most
 -- four interconnects. By induction on the number of ports and on the path.
 use Prim.Native.Nat.{ℕ, zero, suc, _+_, _*_, _^_, _≤_, _<_, min}
+use mathlib.Core.Bool.{true}
 use mathlib.Core.List.{List, [], _∷_}
 use mathlib.Core.Path.{_≡_, refl, sym, _∙_, ap}
 use native.Mathlib.Decide.{ℕ-discrete}
@@ -12,8 +13,9 @@ use borrow.Author.Tests.{eq-eqb, ne-eqb}
 use Rattle.model.specs.declared.Tree.{Tree}
 use Rattle.model.specs.Fold.{pick, sum}
 use Rattle.model.specs.Tree.{Crossing, granularityOf, homeOf, parentOf, parentPortOf, above, path}
+use Rattle.model.specs.Rules.{treeKeeps}
 use Rattle.model.proofs.Folds.{picked, passed}
-use Rattle.model.proofs.Sound.{Sound}
+use Rattle.model.proofs.Sound.{Sound, sound}
 use Rattle.model.proofs.Beneath.{On, here, there, path-bounds}
 use Rattle.bounds.specs.Bounds.{capacityOf, counted, othersAt, shareAlong, shareOf}
 
@@ -45,17 +47,17 @@ module _ (t : Tree) where
     | no d ↦ omega (arith, counted-other j p q d)
   ]
 
-  pub share-least : (xs : List Crossing) → 1 ≤ shareAlong t xs
-  unfolding shareAlong
-  share-least [] = omega arith
-  share-least (x ∷ xs) = one-le-mul (omega arith) (share-least xs)
-
   pub along-most : (b : ℕ) (xs : List Crossing) → ((i p : ℕ) → On i p xs → othersAt t i p ≤ b) → shareAlong t xs ≤ (1 + b) ^ length xs
   unfolding shareAlong
   along-most b [] h = omega (arith, pow-zero (1 + b))
   along-most b (x ∷ xs) h =
       let f : 1 + othersAt t (x .interconnect) (x .port) ≤ 1 + b = omega (arith, h (x .interconnect) (x .port) (here refl refl)) in
       omega (arith, mul-le-mul f (along-most b xs (λ i p o. h i p (there o))), pow-succ' (1 + b) (length xs))
+
+  pub share-least : (xs : List Crossing) → 1 ≤ shareAlong t xs
+  unfolding shareAlong
+  share-least [] = omega arith
+  share-least (x ∷ xs) = one-le-mul (omega arith) (share-least xs)
 
   abbrev crossing : ℕ → Crossing
   crossing j = record { interconnect = parentOf t j; port = parentPortOf t j }
@@ -86,3 +88,7 @@ module _ (t : Tree) (S : Sound t) where
   share-most a l =
       le-trans (along-most t 112 (path t a) (λ i p o. let h = path-bounds t S a l i p o in others-most i p (h .0) (h .1)))
       (pow-le-pow-right (lit< tt) (S .level (homeOf t a) (S .home a l)))
+
+-- "No share exceeds 163,047,361 (113 to the fourth power)", and none is below 1
+pub share-bounds : (t : Tree) → treeKeeps t ≡ true → (a : ℕ) → a < t .accs → (1 ≤ shareOf t a) × (shareOf t a ≤ 163047361)
+share-bounds t e a l = (share-least t (path t a), share-most t (sound t e) a l)

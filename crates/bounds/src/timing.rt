@@ -22,10 +22,10 @@ fn product(a: u16, b: u16) -> u64
     (a as u64) * (b as u64)
 }
 
-fn larger(a: u8, b: u8) -> u8
+fn larger(a: u8, b: u8) -> u16
     ensures { λ r. ⌜ r ≡ max a b ⌝ }
 {
-    if a < b { b } else { a }
+    if a < b { b as u16 } else { a as u16 }
 }
 
 // A read alone, at this level.
@@ -49,7 +49,7 @@ fn alone_write(b: Bus, level: u8) -> Cycles
     let l = level as u16;
     Cycles(
         b.ta as u64
-            + product(l, larger(b.da, b.dd) as u16)
+            + product(l, larger(b.da, b.dd))
             + product(b.burst, b.td as u16)
             + b.pw as u64
             + b.tb as u64
