@@ -1,6 +1,6 @@
 -- What the rules of a configuration leave to the figures that the bounds are made of.
 --
--- Limited b x l share   the limits of the bus line and of a job ("The tree on paper"), a level of 1 to 4, and a share of 1
+-- Limited b x l share   the limits of the bus line and of a job ("The tree on paper"), a level of at most 4, a share of 1
 --                       to 163,047,361 ("No share exceeds 163,047,361 (113 to the fourth power)")
 use Prim.Native.Nat.{ℕ, _≤_}
 use Rattle.model.specs.declared.Bus.{Bus}
