@@ -1,13 +1,17 @@
--- The starred cases of document 01, "Figures to check by", that the machine's definitions decide: one table under one
--- claim.
+-- The starred cases of document 01, "Figures to check by": one table under one claim.
 --
 -- Figure               one figure of a case
 -- answers t cs xs      the calls cs, from the fresh state of the tree t, get the answers xs
+-- numbers xs ys        figures of the definitions, and their numbers
+-- bounded t a x        what `bound` answers of accelerator a
+-- responded T b        the bounds of case 9, where the period is T and b says whether it is met
 -- holds f              what the figure f claims
 -- every fs             each of the figures fs holds
 -- table                the figures, each headed by its case
 -- figures              the claim: every figure of the table holds
+-- guard, guarded       what no starred case tells apart: with capacities nested as minima the first share would be 2
 use Prim.Native.Nat.{ℕ, zero, suc}
+use mathlib.Core.Bool.{Bool, true, false}
 use mathlib.Core.List.{List, [], _∷_, _++_}
 use mathlib.Core.Path.{_≡_, refl}
 use Rattle.model.specs.declared.Tree.{Tree}
@@ -18,13 +22,18 @@ use Rattle.model.specs.Rules.{treeKeeps, stateKeeps, sized, recordKeeps, turnKe
 use Rattle.machine.specs.Turns.{who, after, turnPort, turnAllowance, seek, bitsBelow}
 use Rattle.machine.specs.Machine.{Answer, admitted, served, idle, refused, freshState, offered, slotted, tick}
 use Rattle.machine.specs.Calls.{Call, offer, slot, answersOf}
-use Rattle.cases.specs.Trees.{chain, pair}
+use Rattle.bounds.specs.Bounds.{Answer as Bound, given, aloneRead, aloneWrite, slotRead, slotWrite, othersAt, shareAlong, shareOf, boundOf}
+use Rattle.cases.specs.Trees.{chain, timed, pair, nested}
 
 pub data Figure : Type 0 where
   answers : Tree → List Call → List Answer → Figure
+  numbers : List ℕ → List ℕ → Figure
+  bounded : Tree → ℕ → Bound → Figure
 
 abbrev pub holds : Figure → Type 0
 holds (answers t cs xs) = answersOf t (freshState t) cs ≡ xs
+holds (numbers xs ys) = xs ≡ ys
+holds (bounded t a x) = boundOf t a ≡ x
 
 abbrev pub every : List Figure → Type 0
 every [] = Unit {0}
@@ -34,12 +43,20 @@ abbrev times : {A : Type 0} → ℕ → A → List A
 times zero x = []
 times (suc n) x = x ∷ times n x
 
+abbrev responded : ℕ → Bool → Bound
+responded T b =
+    given (record { level = 2; share = 4; reads = 30; writes = 15; response = 3920; period = T; meets = b })
+
 abbrev pub table : List Figure
 table =
+    -- 1: "Shares 2, 4, 8, 8"
+    numbers (shareOf chain 0 ∷ shareOf chain 1 ∷ shareOf chain 2 ∷ shareOf chain 3 ∷ []) (2 ∷ 4 ∷ 8 ∷ 8 ∷ [])
     -- 2: "with 4, 2, 1, 1 offered at slot 0: served 0 1 0 2 0 1 0 3"
-    answers chain
+    ∷ answers chain
     (times 4 (offer 0) ++ times 2 (offer 1) ++ offer 2 ∷ offer 3 ∷ times 8 slot)
     (times 8 admitted ++ served 0 ∷ served 1 ∷ served 0 ∷ served 2 ∷ served 0 ∷ served 1 ∷ served 0 ∷ served 3 ∷ [])
+    -- 3: "g 2, accelerators with phi 3 and 1 at ports 0 and 1: shares 2 and 3"
+    ∷ numbers (shareOf (pair 2 16 3 1 8) 0 ∷ shareOf (pair 2 16 3 1 8) 1 ∷ []) (2 ∷ 3 ∷ [])
     -- 4: "3 and 1 offered: 0 0 1 0", on case 3's tree
     ∷ answers (pair 2 16 3 1 8)
     (times 3 (offer 0) ++ offer 1 ∷ times 4 slot)
@@ -60,8 +77,21 @@ table =
     ∷ answers (pair 1 16 2 2 2)
     (times 3 (offer 0))
     (admitted ∷ admitted ∷ refused 8 ∷ [])
+    -- 8: "alone 59 and 55, slots 47 and 43"
+    ∷ numbers (aloneRead (chain .bus) 2 ∷ aloneWrite (chain .bus) 2 ∷ slotRead (chain .bus) ∷ slotWrite (chain .bus) ∷ [])
+    (59 ∷ 55 ∷ 47 ∷ 43 ∷ [])
+    -- 9: "response 3,920; T 3,920 meets, 3,919 is late"
+    ∷ bounded (timed 3920) 1 (responded 3920 true)
+    ∷ bounded (timed 3919) 1 (responded 3919 false)
     ∷ []
 
 pub figures : every table
-unfolding answersOf offered slotted tick who after turnPort turnAllowance seek bitsBelow treeKeeps stateKeeps sized recordKeeps turnKeeps busKeeps carries rootPlaced childPlaced usedInterconnect unusedInterconnect usedAccelerator unusedAccelerator inside above sum all
-figures = (refl, (refl, (refl, (refl, (refl, (refl, tt))))))
+unfolding answersOf offered slotted tick who after turnPort turnAllowance seek bitsBelow treeKeeps stateKeeps sized recordKeeps turnKeeps busKeeps carries rootPlaced childPlaced usedInterconnect unusedInterconnect usedAccelerator unusedAccelerator inside above sum all shareAlong othersAt boundOf
+figures = (refl, (refl, (refl, (refl, (refl, (refl, (refl, (refl, (refl, (refl, (refl, tt)))))))))))
+
+abbrev pub guard : List Figure
+guard = numbers (shareOf nested 0 ∷ shareOf nested 1 ∷ []) (3 ∷ 2 ∷ []) ∷ []
+
+pub guarded : every guard
+unfolding inside above sum shareAlong othersAt
+guarded = (refl, tt)

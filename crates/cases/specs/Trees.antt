@@ -5,9 +5,13 @@
 -- interconnect j p g c interconnect on port p of interconnect j, with granularity g and the port table c
 -- block j p phi b      accelerator on port p of interconnect j, with outstanding limit phi and budget b
 -- tree P xs ys         the configuration with window P, interconnects xs and accelerators ys
--- chain                the tree of case 1: three interconnects, each at port 1 of the one above
+-- withJob r w c T x    accelerator x with r reads, w writes, computing c and period T
+-- chainWith x          three interconnects, each at port 1 of the one above, with x for accelerator 1
+-- chain                the tree of case 1
+-- timed T              the tree of case 9: accelerator 1 of case 1's tree is at level 2 and has share 4
 -- pair g P f h b       one interconnect of granularity g with two accelerators, of phi f and h, at ports 0 and 1, each of
 --                      budget b
+-- nested               a tree whose shares tell the plain sum of capacities from nested minima
 use Prim.Native.Nat.{ℕ, _-_}
 use mathlib.Core.List.{List, [], _∷_, _++_}
 use lib.ListN.{length, replicate}
@@ -39,15 +43,40 @@ tree P xs ys =
       accs = length ys;
     }
 
-abbrev pub chain : Tree
-chain =
+abbrev pub withJob : ℕ → ℕ → ℕ → ℕ → Accelerator → Accelerator
+withJob r w c T x =
+    record {
+      interconnect = x .interconnect;
+      port = x .port;
+      phi = x .phi;
+      budget = x .budget;
+      reads = r;
+      writes = w;
+      computing = c;
+      period = T;
+    }
+
+abbrev pub chainWith : Accelerator → Tree
+chainWith x =
     tree 16
     (interconnect 0 0 1 (ports (Acc 0) (Int 1))
     ∷ interconnect 0 1 1 (ports (Acc 1) (Int 2))
     ∷ interconnect 1 1 1 (ports (Acc 2) (Acc 3))
     ∷ [])
-    (block 0 0 4 8 ∷ block 1 0 4 8 ∷ block 2 0 4 8 ∷ block 2 1 4 8 ∷ [])
+    (block 0 0 4 8 ∷ x ∷ block 2 0 4 8 ∷ block 2 1 4 8 ∷ [])
+
+abbrev pub chain : Tree
+chain = chainWith (block 1 0 4 8)
+
+abbrev pub timed : ℕ → Tree
+timed T = chainWith (withJob 10 5 1000 T (block 1 0 4 8))
 
 abbrev pub pair : ℕ → ℕ → ℕ → ℕ → ℕ → Tree
 pair g P f h b =
     tree P (interconnect 0 0 g (ports (Acc 0) (Acc 1)) ∷ []) (block 0 0 f b ∷ block 0 1 h b ∷ [])
+
+abbrev pub nested : Tree
+nested =
+    tree 16
+    (interconnect 0 0 2 (ports (Acc 0) (Int 1)) ∷ interconnect 0 1 1 (ports (Acc 1) Empty) ∷ [])
+    (block 0 0 1 8 ∷ block 1 0 2 8 ∷ [])

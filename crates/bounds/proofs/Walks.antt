@@ -1,0 +1,38 @@
+-- The share walked up parent by parent, and room for its product in 64 bits on any tree whatever: at most 255 counts for
+-- each of eight ports. By the clauses of the definitions.
+use Prim.Native.Nat.{ℕ, zero, suc, _+_, _*_, _^_, _-_, _≤_}
+use mathlib.Core.Path.{_≡_, refl, sym, ap}
+use native.Mathlib.Nat.{mul-le-mul, pow-succ', pow-le-pow-right, one-le-pow}
+use native.Mathlib.Numerals.{sub-one}
+use native.Mathlib.Omega.{arith}
+use lib.Dec.{lit<}
+use borrow.Author.Tests.{eq-eqb, ne-eqb}
+use Rattle.model.specs.declared.Tree.{Tree}
+use Rattle.model.specs.Tree.{parentOf, parentPortOf, above}
+use Rattle.model.proofs.Folds.{picked, passed}
+use Rattle.bounds.specs.Bounds.{othersAt, shareAlong}
+
+module _ (t : Tree) where
+  pub walk-none : (n j : ℕ) → n ≡ 0 → 1 ≡ shareAlong t (above n t j)
+  unfolding above shareAlong
+  walk-none n j e = rw e
+
+  pub walk-root : (n j : ℕ) → j ≡ 0 → 1 ≡ shareAlong t (above n t j)
+  unfolding above shareAlong
+  walk-root zero j e = refl
+  walk-root (suc n) j e = ap (shareAlong t) (sym (picked _ _ _ (eq-eqb j 0 e)))
+
+  pub walk-step : (n j : ℕ) → (n ≡ 0 → ⊥) → (j ≡ 0 → ⊥) → (1 + othersAt t (parentOf t j) (parentPortOf t j)) * shareAlong t (above (n - 1) t (parentOf t j)) ≡ shareAlong t (above n t j)
+  unfolding above shareAlong
+  walk-step zero j h k = absurd (h refl)
+  walk-step (suc n) j h k = rw sub-one (ap (shareAlong t) (sym (passed _ _ _ (ne-eqb j 0 k))))
+
+pub walk-most : (n f r : ℕ) → (n ≡ 0 → ⊥) → f ≤ 2041 → r ≤ 2041 ^ (n - 1) → f * r ≤ 2041 ^ n
+walk-most zero f r h a b = absurd (h refl)
+walk-most (suc n) f r h a b = omega (arith, mul-le-mul a (rw sub-one at b), pow-succ' 2041 n)
+
+pub walk-room : (n : ℕ) → n ≤ 3 → 2041 ^ n ≤ 8502154921
+walk-room n h = pow-le-pow-right (lit< tt) h
+
+pub walk-some : (n : ℕ) → 1 ≤ 2041 ^ n
+walk-some n = one-le-pow n 2041 (lit< tt)

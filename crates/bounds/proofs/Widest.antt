@@ -1,0 +1,73 @@
+-- A tree that reaches each largest figure: four levels, every granularity and outstanding limit 16, an accelerator at each
+-- of the seven other ports along the path of accelerator 0, and the largest delays and job. Computed from the definitions.
+use Prim.Native.Nat.{ℕ, _+_}
+use mathlib.Core.Bool.{false}
+use mathlib.Core.List.{List, [], _∷_, _++_}
+use mathlib.Core.Path.{_≡_, refl}
+use lib.ListN.{replicate}
+use Rattle.model.specs.declared.Tree.{Tree}
+use Rattle.model.specs.declared.Interconnect.{Interconnect}
+use Rattle.model.specs.declared.Accelerator.{Accelerator}
+use Rattle.model.specs.declared.PortCell.{PortCell}
+use Rattle.model.specs.declared.Port.{Port}
+use Rattle.model.specs.declared.Port.the-variants.{Acc, Int}
+use Rattle.model.specs.Fold.{sum, all}
+use Rattle.model.specs.Tree.{noInterconnect, noAccelerator, above}
+use Rattle.model.specs.Beneath.{inside}
+use Rattle.model.specs.Rules.{treeKeeps, busKeeps, carries, rootPlaced, childPlaced, usedInterconnect, unusedInterconnect, usedAccelerator, unusedAccelerator}
+use Rattle.bounds.specs.Bounds.{othersAt, shareAlong, Row, given, boundOf}
+
+abbrev cell : Port → PortCell
+cell x = record { port = x }
+
+-- an interconnect at port 0 of interconnect j: x at its port 0, accelerators n + 1 to n + 7 at the others
+abbrev wide : ℕ → Port → ℕ → Interconnect
+wide j x n =
+    record {
+      parent = j;
+      port = 0;
+      granularity = 16;
+      ports = cell x ∷ cell (Acc (n + 1)) ∷ cell (Acc (n + 2)) ∷ cell (Acc (n + 3)) ∷ cell (Acc (n + 4)) ∷ cell (Acc (n + 5)) ∷ cell (Acc (n + 6)) ∷ cell (Acc (n + 7)) ∷ [];
+    }
+
+abbrev busy : ℕ → ℕ → Accelerator
+busy j p =
+    record {
+      interconnect = j;
+      port = p;
+      phi = 16;
+      budget = 1024;
+      reads = 65535;
+      writes = 65535;
+      computing = 4294967295;
+      period = 4294967295;
+    }
+
+abbrev seven : ℕ → List Accelerator
+seven j = busy j 1 ∷ busy j 2 ∷ busy j 3 ∷ busy j 4 ∷ busy j 5 ∷ busy j 6 ∷ busy j 7 ∷ []
+
+abbrev pub widest : Tree
+widest =
+    record {
+      bus = record { window = 65535; ta = 255; da = 255; dd = 255; db = 255; pr = 4095; pw = 4095; td = 255; tb = 255; burst = 256 };
+      interconnects = wide 0 (Int 1) 0 ∷ wide 0 (Int 2) 7 ∷ wide 1 (Int 3) 14 ∷ wide 2 (Acc 0) 21 ∷ replicate 11 noInterconnect;
+      accelerators = busy 3 0 ∷ (seven 0 ++ seven 1 ++ seven 2 ++ seven 3 ++ replicate 3 noAccelerator);
+      ints = 4;
+      accs = 29;
+    }
+
+abbrev largest : Row
+largest =
+    record {
+      level = 4;
+      share = 163047361;
+      reads = 10685308737600;
+      writes = 10685308737600;
+      response = 1490760862231729620;
+      period = 4294967295;
+      meets = false;
+    }
+
+pub reached : boundOf widest 0 ≡ given largest
+unfolding boundOf othersAt shareAlong treeKeeps busKeeps carries rootPlaced childPlaced usedInterconnect unusedInterconnect usedAccelerator unusedAccelerator inside above sum all
+reached = refl

@@ -1,0 +1,138 @@
+-- The bounds of document 01, "Bounds", sentence by sentence. A count of interfering transactions is in slots; every time
+-- is in clock cycles, and `cyclesOf` is the only step from the one to the other.
+--
+-- capacityOf t j p           the capacity of port p of interconnect j: "0 if empty, phi for an accelerator, for an
+--                            interconnect the sum over everything beneath it, down to the accelerators"
+-- counted t j p q            what port q of interconnect j counts for in D at port p: nothing if it is port p itself,
+--                            else "the smaller of g and the capacity"
+-- othersAt t j p             "D at an interconnect on an accelerator's path is the sum, over its other ports, .."
+-- shareAlong t xs            "the product of (1 + D) along" the crossings xs
+-- shareOf t a                "The share is the product of (1 + D) along the path"
+-- interference n share       "Interference of N transactions is N × (share - 1)", in slots
+-- aloneRead b l              "alone, read: tA + L × dA + pR + L × dD + B × tD"
+-- aloneWrite b l             "alone, write: tA + L × max(dA, dD) + B × tD + pW + tB + L × dB"
+-- slotRead b                 "slot time: read tA + pR + B × tD"
+-- slotWrite b                "write tA + B × tD + pW + tB"
+-- cyclesOf y s               "a count becomes cycles only through the slot time"
+-- channelTime n alone y s    "N × alone .. + Y × slot", what a channel adds to the response
+-- readTime b x l share       what reads add to the response of accelerator x at level l: Nr × alone read + Yr × slot read
+-- writeTime b x l share      "the same for writes"
+-- responseOf b x l share     "The response is C + Nr × alone read + Yr × slot read, plus the same for writes"
+-- isMet x r                  "An accelerator meets its period if the response is at most T"
+-- Row                        what is known of an accelerator: level, share, both interferences, response, period, verdict
+-- rowFrom b x l share        the row of accelerator x at level l with this share
+-- rowOf t a                  the row of accelerator a, "With L the level"
+-- Answer                     what a call of `bound` answers: refused by a number, or the row
+-- meaningOf r                the answer that the enum of the code stands for
+-- boundOf t a                "a bound 11, 7", else the row
+use Prim.Native.Nat.{ℕ, _+_, _*_, _-_, min, max}
+use mathlib.Core.Bool.{Bool, not}
+use mathlib.Core.List.{List, [], _∷_}
+use lib.Dec.{leb, eqb}
+use Rattle.model.specs.declared.Tree.{Tree}
+use Rattle.model.specs.declared.Bus.{Bus}
+use Rattle.model.specs.declared.Accelerator.{Accelerator}
+use Rattle.model.specs.Fold.{pick, sum}
+use Rattle.model.specs.Tree.{Crossing, granularityOf, limitOf, homeOf, levelOf, path, acceleratorOf}
+use Rattle.model.specs.Beneath.{weightUnder}
+use Rattle.model.specs.Rules.{treeKeeps}
+use Rattle.model.specs.Answer.{numberOf}
+use Rattle.bounds.specs.declared.BoundAnswer.{BoundAnswer}
+use Rattle.bounds.specs.declared.BoundAnswer.the-variants.{Refused, Bound}
+
+abbrev pub capacityOf : Tree → ℕ → ℕ → ℕ
+capacityOf t j p = weightUnder t (limitOf t) j p
+
+abbrev pub counted : Tree → ℕ → ℕ → ℕ → ℕ
+counted t j p q = pick (eqb q p) 0 (min (granularityOf t j) (capacityOf t j q))
+
+unfoldable pub othersAt : Tree → ℕ → ℕ → ℕ
+othersAt t j p = sum 8 (counted t j p)
+
+unfoldable pub shareAlong : Tree → List Crossing → ℕ
+shareAlong t [] = 1
+shareAlong t (x ∷ xs) = (1 + othersAt t (x .interconnect) (x .port)) * shareAlong t xs
+
+abbrev pub shareOf : Tree → ℕ → ℕ
+shareOf t a = shareAlong t (path t a)
+
+abbrev pub interference : ℕ → ℕ → ℕ
+interference n share = n * (share - 1)
+
+abbrev pub aloneRead : Bus → ℕ → ℕ
+aloneRead b l = b .ta + l * b .da + b .pr + l * b .dd + b .burst * b .td
+
+abbrev pub aloneWrite : Bus → ℕ → ℕ
+aloneWrite b l = b .ta + l * max (b .da) (b .dd) + b .burst * b .td + b .pw + b .tb + l * b .db
+
+abbrev pub slotRead : Bus → ℕ
+slotRead b = b .ta + b .pr + b .burst * b .td
+
+abbrev pub slotWrite : Bus → ℕ
+slotWrite b = b .ta + b .burst * b .td + b .pw + b .tb
+
+abbrev pub cyclesOf : ℕ → ℕ → ℕ
+cyclesOf y s = y * s
+
+abbrev pub channelTime : ℕ → ℕ → ℕ → ℕ → ℕ
+channelTime n alone y s = n * alone + cyclesOf y s
+
+abbrev pub readTime : Bus → Accelerator → ℕ → ℕ → ℕ
+readTime b x l share = channelTime (x .reads) (aloneRead b l) (interference (x .reads) share) (slotRead b)
+
+abbrev pub writeTime : Bus → Accelerator → ℕ → ℕ → ℕ
+writeTime b x l share = channelTime (x .writes) (aloneWrite b l) (interference (x .writes) share) (slotWrite b)
+
+abbrev pub responseOf : Bus → Accelerator → ℕ → ℕ → ℕ
+responseOf b x l share = x .computing + readTime b x l share + writeTime b x l share
+
+abbrev pub isMet : Accelerator → ℕ → Bool
+isMet x r = leb r (x .period)
+
+pub record Row : Type 0 where
+  pub level : ℕ
+  pub share : ℕ
+  pub reads : ℕ
+  pub writes : ℕ
+  pub response : ℕ
+  pub period : ℕ
+  pub meets : Bool
+
+abbrev pub rowFrom : Bus → Accelerator → ℕ → ℕ → Row
+rowFrom b x l share =
+    record {
+      level = l;
+      share = share;
+      reads = interference (x .reads) share;
+      writes = interference (x .writes) share;
+      response = responseOf b x l share;
+      period = x .period;
+      meets = isMet x (responseOf b x l share);
+    }
+
+abbrev pub rowOf : Tree → ℕ → Row
+rowOf t a = rowFrom (t .bus) (acceleratorOf t a) (levelOf t (homeOf t a)) (shareOf t a)
+
+pub data Answer : Type 0 where
+  refused : ℕ → Answer
+  given : Row → Answer
+
+abbrev pub meaningOf : BoundAnswer → Answer
+meaningOf (Refused r) = refused (numberOf r)
+meaningOf (Bound f) =
+    given
+    (record {
+      level = f .level;
+      share = f .share;
+      reads = f .reads .0;
+      writes = f .writes .0;
+      response = f .response .0;
+      period = f .period .0;
+      meets = f .meets;
+    })
+
+unfoldable pub boundOf : Tree → ℕ → Answer
+boundOf t a =
+    pick (not (treeKeeps t)) (refused 11)
+    (pick (leb (t .accs) a) (refused 7)
+    (given (rowOf t a)))
