@@ -4,7 +4,7 @@ use mathlib.Core.Path.{_≡_, refl, ap, ap₂, sym, subst, _∙_}
 use mathlib.Core.Bool.{Bool, true, false, not}
 use mathlib.Core.List.{List, _++_}
 use Prim.Native.Nat.{ℕ, zero, suc, _+_, _-_, _*_, _^_, _/_, _%_, _≤_, _<_, min}
-use native.Mathlib.Nat.{sub-zero, zero-sub, suc-sub-suc, le-antisymm, one-mul, zero-mul}
+use native.Mathlib.Nat.{sub-zero, zero-sub, suc-sub-suc, le-antisymm, one-mul, zero-mul, div-zero}
 use native.Mathlib.Numerals.{add-one, sub-one}
 use native.Mathlib.Omega.{arith}
 use lib.ListN.{length, set, replicate, drop}
@@ -24,7 +24,7 @@ use Rattle.model.specs.Rules.{treeKeeps, keeps}
 use Rattle.model.proofs.Folds.{picked, passed}
 use Rattle.machine.specs.Turns.{withTurn, bitsBelow, liveSet, nextPort, turnPort, turnAllowance, nobody, reached, who, turned, after}
 use Rattle.machine.proofs.Next.{bits-bound}
-use Rattle.machine.specs.Machine.{outcome, admitted, served, idle, refused, started, notStarted, beginning, zeroState, freshState, freshened, admit, offered, noneWaits, lastSlot, chosen, takeOne, serve, tick, opens, slotted}
+use Rattle.machine.specs.Machine.{outcome, admitted, served, idle, refused, started, notStarted, beginning, zeroState, freshState, freshened, admit, offeredWithin, offered, noneWaits, lastSlot, chosen, takeOne, serve, tick, opens, slottedWithin, slotted}
 
 pub turn-far : (s : State) (j port allowance : ℕ) → length (s .last) ≡ 15 → length (s .allowance) ≡ 15 → 15 ≤ j → s ≡ withTurn s j port allowance
 turn-far s j port allowance l o h =
@@ -55,6 +55,13 @@ pub tick-stays : (t : Tree) (s : State) → windowOf t (s .slot + 1) ≡ windowO
 unfolding tick
 tick-stays t s h = ap (after-slot s) (sym (passed (opens t (s .slot)) (replicate 32 0) (s .admitted) (ap not (eq-eqb _ _ h))))
 
+-- a window of 0 never opens
+pub tick-none : (t : Tree) (s : State) → t .bus .window ≡ 0 → after-slot s (s .admitted) ≡ tick t s
+tick-none t s e = tick-stays t s (zeroth (s .slot + 1) ∙ sym (zeroth (s .slot)))
+  where
+    zeroth : (n : ℕ) → windowOf t n ≡ 0
+    zeroth n = ap (λ (w : ℕ). n / w) e ∙ div-zero n
+
 -- the table's index is set and last port
 pub index-small : (s r : ℕ) → s < 256 → r < 8 → s * 8 + r < 2048
 index-small s r h k = omega arith
@@ -71,26 +78,23 @@ module _ (t : Tree) (s : State) (a : ℕ) where
   unfolding offered
   offer-11 k = sym (picked _ _ _ (ap not k))
 
-  module _ (k : keeps t s ≡ true) where
-    pub offer-7 : t .accs ≤ a → outcome (refused 7) s ≡ offered t s a
-    unfolding offered
-    offer-7 h = sym (passed _ _ _ (ap not k) ∙ picked _ _ _ (le-leb _ _ h))
+  pub offer-passed : keeps t s ≡ true → offeredWithin t s a ≡ offered t s a
+  unfolding offered
+  offer-passed k = sym (passed _ _ _ (ap not k))
 
-    module _ (h : a < t .accs) where
-      pub offer-8 : limitOf t a ≤ waitingOf s a → outcome (refused 8) s ≡ offered t s a
-      unfolding offered
-      offer-8 w = sym (passed _ _ _ (ap not k) ∙ passed _ _ _ (lt-leb _ _ h) ∙ picked _ _ _ (le-leb _ _ w))
+  pub offer-7 : t .accs ≤ a → outcome (refused 7) s ≡ offeredWithin t s a
+  offer-7 h = sym (picked _ _ _ (le-leb _ _ h))
 
-      module _ (w : waitingOf s a < limitOf t a) where
-        pub offer-9 : budgetOf t a ≤ admittedOf s a → outcome (refused 9) s ≡ offered t s a
-        unfolding offered
-        offer-9 b =
-            sym (passed _ _ _ (ap not k) ∙ passed _ _ _ (lt-leb _ _ h) ∙ passed _ _ _ (lt-leb _ _ w) ∙ picked _ _ _ (le-leb _ _ b))
+  module _ (h : a < t .accs) where
+    pub offer-8 : limitOf t a ≤ waitingOf s a → outcome (refused 8) s ≡ offeredWithin t s a
+    offer-8 w = sym (passed _ _ _ (lt-leb _ _ h) ∙ picked _ _ _ (le-leb _ _ w))
 
-        pub offer-admitted : admittedOf s a < budgetOf t a → outcome admitted (admit s a) ≡ offered t s a
-        unfolding offered
-        offer-admitted b =
-            sym (passed _ _ _ (ap not k) ∙ passed _ _ _ (lt-leb _ _ h) ∙ passed _ _ _ (lt-leb _ _ w) ∙ passed _ _ _ (lt-leb _ _ b))
+    module _ (w : waitingOf s a < limitOf t a) where
+      pub offer-9 : budgetOf t a ≤ admittedOf s a → outcome (refused 9) s ≡ offeredWithin t s a
+      offer-9 b = sym (passed _ _ _ (lt-leb _ _ h) ∙ passed _ _ _ (lt-leb _ _ w) ∙ picked _ _ _ (le-leb _ _ b))
+
+      pub offer-admitted : admittedOf s a < budgetOf t a → outcome admitted (admit s a) ≡ offeredWithin t s a
+      offer-admitted b = sym (passed _ _ _ (lt-leb _ _ h) ∙ passed _ _ _ (lt-leb _ _ w) ∙ passed _ _ _ (lt-leb _ _ b))
 
 -- the tests of a slot, in the definition's order
 module _ (t : Tree) (s : State) where
@@ -98,19 +102,19 @@ module _ (t : Tree) (s : State) where
   unfolding slotted
   slot-11 k = sym (picked _ _ _ (ap not k))
 
-  module _ (k : keeps t s ≡ true) where
-    pub slot-10 : s .slot ≡ lastSlot → outcome (refused 10) s ≡ slotted t s
-    unfolding slotted
-    slot-10 h = sym (passed _ _ _ (ap not k) ∙ picked _ _ _ (eq-eqb _ _ h))
+  pub slot-passed : keeps t s ≡ true → slottedWithin t s ≡ slotted t s
+  unfolding slotted
+  slot-passed k = sym (passed _ _ _ (ap not k))
 
-    module _ (h : s .slot ≡ lastSlot → ⊥) where
-      pub slot-idle : noneWaits s ≡ true → outcome idle (tick t s) ≡ slotted t s
-      unfolding slotted
-      slot-idle w = sym (passed _ _ _ (ap not k) ∙ passed _ _ _ (ne-eqb _ _ h) ∙ picked _ _ _ w)
+  pub slot-10 : s .slot ≡ lastSlot → outcome (refused 10) s ≡ slottedWithin t s
+  slot-10 h = sym (picked _ _ _ (eq-eqb _ _ h))
 
-      pub slot-serves : noneWaits s ≡ false → outcome (served (chosen t s)) (tick t (serve t s)) ≡ slotted t s
-      unfolding slotted
-      slot-serves w = sym (passed _ _ _ (ap not k) ∙ passed _ _ _ (ne-eqb _ _ h) ∙ passed _ _ _ w)
+  module _ (h : s .slot ≡ lastSlot → ⊥) where
+    pub slot-idle : noneWaits s ≡ true → outcome idle (tick t s) ≡ slottedWithin t s
+    slot-idle w = sym (passed _ _ _ (ne-eqb _ _ h) ∙ picked _ _ _ w)
+
+    pub slot-serves : noneWaits s ≡ false → outcome (served (chosen t s)) (tick t (serve t s)) ≡ slottedWithin t s
+    slot-serves w = sym (passed _ _ _ (ne-eqb _ _ h) ∙ passed _ _ _ w)
 
 -- the start
 module _ (t : Tree) where

@@ -10,6 +10,7 @@
 -- Beginning            the start's answer and the state that it returns
 -- freshened t          the starting state, or 11, and then no state but zeros
 -- admit s a            "waiting and admitted rise by one"
+-- offeredWithin t s a  the offer of one transaction once configuration and state have passed: 7, 8, 9, or admitted
 -- offered t s a        the offer of one transaction: 11, 7, 8, 9 in this order, or admitted
 -- noneWaits s          nothing waits
 -- opens t n            slot n + 1 is in another window than slot n
@@ -18,6 +19,7 @@
 -- chosen t s           the accelerator to serve: "The choice begins at the root"
 -- takeOne s a          one transaction of accelerator a less waits
 -- serve t s            the state once the chosen accelerator's oldest transaction is served, before the slot count rises
+-- slottedWithin t s    one slot once configuration and state have passed: 10, or idle, or the accelerator served
 -- slotted t s          one slot: 11, 10 in this order, or idle, or the accelerator served
 use Prim.Native.Nat.{ℕ, suc, _+_, _-_}
 use mathlib.Core.Bool.{Bool, not}
@@ -88,13 +90,15 @@ admit s a =
       slot = s .slot;
     }
 
-unfoldable pub offered : Tree → State → ℕ → Outcome
-offered t s a =
-    pick (not (keeps t s)) (outcome (refused 11) s)
-    (pick (leb (t .accs) a) (outcome (refused 7) s)
+abbrev pub offeredWithin : Tree → State → ℕ → Outcome
+offeredWithin t s a =
+    pick (leb (t .accs) a) (outcome (refused 7) s)
     (pick (leb (limitOf t a) (outstandingOf s a)) (outcome (refused 8) s)
     (pick (leb (budgetOf t a) (admittedOf s a)) (outcome (refused 9) s)
-    (outcome admitted (admit s a)))))
+    (outcome admitted (admit s a))))
+
+unfoldable pub offered : Tree → State → ℕ → Outcome
+offered t s a = pick (not (keeps t s)) (outcome (refused 11) s) (offeredWithin t s a)
 
 abbrev pub noneWaits : State → Bool
 noneWaits s = all 32 (λ a. eqb (waitingOf s a) 0)
@@ -131,9 +135,11 @@ takeOne s a =
 abbrev pub serve : Tree → State → State
 serve t s = takeOne (after 4 t s 0) (chosen t s)
 
-unfoldable pub slotted : Tree → State → Outcome
-slotted t s =
-    pick (not (keeps t s)) (outcome (refused 11) s)
-    (pick (eqb (s .slot) lastSlot) (outcome (refused 10) s)
+abbrev pub slottedWithin : Tree → State → Outcome
+slottedWithin t s =
+    pick (eqb (s .slot) lastSlot) (outcome (refused 10) s)
     (pick (noneWaits s) (outcome idle (tick t s))
-    (outcome (served (chosen t s)) (tick t (serve t s)))))
+    (outcome (served (chosen t s)) (tick t (serve t s))))
+
+unfoldable pub slotted : Tree → State → Outcome
+slotted t s = pick (not (keeps t s)) (outcome (refused 11) s) (slottedWithin t s)

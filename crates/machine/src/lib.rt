@@ -17,7 +17,7 @@ use turns::less_one;
 ghost use mathlib.Core.Path.{_≡_};
 ghost use Prim.Native.Nat.{_<_, _≤_};
 ghost use Rattle.model.specs.Tree.{waitingOf, admittedOf};
-ghost use Rattle.machine.specs.Machine.{freshState, zeroState, freshened, admit, offered, noneWaits, tick, takeOne, lastSlot, slotted};
+ghost use Rattle.machine.specs.Machine.{freshState, zeroState, freshened, admit, offeredWithin, offered, noneWaits, tick, takeOne, lastSlot, slottedWithin, slotted};
 ghost use Rattle.machine.specs.Answers.{freshOutcome, offerOutcome, slotOutcome};
 
 pub enum FreshAnswer {
@@ -116,16 +116,10 @@ fn admitting(s: State, a: u8) -> State
     next
 }
 
-// The offer of one transaction of accelerator a.
-pub fn offer(t: Tree, s: State, a: u8) -> OfferReply
-    ensures { λ r. ⌜ offerOutcome r ≡ offered t s a ⌝ }
+// The offer of one transaction of accelerator a, for a caller that has checked configuration and state.
+pub fn offer_within(t: Tree, s: State, a: u8) -> OfferReply
+    ensures { λ r. ⌜ offerOutcome r ≡ offeredWithin t s a ⌝ }
 {
-    if !both_keep(t, s) {
-        return OfferReply {
-            answer: OfferAnswer::Refused(Refusal::Rules),
-            state: s,
-        };
-    }
     if t.accs <= a {
         return OfferReply {
             answer: OfferAnswer::Refused(Refusal::Unknown),
@@ -152,6 +146,19 @@ pub fn offer(t: Tree, s: State, a: u8) -> OfferReply
     }
 }
 
+// The offer of one transaction of accelerator a.
+pub fn offer(t: Tree, s: State, a: u8) -> OfferReply
+    ensures { λ r. ⌜ offerOutcome r ≡ offered t s a ⌝ }
+{
+    if !both_keep(t, s) {
+        return OfferReply {
+            answer: OfferAnswer::Refused(Refusal::Rules),
+            state: s,
+        };
+    }
+    offer_within(t, s, a)
+}
+
 fn none_waits(s: State) -> bool
     ensures { λ r. ⌜ r ≡ noneWaits s ⌝ }
 {
@@ -164,15 +171,19 @@ fn none_waits(s: State) -> bool
     ok
 }
 
-// The slot count rises by one, and where that opens a new window the admitted counts return to 0.
+// The slot count rises by one, and where that opens a new window the admitted counts return to 0. No window opens where a
+// configuration that breaks its rules has a window of 0.
 fn ticked(t: Tree, s: State) -> State
-    requires { ⌜ (0 < t .bus .window) × (s .slot < lastSlot) ⌝ }
+    requires { ⌜ s .slot < lastSlot ⌝ }
     ensures { λ r. ⌜ r ≡ tick t s ⌝ }
 {
     let mut next = s;
     let window = t.bus.window as u32;
     let slot = s.slot;
     next.slot = slot + 1;
+    if window == 0 {
+        return next;
+    }
     if (slot + 1) / window != slot / window {
         next.admitted = [0u16; 32];
     }
@@ -190,16 +201,10 @@ fn take_one(s: State, a: u8) -> State
     next
 }
 
-// One slot: serves the transaction whose turn it is, or is idle if none waits.
-pub fn slot(t: Tree, s: State) -> SlotReply
-    ensures { λ r. ⌜ slotOutcome r ≡ slotted t s ⌝ }
+// One slot, for a caller that has checked configuration and state.
+pub fn slot_within(t: Tree, s: State) -> SlotReply
+    ensures { λ r. ⌜ slotOutcome r ≡ slottedWithin t s ⌝ }
 {
-    if !both_keep(t, s) {
-        return SlotReply {
-            answer: SlotAnswer::Refused(Refusal::Rules),
-            state: s,
-        };
-    }
     if s.slot == 4294967295 {
         return SlotReply {
             answer: SlotAnswer::Refused(Refusal::LastSlot),
@@ -221,4 +226,17 @@ pub fn slot(t: Tree, s: State) -> SlotReply
         answer: SlotAnswer::Served(a),
         state: next,
     }
+}
+
+// One slot: serves the transaction whose turn it is, or is idle if none waits.
+pub fn slot(t: Tree, s: State) -> SlotReply
+    ensures { λ r. ⌜ slotOutcome r ≡ slotted t s ⌝ }
+{
+    if !both_keep(t, s) {
+        return SlotReply {
+            answer: SlotAnswer::Refused(Refusal::Rules),
+            state: s,
+        };
+    }
+    slot_within(t, s)
 }
