@@ -1,0 +1,123 @@
+-- The instances are computed from the definitions. That no run reaches a state is read off its slot: in slot 0 nothing has
+-- been served, so all that waits was admitted there.
+use Prim.Native.Nat.{ℕ, zero, suc}
+use mathlib.Core.Bool.{true}
+use mathlib.Core.List.{List, [], _∷_, _++_}
+use mathlib.Core.Path.{_≡_, refl, sym, _∙_, subst}
+use native.Mathlib.Omega.{arith}
+use Rattle.model.specs.declared.Tree.{Tree}
+use Rattle.model.specs.declared.State.{State}
+use Rattle.model.specs.Fold.{sum, all}
+use Rattle.model.specs.Tree.{above, waitingOf, admittedOf}
+use Rattle.model.specs.Beneath.{inside}
+use Rattle.model.specs.Rules.{treeKeeps, stateKeeps, sized, recordKeeps, turnKeeps, busKeeps, carries, rootPlaced, childPlaced, usedInterconnect, unusedInterconnect, usedAccelerator, unusedAccelerator, keeps}
+use Rattle.machine.specs.Turns.{who, after, turnPort, turnAllowance, seek, bitsBelow}
+use Rattle.machine.specs.Machine.{Answer, admitted, served, freshState, offered, slotted, tick}
+use Rattle.machine.specs.Calls.{Call, offer, slot, stateAfter}
+use Rattle.bounds.specs.Bounds.{othersAt, shareAlong}
+use Rattle.cases.specs.Trees.{chain}
+use Rattle.guarantee.specs.Guarantee.{Event, event, eventsOf, queueFrom, startingQueue, slotsIn, othersIn, admissionsFrom}
+use Rattle.guarantee.specs.Instances.{several, unreached, Sharp}
+use Rattle.guarantee.proofs.Walk.{Does, admits, declines, serves, idles, halts, Walk, stay, go, walked}
+
+-- offers that are admitted; slots that serve; slots that serve, each followed by an offer of the accelerator served
+abbrev taken : List Call → List Event
+taken [] = []
+taken (c ∷ cs) = event c admitted ∷ taken cs
+
+abbrev served-in : List ℕ → List Event
+served-in [] = []
+served-in (a ∷ xs) = event slot (served a) ∷ served-in xs
+
+abbrev serves-offers : List ℕ → List Event
+serves-offers [] = []
+serves-offers (a ∷ xs) = event slot (served a) ∷ event (offer a) admitted ∷ serves-offers xs
+
+-- a round, up to the slot that serves accelerator 3
+abbrev others : List Event
+others = serves-offers (0 ∷ 1 ∷ 0 ∷ 2 ∷ 0 ∷ 1 ∷ 0 ∷ [])
+
+abbrev rounds : ℕ → List Event
+rounds zero = others
+rounds (suc n) = others ++ event slot (served 3) ∷ rounds n
+
+-- in slot 0 all that waits was admitted there, from a state of which that holds
+abbrev Fresh : State → ℕ → Type 0
+Fresh s a = s .slot ≡ 0 → waitingOf s a ≡ admittedOf s a
+
+fresh-step : (t : Tree) (s m : State) (c : Call) (x : Answer) (a : ℕ) → Does t s c x m → Fresh s a → Fresh m a
+fresh-step t s m c x a (admits A) f e = omega (arith, A .waiting a, A .admitted a, f (sym (A .slot) ∙ e))
+fresh-step t s m c x a declines f e = f e
+fresh-step t s m c x a (serves v) f e = absurd (omega (arith, v .ticked .slot))
+fresh-step t s m c x a (idles i) f e = absurd (omega (arith, i .ticked .slot))
+fresh-step t s m c x a (halts q) f e = f e
+
+fresh-walk : {t : Tree} {s r : State} {es : List Event} (a : ℕ) → Walk t s es r → Fresh s a → Fresh r a
+fresh-walk a (stay k) f = f
+fresh-walk {t} {s} a (go {m = m} {e = v} k d w) f = fresh-walk a w (fresh-step t s m (v .call) (v .answer) a d f)
+
+no-run : keeps chain (freshState chain) ≡ true → (cs : List Call) → stateAfter chain (freshState chain) cs ≡ unreached → ⊥
+no-run k cs e =
+    let f = fresh-walk 0 (walked chain (freshState chain) cs k) (λ _. refl) in
+    let z : _≡_ {A = ℕ} 4 0 = subst (λ s. Fresh s 0) e f refl in
+    omega arith
+
+pub sharp : Sharp
+unfolding eventsOf stateAfter queueFrom startingQueue slotsIn othersIn admissionsFrom offered slotted tick who after turnPort turnAllowance seek bitsBelow treeKeeps stateKeeps sized recordKeeps turnKeeps busKeeps carries rootPlaced childPlaced usedInterconnect unusedInterconnect usedAccelerator unusedAccelerator inside above sum all othersAt shareAlong
+sharp = record {
+  none-before = record {
+    front = taken (several 4 (offer 0 ∷ []) ++ several 2 (offer 1 ∷ []) ++ offer 2 ∷ []);
+    mid = served-in (0 ∷ 1 ∷ 0 ∷ 2 ∷ 0 ∷ 1 ∷ 0 ∷ []);
+    rest = [];
+    others = [];
+    start = refl;
+    events = refl;
+    before = refl;
+    first = refl;
+    slots = refl;
+    granted = refl;
+    others-served = refl;
+  };
+  three-before = record {
+    front = taken
+        (several 4 (offer 0 ∷ []) ++ several 4 (offer 1 ∷ []) ++ several 4 (offer 2 ∷ []) ++ several 3 (offer 3 ∷ []));
+    mid = rounds 3;
+    rest = [];
+    others = [];
+    start = refl;
+    events = refl;
+    before = refl;
+    first = refl;
+    slots = refl;
+    granted = refl;
+    others-served = refl;
+  };
+  wide-turn = record {
+    front = event (offer 0) admitted ∷ event slot (served 0) ∷ taken (several 2 (offer 1 ∷ []));
+    mid = served-in (1 ∷ 1 ∷ []);
+    rest = [];
+    others = [];
+    start = refl;
+    events = refl;
+    before = refl;
+    first = refl;
+    slots = refl;
+    granted = refl;
+    others-served = refl;
+  };
+  second-window = record { start = refl; spent = refl; refusal = refl };
+  from-unreached = record {
+    front = [];
+    mid = rounds 1;
+    rest = [];
+    others = [];
+    start = refl;
+    events = refl;
+    before = refl;
+    first = refl;
+    slots = refl;
+    granted = refl;
+    others-served = refl;
+  };
+  never-reached = no-run refl;
+}

@@ -1,0 +1,245 @@
+-- Queues and tickets. A queue is as long as its accelerator's waiting count, and a ticket moves up only: each call leaves it
+-- its place, or serves the first, or serves it.
+--
+-- Stands x k q          ticket x is in the queue q behind k others, and not once more behind itself
+-- Goes                  what a call means to a ticket that stands behind k others: it is served now, or it waits on behind l
+--                       others, with the wait lowered by the slot and by the service of another
+use Prim.Native.Nat.{ℕ, zero, suc, _+_, _≤_, _<_}
+use mathlib.Core.Bool.{Bool, true, false}
+use mathlib.Core.List.{List, [], _∷_, _++_}
+use mathlib.Core.Path.{_≡_, refl, sym, _∙_, ap, ap₂, subst}
+use native.Mathlib.Decide.{ℕ-discrete}
+use native.Mathlib.Omega.{arith}
+use lib.ListN.{length, length-append}
+use lib.Dec.{eqb}
+use borrow.Author.Tests.{eq-eqb, ne-eqb}
+use Rattle.model.specs.declared.Tree.{Tree}
+use Rattle.model.specs.declared.State.{State}
+use Rattle.model.specs.Fold.{pick}
+use Rattle.model.specs.Tree.{path, waitingOf}
+use Rattle.model.specs.Rules.{keeps}
+use Rattle.model.proofs.Folds.{picked, passed}
+use Rattle.machine.specs.Machine.{Answer, admitted, served}
+use Rattle.machine.specs.Calls.{Call, offer, slot}
+use Rattle.machine.proofs.Cases.{sound-of, kept-of}
+use Rattle.guarantee.specs.Guarantee.{Event, event, Ticket, admittedBy, withoutFirst, callMoves, moved, queueFrom, startingQueue, slotCounts, slotsIn, servesOther, othersIn, Holds, here, there}
+use Rattle.guarantee.proofs.Path.{waitOf, wait-least, wait-same, wait-other, wait-own}
+use Rattle.guarantee.proofs.Walk.{Admission, Service, Does, admits, declines, serves, idles, halts, Walk, stay, go, walk-start}
+
+pub start-length : (n : ℕ) → length (startingQueue n) ≡ n
+unfolding startingQueue
+start-length zero = refl
+start-length (suc n) = length-append (startingQueue n) _ ∙ omega (arith, start-length n)
+
+pub queue-append : (a n : ℕ) (q : List Ticket) (xs ys : List Event)
+    → queueFrom a n q (xs ++ ys) ≡ queueFrom a (length xs + n) (queueFrom a n q xs) ys
+unfolding queueFrom
+queue-append a n q [] ys = ap (λ m. queueFrom a m q ys) {x = n} {y = 0 + n} (omega arith)
+queue-append a n q (e ∷ xs) ys =
+    queue-append a (suc n) (moved a n q e) xs ys
+    ∙ ap (λ m. queueFrom a m (queueFrom a (suc n) (moved a n q e) xs) ys) {x = length xs + suc n} {y = suc (length xs) + n}
+    (omega arith)
+
+-- one more last, where the test holds; the first less, where it holds
+longer : (c : Bool) (q : List Ticket) (x : Ticket) → length (pick c (q ++ x ∷ []) q) ≡ length q + pick c 1 0
+longer true q x = length-append q (x ∷ [])
+longer false q x = omega arith
+
+shorter : (c : Bool) (q : List Ticket) (n : ℕ) → length q ≡ n + pick c 1 0 → length (pick c (withoutFirst q) q) ≡ n
+shorter true [] n e = absurd (omega arith)
+shorter true (x ∷ q) n e = omega arith
+shorter false q n e = omega arith
+
+length-step : (t : Tree) (s m : State) (a n : ℕ) (q : List Ticket) (c : Call) (x : Answer) → Does t s c x m
+    → length q ≡ waitingOf s a → length (callMoves a n q x c) ≡ waitingOf m a
+length-step t s m a n q c x (admits {b = b} A) e = omega (arith, longer (eqb a b) q (admittedBy n), A .waiting a)
+length-step t s m a n q c x declines e = e
+length-step t s m a n q c x (serves {b = b} v) e = shorter (eqb a b) q (waitingOf m a) (e ∙ v .waiting a)
+length-step t s m a n q c x (idles i) e = e ∙ sym (i .waiting a)
+length-step t s m a n q c x (halts f) e = e
+
+pub queue-length : {t : Tree} {s r : State} {es : List Event} (a n : ℕ) (q : List Ticket) → Walk t s es r
+    → length q ≡ waitingOf s a → length (queueFrom a n q es) ≡ waitingOf r a
+unfolding queueFrom
+queue-length a n q (stay k) e = e
+queue-length {t} {s} a n q (go {m = m} {e = v} k d w) e =
+    queue-length a (suc n) (moved a n q v) w (length-step t s m a n q (v .call) (v .answer) d e)
+
+abbrev Absent : Ticket → List Ticket → Type 0
+Absent x q = Holds x q → ⊥
+
+pub data Stands (x : Ticket) : ℕ → List Ticket → Type 0 where
+  first : {q : List Ticket} → (Holds x q → ⊥) → Stands x 0 (x ∷ q)
+  behind : {y : Ticket} {q : List Ticket} {k : ℕ} → Stands x k q → Stands x (suc k) (y ∷ q)
+
+no-ticket : (x : Ticket) (q : List Ticket) → length q ≡ 0 → Absent x q
+no-ticket x q e here = omega arith
+no-ticket x q e (there h) = omega arith
+
+absent-nil : (x : Ticket) → Absent x []
+absent-nil x = no-ticket x [] refl
+
+pub stands-last : (x : Ticket) (q : List Ticket) → Stands x (length q) (q ++ x ∷ [])
+stands-last x [] = first (absent-nil x)
+stands-last x (y ∷ q) = behind (stands-last x q)
+
+stands-length : {x : Ticket} {k : ℕ} {q : List Ticket} → Stands x k q → k < length q
+stands-length (first f) = omega arith
+stands-length (behind h) = omega (arith, stands-length h)
+
+-- an admission later than the ticket's own
+absent-append : (j n : ℕ) → j < n → (q : List Ticket) → Absent (admittedBy j) q
+    → Absent (admittedBy j) (q ++ admittedBy n ∷ [])
+absent-append j n l [] f here = omega arith
+absent-append j n l [] f (there h) = absent-nil (admittedBy j) h
+absent-append j n l (y ∷ q) f here = f here
+absent-append j n l (y ∷ q) f (there h) = absent-append j n l q (λ g. f (there g)) h
+
+stands-append : (j n : ℕ) → j < n → {k : ℕ} {q : List Ticket} → Stands (admittedBy j) k q
+    → Stands (admittedBy j) k (q ++ admittedBy n ∷ [])
+stands-append j n l (first {q = q} f) = first (absent-append j n l q f)
+stands-append j n l (behind h) = behind (stands-append j n l h)
+
+absent-without : (x : Ticket) (q : List Ticket) → Absent x q → Absent x (withoutFirst q)
+absent-without x [] f h = f h
+absent-without x (y ∷ q) f h = f (there h)
+
+-- where the test holds
+test : {A : Type 0} (P : A → Type 0) (c : Bool) {x y : A} → P x → P y → P (pick c x y)
+test P true f g = f
+test P false f g = g
+
+absent-step : (t : Tree) (s m : State) (a j n : ℕ) → j < n → (q : List Ticket) (c : Call) (x : Answer) → Does t s c x m
+    → Absent (admittedBy j) q → Absent (admittedBy j) (callMoves a n q x c)
+absent-step t s m a j n l q c x (admits {b = b} A) f =
+    test (Absent (admittedBy j)) (eqb a b) (absent-append j n l q f) f
+absent-step t s m a j n l q c x declines f = f
+absent-step t s m a j n l q c x (serves {b = b} v) f =
+    test (Absent (admittedBy j)) (eqb a b) (absent-without (admittedBy j) q f) f
+absent-step t s m a j n l q c x (idles i) f = f
+absent-step t s m a j n l q c x (halts e) f = f
+
+-- a ticket that has been served does not come back
+gone : {t : Tree} {s r : State} {es : List Event} (a j n : ℕ) → j < n → (q : List Ticket) → Walk t s es r
+    → Absent (admittedBy j) q → Absent (admittedBy j) (queueFrom a n q es)
+unfolding queueFrom
+gone a j n l q (stay k) f = f
+gone {t} {s} a j n l q (go {m = m} {e = v} k d w) f =
+    gone a j (suc n) (omega arith) (moved a n q v) w (absent-step t s m a j n l q (v .call) (v .answer) d f)
+
+pub data Goes (t : Tree) (s m : State) (a j k : ℕ) (q : List Ticket) (c : Call) (x : Answer) (r : List Ticket) : Type 0 where
+  served-now : c ≡ slot → x ≡ served a → (others : List Ticket) → q ≡ admittedBy j ∷ others → Absent (admittedBy j) r
+      → Goes t s m a j k q c x r
+  waits-on : (l : ℕ) → Stands (admittedBy j) l r → slotCounts x c + waitOf t m a (suc l) ≤ waitOf t s a (suc k)
+      → servesOther a x + k + waitOf t m a (suc l) ≤ waitOf t s a (suc k) + l → Goes t s m a j k q c x r
+
+module _ (t : Tree) (s : State) (K : keeps t s ≡ true) (a j : ℕ) (la : a < t .accs) where
+  -- an admission: turns stay, and so does the wait
+  admission : (m : State) (b n k : ℕ) → j < n → (q : List Ticket) → Admission t s b m → Stands (admittedBy j) k q
+      → Goes t s m a j k q (offer b) admitted (pick (eqb a b) (q ++ admittedBy n ∷ []) q)
+  admission m b n k l q A h =
+      waits-on k (test (Stands (admittedBy j) k) (eqb a b) (stands-append j n l h) h) (omega (arith, same))
+      (omega (arith, same))
+    where
+      same : waitOf t m a (suc k) ≡ waitOf t s a (suc k)
+      same = wait-same t s m (A .turns) (path t a) (suc k)
+
+  module _ (m : State) (L : keeps t m ≡ true) where
+    -- a service of its own accelerator: the first's, be it this ticket or not
+    own : (k : ℕ) (q : List Ticket) → Stands (admittedBy j) k q → Service t s a m
+        → Goes t s m a j k q slot (served a) (withoutFirst q)
+    own k q (first {q = others} f) v = served-now refl refl others refl f
+    own k q (behind {k = l} h) v =
+        waits-on l h (omega (arith, lower)) (omega (arith, lower, picked {A = ℕ} (eqb a a) 0 1 (eq-eqb a a refl)))
+      where
+        lower : waitOf t m a (suc l) + 1 ≤ waitOf t s a (suc (suc l))
+        lower = wait-own t (sound-of t s K) s m (kept-of t s K) (kept-of t m L) a la (v .on) (v .off) (suc l)
+
+    -- a service of another
+    other : (b k : ℕ) (q : List Ticket) → (b ≡ a → ⊥) → 0 < waitingOf s a → Stands (admittedBy j) k q → Service t s b m
+        → Goes t s m a j k q slot (served b) q
+    other b k q d w h v =
+        waits-on k h (omega (arith, lower))
+        (omega (arith, lower, passed {A = ℕ} (eqb a b) 0 1 (ne-eqb a b (λ e. d (sym e)))))
+      where
+        lower : waitOf t m a (suc k) + 1 ≤ waitOf t s a (suc k)
+        lower = wait-other t (sound-of t s K) s m (kept-of t s K) (kept-of t m L) b (v .acc) (v .on) (v .off) a la w d
+            (suc k) (omega arith)
+
+    service : (b k : ℕ) (q : List Ticket) → 0 < waitingOf s a → Stands (admittedBy j) k q → Service t s b m
+        → Goes t s m a j k q slot (served b) (pick (eqb a b) (withoutFirst q) q)
+    service b k q w h v = elim (ℕ-discrete a b) [
+      | yes e ↦ subst (Goes t s m a j k q slot (served b)) (sym (picked _ _ _ (eq-eqb a b e)))
+          (subst (λ x. Service t s x m → Goes t s m a j k q slot (served x) (withoutFirst q)) e (own k q h) v)
+      | no d ↦ subst (Goes t s m a j k q slot (served b)) (sym (passed _ _ _ (ne-eqb a b d)))
+          (other b k q (λ e. d (sym e)) w h v)
+    ]
+
+  goes : (m : State) → keeps t m ≡ true → (n k : ℕ) → j < n → (q : List Ticket) (c : Call) (x : Answer) → Does t s c x m
+      → Stands (admittedBy j) k q → length q ≡ waitingOf s a → Goes t s m a j k q c x (callMoves a n q x c)
+  goes m L n k l q c x (admits {b = b} A) h e = admission m b n k l q A h
+  goes m L n k l q c x declines h e = waits-on k h (omega arith) (omega arith)
+  goes m L n k l q c x (serves {b = b} v) h e = service m L b k q (omega (arith, stands-length h)) h v
+  goes m L n k l q c x (idles i) h e = absurd (omega (arith, i .none a, stands-length h))
+  goes m L n k l q c x (halts f) h e = waits-on k h (omega arith) (omega arith)
+
+-- the ticket is served within w slots of the events es that are not refused
+pub record Timely (a j n : ℕ) (q : List Ticket) (es : List Event) (w : ℕ) : Type 0 where
+  pub mid : List Event
+  pub rest : List Event
+  pub ending : es ≡ mid ++ event slot (served a) ∷ rest
+  pub others : List Ticket
+  pub first : queueFrom a n q mid ≡ admittedBy j ∷ others
+  pub within : slotsIn mid + 1 ≤ w
+
+pub timely : {t : Tree} {s r : State} {es : List Event} (a j n k : ℕ) → a < t .accs → j < n → (q : List Ticket)
+    → Walk t s es r → Stands (admittedBy j) k q → length q ≡ waitingOf s a → waitOf t s a (suc k) ≤ slotsIn es
+    → Timely a j n q es (waitOf t s a (suc k))
+unfolding queueFrom slotsIn
+timely {t} {s} a j n k la l q (stay K) h e b = absurd (omega (arith, wait-least t s (path t a) (suc k)))
+timely {t} {s} a j n k la l q (go {m = m} {e = v} {es = es} K d w) h e b =
+    next (goes t s K a j la m (walk-start w) n k l q (v .call) (v .answer) d h e)
+    (λ i g f. timely a j (suc n) i la (omega arith) (moved a n q v) w g
+    (length-step t s m a n q (v .call) (v .answer) d e) f)
+  where
+    next : Goes t s m a j k q (v .call) (v .answer) (moved a n q v)
+        → ((i : ℕ) → Stands (admittedBy j) i (moved a n q v) → waitOf t m a (suc i) ≤ slotsIn es
+        → Timely a j (suc n) (moved a n q v) es (waitOf t m a (suc i)))
+        → Timely a j n q (v ∷ es) (waitOf t s a (suc k))
+    next (served-now f g others p z) later = record {
+      mid = [];
+      rest = es;
+      ending = ap₂ (λ c x. event c x ∷ es) f g;
+      others = others;
+      first = p;
+      within = omega (arith, wait-least t s (path t a) (suc k));
+    }
+    next (waits-on i g f z) later =
+        let u = later i g (omega arith) in
+        record {
+          mid = v ∷ u .mid;
+          rest = u .rest;
+          ending = ap (λ l. v ∷ l) (u .ending);
+          others = u .others;
+          first = u .first;
+          within = omega (arith, u .within);
+        }
+
+-- up to its service few others are served: each lowers the wait, and so does each of its own before it
+pub few : {t : Tree} {s r : State} {es : List Event} (a j n k : ℕ) → a < t .accs → j < n → (q : List Ticket)
+    → Walk t s es r → Stands (admittedBy j) k q → length q ≡ waitingOf s a → Holds (admittedBy j) (queueFrom a n q es)
+    → othersIn a es + suc k ≤ waitOf t s a (suc k)
+unfolding queueFrom othersIn
+few {t} {s} a j n k la l q (stay K) h e b = omega (arith, wait-least t s (path t a) (suc k))
+few {t} {s} a j n k la l q (go {m = m} {e = v} {es = es} K d w) h e b =
+    next (goes t s K a j la m (walk-start w) n k l q (v .call) (v .answer) d h e)
+    (λ i g. few a j (suc n) i la (omega arith) (moved a n q v) w g
+    (length-step t s m a n q (v .call) (v .answer) d e) b)
+    (λ f. gone a j (suc n) (omega arith) (moved a n q v) w f b)
+  where
+    next : Goes t s m a j k q (v .call) (v .answer) (moved a n q v)
+        → ((i : ℕ) → Stands (admittedBy j) i (moved a n q v) → othersIn a es + suc i ≤ waitOf t m a (suc i))
+        → (Absent (admittedBy j) (moved a n q v) → ⊥)
+        → servesOther a (v .answer) + othersIn a es + suc k ≤ waitOf t s a (suc k)
+    next (served-now f g others p z) later never = absurd (never z)
+    next (waits-on i g f z) later never = omega (arith, later i g)

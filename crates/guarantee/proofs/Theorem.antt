@@ -1,0 +1,153 @@
+-- Demand 3. The list is a walk by states that keep their rules; at an admission the ticket stands last, its wait is at most
+-- (k + 1) times the share, and each slot while it stands there takes one off.
+use Prim.Native.Nat.{ℕ, suc, _+_, _*_, _≤_, _<_}
+use mathlib.Core.Bool.{true}
+use mathlib.Core.List.{List, [], _∷_, _++_}
+use mathlib.Core.Path.{_≡_, refl, _∙_, ap, subst}
+use native.Mathlib.Nat.{mul-sub, mul-one}
+use native.Mathlib.Omega.{arith}
+use lib.ListN.{length, length-append}
+use lib.Dec.{eqb}
+use borrow.Author.Tests.{eq-eqb}
+use Rattle.model.specs.declared.Tree.{Tree}
+use Rattle.model.specs.declared.State.{State}
+use Rattle.model.specs.Fold.{pick}
+use Rattle.model.specs.Tree.{waitingOf}
+use Rattle.model.specs.Rules.{keeps}
+use Rattle.model.proofs.Folds.{picked}
+use Rattle.machine.specs.Machine.{admitted, served, idle, refused}
+use Rattle.machine.specs.Calls.{Call, offer, slot, step, stateAfter}
+use Rattle.machine.proofs.Cases.{sound-of, kept-of}
+use Rattle.bounds.specs.Bounds.{shareOf}
+use Rattle.guarantee.specs.Guarantee.{Event, event, eventsOf, Ticket, admittedBy, queueFrom, startingQueue, queueAfter, slotsIn, othersIn, upTo, Holds, StillWaits, Guarantee}
+use Rattle.guarantee.proofs.Path.{waitOf, wait-most}
+use Rattle.guarantee.proofs.Walk.{Does, admits, serves, idles, halts, Walk, go, walked, walk-start, Parts, parts, step-keeps}
+use Rattle.guarantee.proofs.Queue.{start-length, queue-append, queue-length, stands-last, Timely, timely, few}
+use Rattle.guarantee.proofs.Budget.{within}
+
+keeps-after : (t : Tree) (s : State) (front back cs : List Call) → keeps t s ≡ true → cs ≡ front ++ back
+    → keeps t (stateAfter t s front) ≡ true
+unfolding stateAfter
+keeps-after t s [] back cs k e = k
+keeps-after t s (c ∷ front) back cs k e = keeps-after t (step t s c .state) front back (front ++ back) (step-keeps t s k c) refl
+
+-- what a slot's answer says of its state
+refused-by-10 : {t : Tree} {s m : State} {n : ℕ} → Does t s slot (refused n) m → n ≡ 10
+refused-by-10 (halts e) = e
+
+serves-some : {t : Tree} {s m : State} {a : ℕ} → Does t s slot (served a) m → 0 < waitingOf s a
+serves-some (serves v) = v .waited
+
+idle-none : {t : Tree} {s m : State} → Does t s slot idle m → (a : ℕ) → waitingOf s a ≡ 0
+idle-none (idles i) = i .none
+
+admitted-one : {t : Tree} {s m : State} {a : ℕ} → Does t s (offer a) admitted m
+    → (a < t .accs) × (waitingOf m a ≡ waitingOf s a + 1)
+admitted-one {a = a} (admits A) =
+    (A .acc, omega (arith, A .waiting a, picked {A = ℕ} (eqb a a) 1 0 (eq-eqb a a refl)))
+
+empty : (q : List Ticket) → length q ≡ 0 → q ≡ []
+empty [] e = refl
+empty (x ∷ q) e = absurd (omega arith)
+
+module _ (t : Tree) (s : State) (cs : List Call) (k : keeps t s ≡ true) where
+  -- the walk comes to an event
+  record Comes (front : List Event) (e : Event) (back : List Event) : Type 0 where
+    state : State
+    next : State
+    before : Walk t s front state
+    does : Does t state (e .call) (e .answer) next
+    after : Walk t next back (stateAfter t s cs)
+
+  comes : (front back : List Event) (e : Event) → eventsOf t s cs ≡ front ++ e ∷ back → Comes front e back
+  comes front back e f = go-on (p .state) (p .before) (p .after)
+    where
+      p : Parts t s front (e ∷ back) (stateAfter t s cs)
+      p = parts front (e ∷ back) (subst (λ es. Walk t s es (stateAfter t s cs)) f (walked t s cs k))
+
+      go-on : (m : State) → Walk t s front m → Walk t m (e ∷ back) (stateAfter t s cs) → Comes front e back
+      go-on m b (go {m = r} l d w) = record { state = m; next = r; before = b; does = d; after = w }
+
+  -- a queue is as long as the waiting count
+  queue-waits : (front : List Event) {r : State} (a : ℕ) → Walk t s front r
+      → length (queueAfter s a front) ≡ waitingOf r a
+  queue-waits front a w = queue-length a 0 (startingQueue (waitingOf s a)) w (start-length (waitingOf s a))
+
+  module _ (front back : List Event) (a : ℕ) (e : eventsOf t s cs ≡ upTo a front back) where
+    at : Comes front (event (offer a) admitted) back
+    at = comes front back (event (offer a) admitted) e
+
+    one : (a < t .accs) × (waitingOf (at .next) a ≡ waitingOf (at .state) a + 1)
+    one = admitted-one (at .does)
+
+    -- the queue once the ticket has been put last
+    abbrev with-ticket : List Ticket
+    with-ticket = queueAfter s a front ++ admittedBy (length front) ∷ []
+
+    with-length : length with-ticket ≡ waitingOf (at .next) a
+    with-length = length-append (queueAfter s a front) _ ∙ omega (arith, queue-waits front a (at .before), one)
+
+    following : (mid : List Event)
+        → queueAfter s a (upTo a front mid) ≡ queueFrom a (suc (length front)) with-ticket mid
+    unfolding queueFrom
+    following mid =
+        queue-append a 0 (startingQueue (waitingOf s a)) front (event (offer a) admitted ∷ mid)
+        ∙ ap (λ n. queueFrom a (suc n) (pick (eqb a a) (queueAfter s a front ++ admittedBy n ∷ []) (queueAfter s a front)) mid)
+        {x = length front + 0} {y = length front} (omega arith)
+        ∙ ap (λ q. queueFrom a (suc (length front)) q mid) (picked (eqb a a) with-ticket (queueAfter s a front) (eq-eqb a a refl))
+
+    -- how long the ticket waits at most, and that this is at most (k + 1) times the share
+    abbrev ticket-wait : ℕ
+    ticket-wait = waitOf t (at .next) a (suc (length (queueAfter s a front)))
+
+    ticket-share : ticket-wait ≤ suc (length (queueAfter s a front)) * shareOf t a
+    ticket-share =
+        let l = walk-start (at .after) in
+        wait-most t (sound-of t (at .next) l) (at .next) (kept-of t (at .next) l) a _ (one .0)
+
+    ticket-timely : ticket-wait ≤ slotsIn back
+        → Timely a (length front) (suc (length front)) with-ticket back ticket-wait
+    ticket-timely h =
+        timely a (length front) (suc (length front)) (length (queueAfter s a front)) (one .0) (omega arith) with-ticket
+        (at .after) (stands-last _ (queueAfter s a front)) with-length h
+
+    ticket-few : (mid rest : List Event) → back ≡ mid ++ rest → StillWaits s a front mid
+        → othersIn a mid + suc (length (queueAfter s a front)) ≤ ticket-wait
+    ticket-few mid rest f h =
+        let p = parts mid rest (subst (λ es. Walk t (at .next) es (stateAfter t s cs)) f (at .after)) in
+        few a (length front) (suc (length front)) (length (queueAfter s a front)) (one .0) (omega arith) with-ticket
+        (p .before) (stands-last _ (queueAfter s a front)) with-length
+        (subst (Holds (admittedBy (length front))) (following mid) h)
+
+pub guarantee : (t : Tree) (s : State) (cs : List Call) → keeps t s ≡ true → Guarantee t s cs
+guarantee t s cs k = record {
+  every-state-keeps = λ front back e. keeps-after t s front back cs k e;
+  slot-refused-by-10 = λ front back n e. refused-by-10 (comes t s cs k front back _ e .does);
+  first-is-there = λ front back a e.
+      let p = comes t s cs k front back _ e in
+      omega (arith, queue-waits t s cs k front a (p .before), serves-some (p .does));
+  idle-finds-none = λ front back e a la.
+      let p = comes t s cs k front back _ e in
+      empty _ (queue-waits t s cs k front a (p .before) ∙ idle-none (p .does) a);
+  in-time = λ front back a e h.
+      let b = ticket-share t s cs k front back a e in
+      let u = ticket-timely t s cs k front back a e (omega arith) in
+      record {
+        mid = u .mid;
+        rest = u .rest;
+        ending = u .ending;
+        others = u .others;
+        first = following t s cs k front back a e (u .mid) ∙ u .first;
+        within = omega (arith, u .within);
+      };
+  few-others = λ front back a e mid rest f h.
+      let n = suc (length (queueAfter s a front)) in
+      omega (
+        arith,
+        ticket-few t s cs k front back a e mid rest f h,
+        ticket-share t s cs k front back a e,
+        mul-sub n (shareOf t a) 1,
+        mul-one n,
+      );
+  within-budget = λ a w la. omega (arith, within a w la (walked t s cs k));
+}

@@ -1,0 +1,160 @@
+-- What a call does, by its answer, and a list of calls as a walk from state to state. Every law of the list is read off the
+-- walk, call by call, and never off the machine's definitions again.
+--
+-- Does t s c x r        the call c, which answers x, goes from state s to state r
+-- Walk t s es r         the events es go from state s to state r, by states that keep their rules
+use Prim.Native.Nat.{ℕ, _+_, _<_}
+use mathlib.Core.Bool.{true}
+use mathlib.Core.List.{List, [], _∷_, _++_}
+use mathlib.Core.Path.{_≡_, refl, sym, ap, subst}
+use native.Mathlib.Decide.{ℕ-discrete}
+use native.Mathlib.Omega.{arith}
+use lib.ListN.{getD}
+use Rattle.model.specs.declared.Tree.{Tree}
+use Rattle.model.specs.declared.State.{State}
+use Rattle.model.specs.Tree.{path, waitingOf, admittedOf}
+use Rattle.model.specs.Rules.{keeps}
+use Rattle.model.proofs.Beneath.{On, only, only-same, only-other}
+use Rattle.machine.specs.Machine.{Answer, Outcome, admitted, served, idle, refused, offered, slotted, chosen}
+use Rattle.machine.specs.Calls.{Call, offer, slot, step, stateAfter}
+use Rattle.machine.proofs.Choice.{Turned, Unturned}
+use Rattle.machine.proofs.Cases.{Offered, offer-cases, Slotted, slot-cases}
+use Rattle.machine.proofs.Laws.{offer-keeps, offer-admits, offer-others, Served, Ticked, slot-keeps, slot-only-last, slot-serves, slot-on-path, slot-off-path, slot-idle-turns, slot-windows}
+use Rattle.guarantee.specs.Guarantee.{Event, eventsOf}
+
+-- a transaction of b is admitted
+pub record Admission (t : Tree) (s : State) (b : ℕ) (r : State) : Type 0 where
+  pub acc : b < t .accs
+  pub waiting : (a : ℕ) → waitingOf r a ≡ waitingOf s a + only a b
+  pub admitted : (a : ℕ) → admittedOf r a ≡ admittedOf s a + only a b
+  pub turns : (i : ℕ) → Unturned s r i
+  pub slot : r .slot ≡ s .slot
+
+-- a transaction of b is served
+pub record Service (t : Tree) (s : State) (b : ℕ) (r : State) : Type 0 where
+  pub acc : b < t .accs
+  pub waited : 0 < waitingOf s b
+  pub waiting : (a : ℕ) → waitingOf s a ≡ waitingOf r a + only a b
+  pub on : (i p : ℕ) → On i p (path t b) → Turned t s r i p
+  pub off : (i : ℕ) → ((p : ℕ) → On i p (path t b) → ⊥) → Unturned s r i
+  pub ticked : Ticked t s r
+
+-- nothing waits
+pub record Idle (t : Tree) (s r : State) : Type 0 where
+  pub none : (a : ℕ) → waitingOf s a ≡ 0
+  pub waiting : (a : ℕ) → waitingOf r a ≡ waitingOf s a
+  pub turns : (i : ℕ) → Unturned s r i
+  pub ticked : Ticked t s r
+
+pub data Does (t : Tree) (s : State) : Call → Answer → State → Type 0 where
+  admits : {b : ℕ} {r : State} → Admission t s b r → Does t s (offer b) admitted r
+  declines : {b n : ℕ} → Does t s (offer b) (refused n) s
+  serves : {b : ℕ} {r : State} → Service t s b r → Does t s slot (served b) r
+  idles : {r : State} → Idle t s r → Does t s slot idle r
+  halts : {n : ℕ} → n ≡ 10 → Does t s slot (refused n) s
+
+abbrev answerOf : Outcome → Answer
+answerOf o = o .answer
+
+abbrev stateOf : Outcome → State
+stateOf o = o .state
+
+module _ (t : Tree) (s : State) (k : keeps t s ≡ true) where
+  admission : (b : ℕ) → offered t s b .answer ≡ admitted → b < t .accs → Admission t s b (offered t s b .state)
+  admission b e l = record {
+    acc = l;
+    waiting = λ a. elim (ℕ-discrete a b) [
+      | yes q ↦ subst (λ x. waitingOf (offered t s b .state) x ≡ waitingOf s x + only x b) (sym q)
+          (omega (arith, only-same b b refl, offer-admits t s b k e))
+      | no d ↦ omega (arith, only-other a b d, offer-others t s b .waiting a d)
+    ];
+    admitted = λ a. elim (ℕ-discrete a b) [
+      | yes q ↦ subst (λ x. admittedOf (offered t s b .state) x ≡ admittedOf s x + only x b) (sym q)
+          (omega (arith, only-same b b refl, offer-admits t s b k e))
+      | no d ↦ omega (arith, only-other a b d, offer-others t s b .admitted a d)
+    ];
+    turns = λ i. record {
+      last = ap (λ l. getD l i 0) (offer-others t s b .last);
+      allowance = ap (λ l. getD l i 0) (offer-others t s b .allowance);
+    };
+    slot = offer-others t s b .slot;
+  }
+
+  offer-does : (b : ℕ) → Does t s (offer b) (offered t s b .answer) (offered t s b .state)
+  offer-does b = go (offered t s b) (offer-cases t s b) refl
+    where
+      go : (o : Outcome) → Offered t s b o → offered t s b ≡ o → Does t s (offer b) (o .answer) (o .state)
+      go o (Offered.refuses w) e = declines
+      go o (Offered.admits l h m) e =
+          subst (Does t s (offer b) admitted) (ap stateOf e) (admits (admission b (ap answerOf e) l))
+
+  serving : (b : ℕ) → slotted t s .answer ≡ served b → Service t s b (slotted t s .state)
+  serving b e = record {
+    acc = v .acc;
+    waited = v .waited;
+    waiting = λ a. elim (ℕ-discrete a b) [
+      | yes q ↦ subst (λ x. waitingOf s x ≡ waitingOf (slotted t s .state) x + only x b) (sym q)
+          (omega (arith, only-same b b refl, v .own))
+      | no d ↦ omega (arith, only-other a b d, v .others a d)
+    ];
+    on = slot-on-path t s k b e;
+    off = slot-off-path t s k b e;
+    ticked = slot-windows t s (λ n f. let z : _≡_ {A = ℕ} 0 1 = cc in omega arith);
+  }
+    where
+      v : Served t s b (slotted t s .state)
+      v = slot-serves t s k b e
+
+  idling : slotted t s .answer ≡ idle → ((a : ℕ) → waitingOf s a ≡ 0) → Idle t s (slotted t s .state)
+  idling e z =
+      let h = slot-idle-turns t s e in
+      record {
+        none = z;
+        waiting = λ a. ap (λ l. getD l a 0) (h .0);
+        turns = λ i. record { last = ap (λ l. getD l i 0) (h .1); allowance = ap (λ l. getD l i 0) (h .2) };
+        ticked = slot-windows t s (λ n f. let z : _≡_ {A = ℕ} 0 1 = cc in omega arith);
+      }
+
+  slot-does : Does t s slot (slotted t s .answer) (slotted t s .state)
+  slot-does = go (slotted t s) (slot-cases t s) refl
+    where
+      go : (o : Outcome) → Slotted t s o → slotted t s ≡ o → Does t s slot (o .answer) (o .state)
+      go o (Slotted.stops w) e = halts (slot-only-last t s k _ (ap answerOf e) .0)
+      go o (Slotted.idles _ d z) e = subst (Does t s slot idle) (ap stateOf e) (idles (idling (ap answerOf e) z))
+      go o (Slotted.serves _ d w) e =
+          subst (Does t s slot (served (chosen t s))) (ap stateOf e) (serves (serving (chosen t s) (ap answerOf e)))
+
+  does : (c : Call) → Does t s c (step t s c .answer) (step t s c .state)
+  does (offer b) = offer-does b
+  does slot = slot-does
+
+  pub step-keeps : (c : Call) → keeps t (step t s c .state) ≡ true
+  step-keeps (offer b) = offer-keeps t s b k
+  step-keeps slot = slot-keeps t s k
+
+pub data Walk (t : Tree) : State → List Event → State → Type 0 where
+  stay : {s : State} → keeps t s ≡ true → Walk t s [] s
+  go : {s m r : State} {e : Event} {es : List Event} → keeps t s ≡ true → Does t s (e .call) (e .answer) m → Walk t m es r
+      → Walk t s (e ∷ es) r
+
+pub walked : (t : Tree) (s : State) (cs : List Call) → keeps t s ≡ true
+    → Walk t s (eventsOf t s cs) (stateAfter t s cs)
+unfolding eventsOf stateAfter
+walked t s [] k = stay k
+walked t s (c ∷ cs) k = go k (does t s k c) (walked t (step t s c .state) cs (step-keeps t s k c))
+
+pub walk-start : {t : Tree} {s r : State} {es : List Event} → Walk t s es r → keeps t s ≡ true
+walk-start (stay k) = k
+walk-start (go k d w) = k
+
+-- a walk of two lists of events, one after the other
+pub record Parts (t : Tree) (s : State) (front back : List Event) (r : State) : Type 0 where
+  pub state : State
+  pub before : Walk t s front state
+  pub after : Walk t state back r
+
+pub parts : {t : Tree} {s r : State} (front back : List Event) → Walk t s (front ++ back) r → Parts t s front back r
+parts [] back w = record { state = _; before = stay (walk-start w); after = w }
+parts (e ∷ front) back (go k d w) =
+    let h = parts front back w in
+    record { state = h .state; before = go k d (h .before); after = h .after }

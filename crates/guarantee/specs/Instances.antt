@@ -1,0 +1,117 @@
+-- Lists of calls that show that demand 3 is neither empty nor slack.
+--
+-- MetExactly t s cs a k n   in the list cs from state s a transaction of accelerator a is admitted with k of its own
+--                       waiting before it and served in the n-th slot from there, the very last that demand 3 grants it;
+--                       up to then as many transactions of others are served as demand 3 allows
+-- SpentIn t s cs a w    in the list cs from state s accelerator a is admitted in window w exactly its budget, and the next
+--                       offer is refused by 9
+-- several n cs          the calls cs, n times
+-- chainOf b             the tree of document 01's case 1, each budget b
+-- caseTwo               the calls of case 2: "4, 2, 1, 1 offered at slot 0", and eight slots
+-- round                 eight slots, each but the last followed by an offer of the accelerator that it serves
+-- keptFull              four offers of each accelerator, then four rounds: accelerators 0, 1 and 2 are full before each slot
+-- wide                  accelerator 0, phi 1, at the root, g 2, beside an interconnect, g 1, with one accelerator, phi 2
+-- wideTurn              accelerator 0 is served; then two offers of accelerator 1, one of accelerator 0, and three slots
+-- twoWindows            two offers of accelerator 0 in each of two windows of four slots
+-- unreached             a state of `chain`: accelerators 0, 1 and 2 full and one of 3 waiting, none of them admitted, no slot
+--                       passed, and a turn of port 0 running at each interconnect
+-- fromUnreached         an offer of accelerator 3, then two rounds
+-- Sharp                 the instances
+use Prim.Native.Nat.{ℕ, zero, suc, _+_, _-_, _*_}
+use mathlib.Core.Bool.{true}
+use mathlib.Core.List.{List, [], _∷_, _++_}
+use mathlib.Core.Path.{_≡_}
+use lib.ListN.{length, replicate}
+use Rattle.model.specs.declared.Tree.{Tree}
+use Rattle.model.specs.declared.State.{State}
+use Rattle.model.specs.declared.Port.the-variants.{Empty, Acc, Int}
+use Rattle.model.specs.Tree.{budgetOf}
+use Rattle.model.specs.Rules.{keeps}
+use Rattle.machine.specs.Machine.{served, refused, freshState}
+use Rattle.machine.specs.Calls.{Call, offer, slot, step, stateAfter}
+use Rattle.bounds.specs.Bounds.{shareOf}
+use Rattle.cases.specs.Trees.{ports, interconnect, block, tree, chain, pair}
+use Rattle.guarantee.specs.Guarantee.{Event, event, eventsOf, Ticket, admittedBy, queueAfter, slotsIn, othersIn, admissionsIn, upTo}
+
+pub record MetExactly (t : Tree) (s : State) (cs : List Call) (a k n : ℕ) : Type 0 where
+  pub front : List Event
+  pub mid : List Event
+  pub rest : List Event
+  pub others : List Ticket
+  pub start : keeps t s ≡ true
+  pub events : eventsOf t s cs ≡ upTo a front (mid ++ event slot (served a) ∷ rest)
+  pub before : length (queueAfter s a front) ≡ k
+  pub first : queueAfter s a (upTo a front mid) ≡ admittedBy (length front) ∷ others
+  pub slots : slotsIn mid + 1 ≡ n
+  pub granted : n ≡ suc k * shareOf t a
+  pub others-served : othersIn a mid ≡ suc k * (shareOf t a - 1)
+
+pub record SpentIn (t : Tree) (s : State) (cs : List Call) (a w : ℕ) : Type 0 where
+  pub start : keeps t s ≡ true
+  pub spent : admissionsIn t s a w (eventsOf t s cs) ≡ budgetOf t a
+  pub refusal : step t (stateAfter t s cs) (offer a) .answer ≡ refused 9
+
+abbrev pub several : ℕ → List Call → List Call
+several zero cs = []
+several (suc n) cs = cs ++ several n cs
+
+abbrev pub chainOf : ℕ → Tree
+chainOf b =
+    tree 16
+    (interconnect 0 0 1 (ports (Acc 0) (Int 1))
+    ∷ interconnect 0 1 1 (ports (Acc 1) (Int 2))
+    ∷ interconnect 1 1 1 (ports (Acc 2) (Acc 3))
+    ∷ [])
+    (block 0 0 4 b ∷ block 1 0 4 b ∷ block 2 0 4 b ∷ block 2 1 4 b ∷ [])
+
+abbrev pub caseTwo : List Call
+caseTwo =
+    several 4 (offer 0 ∷ []) ++ several 2 (offer 1 ∷ []) ++ offer 2 ∷ offer 3 ∷ several 8 (slot ∷ [])
+
+abbrev pub round : List Call
+round =
+    slot ∷ offer 0 ∷ slot ∷ offer 1 ∷ slot ∷ offer 0 ∷ slot ∷ offer 2
+    ∷ slot ∷ offer 0 ∷ slot ∷ offer 1 ∷ slot ∷ offer 0 ∷ slot ∷ []
+
+abbrev pub keptFull : List Call
+keptFull =
+    several 4 (offer 0 ∷ []) ++ several 4 (offer 1 ∷ []) ++ several 4 (offer 2 ∷ []) ++ several 4 (offer 3 ∷ [])
+    ++ several 4 round
+
+abbrev pub wide : Tree
+wide =
+    tree 16
+    (interconnect 0 0 2 (ports (Acc 0) (Int 1)) ∷ interconnect 0 1 1 (ports (Acc 1) Empty) ∷ [])
+    (block 0 0 1 8 ∷ block 1 0 2 8 ∷ [])
+
+abbrev pub wideTurn : List Call
+wideTurn = offer 0 ∷ slot ∷ several 2 (offer 1 ∷ []) ++ offer 0 ∷ several 3 (slot ∷ [])
+
+abbrev pub twoWindows : List Call
+twoWindows = several 2 (offer 0 ∷ []) ++ several 4 (slot ∷ []) ++ several 2 (offer 0 ∷ [])
+
+abbrev pub unreached : State
+unreached =
+    record {
+      waiting = 4 ∷ 4 ∷ 4 ∷ 1 ∷ replicate 28 0;
+      admitted = replicate 32 0;
+      last = replicate 15 0;
+      allowance = 1 ∷ 1 ∷ 1 ∷ replicate 12 0;
+      slot = 0;
+    }
+
+abbrev pub fromUnreached : List Call
+fromUnreached = offer 3 ∷ several 2 round
+
+pub record Sharp : Type 0 where
+  -- case 2: accelerator 3, share 8, served in the eighth slot
+  pub none-before : MetExactly chain (freshState chain) caseTwo 3 0 8
+  -- case 1's tree with every budget 64: accelerator 3's fourth transaction is served in the 32nd slot
+  pub three-before : MetExactly (chainOf 64) (freshState (chainOf 64)) keptFull 3 3 32
+  -- a turn of two at the root goes to an interconnect that takes turns of one: the share is 3, and so is the wait
+  pub wide-turn : MetExactly wide (freshState wide) wideTurn 0 0 3
+  -- one interconnect, P 4, budget 2: the budget is met exactly in the second window
+  pub second-window : SpentIn (pair 1 4 4 4 2) (freshState (pair 1 4 4 4 2)) twoWindows 0 1
+  -- from a state to which no list of calls leads from the fresh one
+  pub from-unreached : MetExactly chain unreached fromUnreached 3 1 16
+  pub never-reached : (cs : List Call) → stateAfter chain (freshState chain) cs ≡ unreached → ⊥
