@@ -84,7 +84,8 @@ module _ (x d : ℕ) where
   pub layer-least : (w : ℕ) → w ≤ layer x d w
   unfolding layer
   layer-least zero = omega arith
-  layer-least (suc w) = omega (arith, add-mul w 1 (1 + d), one-mul (1 + d), le-mul-of-pos-right {m = 1 + d} w (omega arith))
+  layer-least (suc w) =
+      omega (arith, add-mul w 1 (1 + d), one-mul (1 + d), le-mul-of-pos-right {m = 1 + d} w (omega arith))
 
   -- a service beneath the port, after which at most d come ahead
   pub layer-own : (y v w : ℕ) → y ≤ d → v + 1 ≤ w → layer y d v + 1 ≤ layer x d w

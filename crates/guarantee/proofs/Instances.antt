@@ -56,7 +56,8 @@ fresh-walk : {t : Tree} {s r : State} {es : List Event} (a : ℕ) → Walk t s e
 fresh-walk a (stay k) f = f
 fresh-walk {t} {s} a (go {m = m} {e = v} k d w) f = fresh-walk a w (fresh-step t s m (v .call) (v .answer) a d f)
 
-no-run : keeps chain (freshState chain) ≡ true → (cs : List Call) → stateAfter chain (freshState chain) cs ≡ unreached → ⊥
+no-run : keeps chain (freshState chain) ≡ true → (cs : List Call)
+    → stateAfter chain (freshState chain) cs ≡ unreached → ⊥
 no-run k cs e =
     let f = fresh-walk 0 (walked chain (freshState chain) cs k) (λ _. refl) in
     let z : _≡_ {A = ℕ} 4 0 = subst (λ s. Fresh s 0) e f refl in

@@ -96,7 +96,8 @@ module _ (t : Tree) (S : Sound t) where
       (off : (i : ℕ) → ((p : ℕ) → On i p (path t b) → ⊥) → Unturned s r i) where
     -- along crossings of b's path
     Drops : ℕ → ℕ → Type 0
-    Drops k q = On k q (path t b) → (v w : ℕ) → v + 1 ≤ w → waitAlong t r (lane t k q) v + 1 ≤ waitAlong t s (lane t k q) w
+    Drops k q = On k q (path t b) → (v w : ℕ) → v + 1 ≤ w
+        → waitAlong t r (lane t k q) v + 1 ≤ waitAlong t s (lane t k q) w
 
     abbrev Above : ℕ → Type 0
     Above k = (v w : ℕ) → v + 1 ≤ w → waitAlong t r (above 15 t k) v + 1 ≤ waitAlong t s (above 15 t k) w

@@ -37,8 +37,8 @@ unfolding queueFrom
 queue-append a n q [] ys = ap (λ m. queueFrom a m q ys) {x = n} {y = 0 + n} (omega arith)
 queue-append a n q (e ∷ xs) ys =
     queue-append a (suc n) (moved a n q e) xs ys
-    ∙ ap (λ m. queueFrom a m (queueFrom a (suc n) (moved a n q e) xs) ys) {x = length xs + suc n} {y = suc (length xs) + n}
-    (omega arith)
+    ∙ ap (λ m. queueFrom a m (queueFrom a (suc n) (moved a n q e) xs) ys)
+    {x = length xs + suc n} {y = suc (length xs) + n} (omega arith)
 
 -- one more last, where the test holds; the first less, where it holds
 longer : (c : Bool) (q : List Ticket) (x : Ticket) → length (pick c (q ++ x ∷ []) q) ≡ length q + pick c 1 0
@@ -127,7 +127,8 @@ gone a j n l q (stay k) f = f
 gone {t} {s} a j n l q (go {m = m} {e = v} k d w) f =
     gone a j (suc n) (omega arith) (moved a n q v) w (absent-step t s m a j n l q (v .call) (v .answer) d f)
 
-pub data Goes (t : Tree) (s m : State) (a j k : ℕ) (q : List Ticket) (c : Call) (x : Answer) (r : List Ticket) : Type 0 where
+-- the call c, which answers x, goes from state s and queue q to state m and queue r
+data Goes (t : Tree) (s m : State) (a j k : ℕ) (q : List Ticket) (c : Call) (x : Answer) (r : List Ticket) : Type 0 where
   served-now : c ≡ slot → x ≡ served a → (others : List Ticket) → q ≡ admittedBy j ∷ others → Absent (admittedBy j) r
       → Goes t s m a j k q c x r
   waits-on : (l : ℕ) → Stands (admittedBy j) l r → slotCounts x c + waitOf t m a (suc l) ≤ waitOf t s a (suc k)

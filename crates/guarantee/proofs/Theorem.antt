@@ -25,11 +25,10 @@ use Rattle.guarantee.proofs.Walk.{Does, admits, serves, idles, halts, W
 use Rattle.guarantee.proofs.Queue.{start-length, queue-append, queue-length, stands-last, Timely, timely, few}
 use Rattle.guarantee.proofs.Budget.{within}
 
-keeps-after : (t : Tree) (s : State) (front back cs : List Call) → keeps t s ≡ true → cs ≡ front ++ back
-    → keeps t (stateAfter t s front) ≡ true
+keeps-after : (t : Tree) (s : State) (cs : List Call) → keeps t s ≡ true → keeps t (stateAfter t s cs) ≡ true
 unfolding stateAfter
-keeps-after t s [] back cs k e = k
-keeps-after t s (c ∷ front) back cs k e = keeps-after t (step t s c .state) front back (front ++ back) (step-keeps t s k c) refl
+keeps-after t s [] k = k
+keeps-after t s (c ∷ cs) k = keeps-after t (step t s c .state) cs (step-keeps t s k c)
 
 -- what a slot's answer says of its state
 refused-by-10 : {t : Tree} {s m : State} {n : ℕ} → Does t s slot (refused n) m → n ≡ 10
@@ -91,10 +90,11 @@ module _ (t : Tree) (s : State) (cs : List Call) (k : keeps t s ≡ true) where
         → queueAfter s a (upTo a front mid) ≡ queueFrom a (suc (length front)) with-ticket mid
     unfolding queueFrom
     following mid =
+        let q = queueAfter s a front in
+        let put : ℕ → List Ticket = λ n. pick (eqb a a) (q ++ admittedBy n ∷ []) q in
         queue-append a 0 (startingQueue (waitingOf s a)) front (event (offer a) admitted ∷ mid)
-        ∙ ap (λ n. queueFrom a (suc n) (pick (eqb a a) (queueAfter s a front ++ admittedBy n ∷ []) (queueAfter s a front)) mid)
-        {x = length front + 0} {y = length front} (omega arith)
-        ∙ ap (λ q. queueFrom a (suc (length front)) q mid) (picked (eqb a a) with-ticket (queueAfter s a front) (eq-eqb a a refl))
+        ∙ ap (λ n. queueFrom a (suc n) (put n) mid) {x = length front + 0} {y = length front} (omega arith)
+        ∙ ap (λ r. queueFrom a (suc (length front)) r mid) (picked (eqb a a) with-ticket q (eq-eqb a a refl))
 
     -- how long the ticket waits at most, and that this is at most (k + 1) times the share
     abbrev ticket-wait : ℕ
@@ -121,7 +121,7 @@ module _ (t : Tree) (s : State) (cs : List Call) (k : keeps t s ≡ true) where
 
 pub guarantee : (t : Tree) (s : State) (cs : List Call) → keeps t s ≡ true → Guarantee t s cs
 guarantee t s cs k = record {
-  every-state-keeps = λ front back e. keeps-after t s front back cs k e;
+  every-state-keeps = λ front back e. keeps-after t s front k;
   slot-refused-by-10 = λ front back n e. refused-by-10 (comes t s cs k front back _ e .does);
   first-is-there = λ front back a e.
       let p = comes t s cs k front back _ e in
