@@ -10,8 +10,7 @@
 -- caseTwo               the calls of case 2: "4, 2, 1, 1 offered at slot 0", and eight slots
 -- round                 eight slots, each but the last followed by an offer of the accelerator that it serves
 -- keptFull              four offers of each accelerator, then four rounds: accelerators 0, 1 and 2 are full before each slot
--- wide                  accelerator 0, phi 1, at the root, g 2, beside an interconnect, g 1, with one accelerator, phi 2
--- wideTurn              accelerator 0 is served; then two offers of accelerator 1, one of accelerator 0, and three slots
+-- wideTurn              on the tree `nested`: accelerator 0 is served; then two offers of accelerator 1, one of accelerator 0, and three slots
 -- twoWindows            two offers of accelerator 0 in each of two windows of four slots
 -- unreached             a state of `chain`: accelerators 0, 1 and 2 full and one of 3 waiting, none of them admitted, no slot
 --                       passed, and a turn of port 0 running at each interconnect
@@ -30,7 +29,7 @@ use Rattle.model.specs.Rules.{keeps}
 use Rattle.machine.specs.Machine.{served, refused, freshState}
 use Rattle.machine.specs.Calls.{Call, offer, slot, step, stateAfter}
 use Rattle.bounds.specs.Bounds.{shareOf}
-use Rattle.cases.specs.Trees.{ports, interconnect, block, tree, chain, pair}
+use Rattle.cases.specs.Trees.{ports, interconnect, block, tree, chain, pair, nested}
 use Rattle.guarantee.specs.Guarantee.{Event, event, eventsOf, Ticket, admittedBy, queueAfter, slotsIn, othersIn, admissionsIn, upTo}
 
 pub record MetExactly (t : Tree) (s : State) (cs : List Call) (a k n : ℕ) : Type 0 where
@@ -78,12 +77,6 @@ keptFull =
     several 4 (offer 0 ∷ []) ++ several 4 (offer 1 ∷ []) ++ several 4 (offer 2 ∷ []) ++ several 4 (offer 3 ∷ [])
     ++ several 4 round
 
-abbrev pub wide : Tree
-wide =
-    tree 16
-    (interconnect 0 0 2 (ports (Acc 0) (Int 1)) ∷ interconnect 0 1 1 (ports (Acc 1) Empty) ∷ [])
-    (block 0 0 1 8 ∷ block 1 0 2 8 ∷ [])
-
 abbrev pub wideTurn : List Call
 wideTurn = offer 0 ∷ slot ∷ several 2 (offer 1 ∷ []) ++ offer 0 ∷ several 3 (slot ∷ [])
 
@@ -109,7 +102,7 @@ pub record Sharp : Type 0 where
   -- case 1's tree with every budget 64: accelerator 3's fourth transaction is served in the 32nd slot
   pub three-before : MetExactly (chainOf 64) (freshState (chainOf 64)) keptFull 3 3 32
   -- a turn of two at the root goes to an interconnect that takes turns of one: the share is 3, and so is the wait
-  pub wide-turn : MetExactly wide (freshState wide) wideTurn 0 0 3
+  pub wide-turn : MetExactly nested (freshState nested) wideTurn 0 0 3
   -- one interconnect, P 4, budget 2: the budget is met exactly in the second window
   pub second-window : SpentIn (pair 1 4 4 4 2) (freshState (pair 1 4 4 4 2)) twoWindows 0 1
   -- from a state to which no list of calls leads from the fresh one
