@@ -1,0 +1,31 @@
+// The readers of tree and trace files.
+//
+// A line is read into a struct first. Its shape and its limits are tested against a table, and only then is it placed.
+pub mod lines;
+
+// What a line's record name says.
+pub enum Kind {
+    NoRecord,
+    BusLine,
+    IntLine,
+    AccLine,
+    OfferLine,
+}
+
+// A line: its record name, how many fields follow it, whether one of them is malformed, and of the first ten which are "-"
+// and the numbers of the others. A field that is no number is held as 0.
+pub struct Line {
+    pub kind: Kind,
+    pub count: usize,
+    pub malformed: bool,
+    pub dashes: [bool; 10],
+    pub values: [u64; 10],
+}
+
+// The fields of a record: how many, which may be "-", and the limits of each.
+pub struct Form {
+    pub count: usize,
+    pub dashes: [bool; 10],
+    pub lows: [u64; 10],
+    pub highs: [u64; 10],
+}
