@@ -2,6 +2,10 @@
 //
 // A line is read into a struct first. Its shape and its limits are tested against a table, and only then is it placed.
 pub mod lines;
+pub mod tree;
+
+use model::Refusal;
+use model::Tree;
 
 // What a line's record name says.
 pub enum Kind {
@@ -28,4 +32,18 @@ pub struct Form {
     pub dashes: [bool; 10],
     pub lows: [u64; 10],
     pub highs: [u64; 10],
+}
+
+// What a reader answers: accepted; refused, with the line; or refused because the configuration breaks its rules, which
+// has no line.
+pub enum FileAnswer {
+    Accepted,
+    Refused(Refusal, u32),
+    Broken,
+}
+
+// A tree file's answer, with the tree that it gives. On a refusal the tree is empty.
+pub struct TreeRead {
+    pub answer: FileAnswer,
+    pub tree: Tree,
 }

@@ -11,7 +11,7 @@ use lib.Dec.{eqb, ltb}
 use lib.ListN.{length, getD, take, drop, length-drop, drop-of-length-le}
 use lib.Seq.{drop-cons, drop-drop, take-all}
 use borrow.Author.Tests.{eq-eqb, ne-eqb, lt-ltb, le-ltb}
-use Rattle.text.specs.Text.{parts, partLength, behind, butLast, final}
+use Rattle.text.specs.Text.{parts, partLength, behind, butLast, final, lines, unended}
 
 pub taken : {A : Type 0} (c : Bool) (x y : A) → c ≡ true → cond c x y ≡ x
 taken true x y e = refl
@@ -82,3 +82,22 @@ parts-some sep s l = rw (first-part sep s) refl
 pub final-some : (sep : ℕ) (s : List ℕ) (l : List ℕ) → final (l ∷ parts sep s) ≡ final (parts sep s)
 unfolding final
 final-some sep s l = rw (first-part sep s) refl
+
+-- at the end of the bytes no line is left, and nothing stands after the last LF
+pub lines-none : (s : List ℕ) (at : ℕ) → length s ≤ at → (lines (drop at s) ≡ []) × (unended (drop at s) ≡ [])
+unfolding parts butLast final
+lines-none s at h = let e = drop-of-length-le s h in (ap lines e, ap unended e)
+
+module _ (s : List ℕ) (at e : ℕ) (h : at ≤ length s) (q : e ≡ at + partLength 10 (drop at s)) where
+  -- a line without its LF is the last
+  pub lines-unended : length s ≤ e → (lines (drop at s) ≡ []) × (unended (drop at s) ≡ take (e - at) (drop at s))
+  unfolding butLast final
+  lines-unended l =
+      let p = part-next 10 s at e h q ∙ ap (λ r. take (e - at) (drop at s) ∷ r) (left _ _ _ (le-ltb _ _ l)) in
+      (ap butLast p, ap final p)
+
+  -- a line with its LF, and the lines after it
+  pub lines-next : e < length s → (lines (drop at s) ≡ take (e - at) (drop at s) ∷ lines (drop (e + 1) s)) × (unended (drop at s) ≡ unended (drop (e + 1) s))
+  lines-next l =
+      let p = part-next 10 s at e h q ∙ ap (λ r. take (e - at) (drop at s) ∷ r) (taken _ _ _ (lt-ltb _ _ l)) in
+      (ap butLast p ∙ parts-some 10 (drop (e + 1) s) _, ap final p ∙ final-some 10 (drop (e + 1) s) _)
