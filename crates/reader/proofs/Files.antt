@@ -36,7 +36,7 @@ unfolding readLines
 tree-end n t s at h = ap₂ (readLines n t) (lines-none s at h .0) (lines-none s at h .1)
 
 -- the part of a line that is not empty
-nonempty : (s : List ℕ) (at e : ℕ) → at < e → e ≤ length s → length (take (e - at) (drop at s)) ≡ 0 → ⊥
+pub nonempty : (s : List ℕ) (at e : ℕ) → at < e → e ≤ length s → length (take (e - at) (drop at s)) ≡ 0 → ⊥
 nonempty s at e h k z = omega (arith, length-take (e - at) (drop at s), length-drop at s)
 
 module _ (n : ℕ) (t : Tree) (s : List ℕ) (at e : ℕ) (h : at < length s) (q : e ≡ at + partLength 10 (drop at s)) where

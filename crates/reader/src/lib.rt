@@ -2,6 +2,7 @@
 //
 // A line is read into a struct first. Its shape and its limits are tested against a table, and only then is it placed.
 pub mod lines;
+pub mod trace;
 pub mod tree;
 
 use model::Refusal;
@@ -46,4 +47,23 @@ pub enum FileAnswer {
 pub struct TreeRead {
     pub answer: FileAnswer,
     pub tree: Tree,
+}
+
+// An o line of a trace: so many transactions of an accelerator are requested at a slot.
+pub struct Request {
+    pub slot: u32,
+    pub accelerator: u8,
+    pub count: u8,
+}
+
+// A trace line's answer: the request, or why it is refused.
+pub enum OfferRead {
+    NoOffer(Refusal),
+    Offer(Request),
+}
+
+// What stands at a place of a trace: the end, or a request and the place after its line.
+pub enum NextRequest {
+    Done,
+    Due(Request, usize),
 }
