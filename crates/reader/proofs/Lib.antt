@@ -2,3 +2,4 @@ pub mod Fields
 pub mod Tests
 pub mod Files
 pub mod Traces
+pub mod Kept
