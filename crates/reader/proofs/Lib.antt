@@ -1,0 +1,5 @@
+pub mod Fields
+pub mod Tests
+pub mod Files
+pub mod Traces
+pub mod Kept
