@@ -6,20 +6,28 @@
 --                       what the call before it returned"
 -- Ticket                one transaction: the i-th that waited at the start, or the one that the call at place n admitted,
 --                       places counted from 0
+-- withoutFirst q        the queue q without its first transaction
+-- offerMoves, slotMoves, callMoves   what an offer, a slot, a call does to accelerator a's queue, by its answer
 -- moved a n q e         accelerator a's queue q after the event e at place n: "an admitting offer puts its transaction last
 --                       there, a slot that answers the accelerator serves the first .., and an idle slot or a refused call
 --                       moves none"
 -- queueFrom a n q es    accelerator a's queue after the events es, the first of them at place n
+-- startingQueue n       the n transactions that wait at the start, in order
 -- queueAfter s a es     accelerator a's queue after the events es from the start: "each accelerator has a queue, at first as
 --                       long as its waiting count in the starting state"
+-- unrefused x           1 unless the answer x is a refusal; slotCounts x c: 1 if the call c is a slot that is not refused
 -- slotsIn es            the slots among the events es that are not refused
+-- servesOther a x       1 if the answer x is the service of another accelerator than a
 -- othersIn a es         the slots among the events es that serve another accelerator than a
+-- admitsOne a x c       1 if the call c is an offer of accelerator a and the answer x an admission
 -- admissionsFrom t a w n es   the admissions of accelerator a in window w among the events es, the first of them in slot n:
 --                       "An offer's slot is the starting slot count plus the unrefused slots before it, and its window that
 --                       slot's"
 -- admissionsIn t s a w es  the same from the start: "in the first window the starting admitted count is added"
+-- upTo a front mid      the events front, an admission of accelerator a, and the events mid
 -- ServedWithin s a front back n   after the events front comes an admission of accelerator a and then the events back; its
 --                       very transaction is served within the first n slots of back that are not refused
+-- Holds x q             the transaction x is in the queue q
 -- StillWaits s a front mid   after the events front comes an admission of accelerator a; after the events mid that follow
 --                       its transaction is still in the queue
 -- Guarantee t s cs      the demand

@@ -2,12 +2,12 @@
 --
 -- Answer               what an offer or a slot answers: an offer is admitted, a slot serves an accelerator or is idle, and
 --                      either is refused by a number of document 01's table
--- Outcome              a call's answer and the state that it returns
+-- Outcome              a call's answer and the state that it returns; outcome a s: the answer a with the state s
 -- zeroState            the state with nothing in it
 -- freshState t         "At the start nothing waits, all admitted counts and the slot are 0, every allowance is 0 and the
 --                      last port of every interconnect in the tree is 7"
 -- Start                what the start answers: started, or refused by a number
--- Beginning            the start's answer and the state that it returns
+-- Beginning            the start's answer and the state that it returns; beginning a s: the answer a with the state s
 -- freshened t          the starting state, or 11, and then no state but zeros
 -- admit s a            "waiting and admitted rise by one"
 -- offeredWithin t s a  the offer of one transaction once configuration and state have passed: 7, 8, 9, or admitted

@@ -14,6 +14,7 @@
 --                      interconnect; nobody if the port is empty
 -- who n t s j          the accelerator that the choice comes to from interconnect j, over at most n levels of
 --                      interconnects ("the choice goes on downward to an accelerator")
+-- withTurn s j p o     the state s with last port p and allowance o at interconnect j
 -- turned s v x         the state once the choice has gone down from a port that carries x, where v says it for an
 --                      interconnect
 -- after n t s j        the state once each interconnect on the way down from j has the port and the allowance, less one,

@@ -3,9 +3,14 @@
 --
 -- busKeeps b             the bus line's limits
 -- carries t j p x        port p of interconnect j may carry x: what it names is in the tree and names this place
+-- isEmpty x              the port x carries nothing
 -- isAcc a x, isInt j x   the port x carries accelerator a, interconnect j
 -- isPlaced t j           interconnect j has its place: the root none, any other a port of a smaller one, which carries it
+-- rootPlaced t           the root has no parent: both its fields are 0
+-- childPlaced t j        "a parent smaller than its child", and the parent's port carries interconnect j
+-- usedInterconnect t j   the rules of an interconnect in the tree; unusedInterconnect t j: of an unused entry
 -- interconnectKeeps t j  the rules of interconnect j, in the tree or unused
+-- usedAccelerator t a    the rules of an accelerator in the tree; unusedAccelerator t a: of an unused entry
 -- acceleratorKeeps t a   the rules of accelerator a, in the tree or unused
 -- treeKeeps t            "A configuration keeps them if a tree file could have given it"
 -- sized s                the state's arrays have the lengths of their type, as every value of a program has

@@ -1,6 +1,8 @@
 -- A configuration and a state, read by document 01's terms. Each accessor answers zero, or an empty port, past the end
 -- of its array.
 --
+-- emptyCell             a port that carries nothing; noInterconnect, noAccelerator: an unused entry
+-- interconnectOf t j    interconnect j; acceleratorOf t a: accelerator a
 -- portOf t j p          what port p of interconnect j carries ("A port is empty, or carries one accelerator, or one
 --                       lower interconnect")
 -- granularityOf t j     g of interconnect j
@@ -11,6 +13,7 @@
 -- limitOf t a           how many transactions of accelerator a may be outstanding: phi
 -- budgetOf t a          the budget of accelerator a, in transactions a window
 -- windowOf t n          the window of slot n ("slot s is in window floor(s / P), slots counted from 0")
+-- Crossing              an interconnect on a path, and the port of it by which the path comes in
 -- above n t j           the crossings above interconnect j, nearest first: parent and port, at most n of them
 -- path t a              the crossings of accelerator a, from its own interconnect up to the root
 -- levelOf t j           the level of interconnect j ("A level is the count of interconnects from the root to here, the
