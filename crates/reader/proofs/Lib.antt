@@ -3,3 +3,4 @@ pub mod Tests
 pub mod Files
 pub mod Traces
 pub mod Kept
+pub mod Requests
