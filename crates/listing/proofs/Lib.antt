@@ -1,0 +1,5 @@
+pub mod Decimal
+pub mod Puts
+pub mod Lines
+pub mod Entries
+pub mod Rows

@@ -1,0 +1,51 @@
+-- The report, row by row: the bounds of an accelerator of a configuration that keeps its rules are never refused, and
+-- after the last row comes the line that sums up. By the definitions' own order of tests.
+use Prim.Native.Nat.{ℕ, _+_, _*_, _≤_, _<_}
+use mathlib.Core.Bool.{Bool, true, false}
+use mathlib.Core.List.{List, _++_}
+use mathlib.Core.Path.{_≡_, ap, ap₂, sym, _∙_}
+use native.Mathlib.Nat.{le-antisymm}
+use native.Mathlib.Omega.{arith}
+use Rattle.model.specs.declared.Tree.{Tree}
+use Rattle.model.specs.declared.Refusal.{Refusal}
+use Rattle.model.specs.Fold.{all}
+use Rattle.model.specs.Rules.{treeKeeps}
+use Rattle.model.proofs.Folds.{picked, passed}
+use Rattle.model.proofs.Sound.{sound}
+use Rattle.bounds.specs.declared.BoundAnswer.{BoundAnswer}
+use Rattle.bounds.specs.declared.BoundAnswer.the-variants.{Refused, Bound}
+use Rattle.bounds.specs.declared.Figures.{Figures}
+use Rattle.bounds.specs.Bounds.{Row, given, rowOf, meaningOf, boundOf}
+use Rattle.bounds.proofs.Answers.{bound-given}
+use Rattle.listing.specs.Listing.{headLine, joined, rowText, allLine, refusalText, reportText}
+use Rattle.listing.specs.Put.{Put, rowMade}
+use Rattle.listing.proofs.Puts.{put-then, put-as, put-most}
+
+given-same : (x y : Row) → given x ≡ given y → x ≡ y
+given-same x y e = cc
+
+module _ (t : Tree) (a : ℕ) (r : BoundAnswer) (k : treeKeeps t ≡ true) (l : a < t .accs) (e : meaningOf r ≡ boundOf t a) where
+  pub row-made : (f : Figures) → r ≡ Bound f → rowMade f ≡ rowOf t a
+  row-made f q = given-same _ _ (ap meaningOf (sym q) ∙ e ∙ bound-given t a k l)
+
+  pub never-refused : (n : Refusal) → r ≡ Refused n → ⊥
+  never-refused n q =
+      let h = ap meaningOf (sym q) ∙ e ∙ bound-given t a k l in
+      let z : _≡_ {A = ℕ} 0 1 = cc in omega arith
+
+pub report-end : {d e : List ℕ} {first : ℕ} (t : Tree) (a : ℕ) (b : Bool) {f : List ℕ} {next : ℕ} {g : List ℕ} {last : ℕ}
+    → treeKeeps t ≡ true → a ≤ t .accs → t .accs ≤ a → b ≡ all a (λ i. rowOf t i .meets)
+    → Put 42 d 0 headLine e first → Put (0 + 153 * a) e first (joined a (λ i. rowText i (rowOf t i))) f next → Put 10 f next (allLine b) g last
+    → Put 4948 d 0 (reportText t) g last
+unfolding reportText
+report-end t a b k h l m p q r =
+    let f = le-antisymm h l in
+    put-most (omega (arith, sound t k .most-accs))
+    (put-as
+    (ap₂ (λ (n : ℕ) (v : Bool). headLine ++ joined n (λ i. rowText i (rowOf t i)) ++ allLine v) f (m ∙ ap (λ (n : ℕ). all n (λ i. rowOf t i .meets)) f)
+    ∙ sym (picked (treeKeeps t) _ _ k))
+    (put-then (put-then p q) r))
+
+pub report-broken : (t : Tree) → treeKeeps t ≡ false → reportText t ≡ refusalText 11 0
+unfolding reportText
+report-broken t k = passed (treeKeeps t) _ _ k

@@ -1,0 +1,76 @@
+-- `put_report` meets its contract: before each turn the rows of the accelerators below a follow the head line, and it is known whether all these meet their periods.
+use mathlib.Core.Path.{_≡_, refl, ap, sym, _∙_}
+use mathlib.Core.List.{[]}
+use Prim.Native.Nat.{_≤_, _-_, _+_, _*_}
+use native.Mathlib.Omega.{arith}
+use lib.ListN.{length}
+use borrow.Author.Needs.{needs}
+use Rattle.model.specs.Fold.{all}
+use Rattle.model.proofs.Sums.{all-none, all-turn}
+use Rattle.model.proofs.Sound.{sound}
+use Rattle.bounds.specs.Bounds.{Row, rowOf}
+use Rattle.listing.specs.Listing.{joined, rowText}
+use Rattle.listing.specs.Put.{Put}
+use Rattle.listing.proofs.Puts.{put-none, put-as}
+use Rattle.listing.proofs.Lines.{lines-none, lines-turn}
+use Rattle.listing.proofs.Rows.{row-made, never-refused, report-end}
+use Rattle.listing.proofs.put_report.Statement.{statement}
+use Rattle.listing.proofs.put_report.Tie as tie
+
+abbrev Inv-loop : tie.InvT-loop
+Inv-loop t out₀ next₀ all-meet₀ a₀ out next all-meet a =
+    Put (0 + 153 * a) out₀ next₀ (joined a (λ i. rowText i (rowOf t i))) out next × (a ≤ t .accs) × (all-meet ≡ all a (λ i. rowOf t i .meets)) × (length out ≡ length out₀)
+
+abbrev μ-loop : tie.MeasureT-loop
+μ-loop t out₀ next₀ all-meet₀ a₀ out next all-meet a = t .accs - a
+
+loop-holds : tie.Need-loop-holds Inv-loop μ-loop
+loop-holds c =
+    (lines-none 0 153 [] (λ i. rowText i (rowOf (c .before .before .before .before .before .args .t) i)) (put-none _ _), search needs, sym (all-none _), refl)
+
+same-length : tie.Need-same-length Inv-loop μ-loop
+same-length c =
+    c .before .before .before .before .before .loop .inv .3 ∙ c .before .before .before .before .before .before .before .before .put-head .kept .0
+
+returns : tie.Need-returns Inv-loop μ-loop
+returns c =
+    absurd (never-refused _ _ _ (c .before .before .before .before .before .before .before .before .before .before .before .pre) (c .before .before .before .if1 .taken) (c .before .before .bound .ensures) _ (c .enum-told .given .1))
+
+put-row-requires : tie.Need-put-row-requires Inv-loop μ-loop
+put-row-requires c κs =
+    omega (arith, c .before .before .before .before .before .before .before .before .before .before .put-head .ensures, c .before .before .before .before .before .before .before .loop .inv .0, sound _ (c .before .before .before .before .before .before .before .before .before .before .before .before .before .pre) .most-accs, c .before .before .before .before .before .if1 .taken)
+
+add-a : tie.Need-add-a Inv-loop μ-loop
+add-a c =
+    omega (arith, sound _ (c .before .before .before .before .before .before .before .before .before .before .before .before .before .before .before .before .before .pre) .most-accs, c .before .before .before .before .before .before .before .before .before .if1 .taken)
+
+loop-less : tie.Need-loop-less Inv-loop μ-loop
+loop-less c =
+    omega (arith, c .before .before .before .before .before .before .before .before .before .if1 .taken)
+
+loop-again : tie.Need-loop-again Inv-loop μ-loop
+loop-again c =
+    let a = c .before .before .before .before .before .before .before .before .before .before .before .before .before .before .before .before .before .args in
+    let l = c .before .before .before .before .before .before .before .before .before .before .before .loop in
+    let m = row-made _ _ _ (c .before .before .before .before .before .before .before .before .before .before .before .before .before .before .before .before .before .pre) (c .before .before .before .before .before .before .before .before .before .if1 .taken) (c .before .before .before .before .before .before .before .before .bound .ensures) _ (c .before .before .before .before .before .before .f .given .1) in (
+      lines-turn 0 153 [] (λ i. rowText i (rowOf (a .t) i)) _ (l .inv .0) (put-as (ap (rowText (l .a)) m) (c .before .before .before .put-row .ensures)),
+      omega (arith, c .before .before .before .before .before .before .before .before .before .if1 .taken),
+      all-turn _ (λ i. rowOf (a .t) i .meets) _ _ (l .inv .2) (ap (λ (r : Row). r .meets) m),
+      c .before .before .before .put-row .kept .0 ∙ l .inv .3,
+    )
+
+put-all-requires : tie.Need-put-all-requires Inv-loop μ-loop
+put-all-requires c κs =
+    omega (arith, c .before .before .before .before .before .before .put-head .ensures, c .before .before .before .loop .inv .0, c .before .before .before .loop .inv .1, sound _ (c .before .before .before .before .before .before .before .before .before .pre) .most-accs)
+
+same-length-2 : tie.Need-same-length-2 Inv-loop μ-loop
+same-length-2 c =
+    c .before .before .put-all .kept .0 ∙ c .before .before .before .before .before .before .loop .inv .3 ∙ c .before .before .before .before .before .before .before .before .before .put-head .kept .0
+
+returns-2 : tie.Need-returns-2 Inv-loop μ-loop
+returns-2 c =
+    let l = c .before .before .before .before .before .before .loop in
+    report-end _ _ _ (c .before .before .before .before .before .before .before .before .before .before .before .before .pre) (l .inv .1) (c .before .before .before .before .if1 .left) (l .inv .2) (c .before .before .before .before .before .before .before .before .before .put-head .ensures) (l .inv .0) (c .before .before .put-all .ensures)
+
+pub put-report-spec : {M : Type 1} → statement M
+put-report-spec = tie.close (tie.spec Inv-loop μ-loop (λ c κs. search needs) loop-holds (λ c κs. search needs) (λ c. search needs) (λ c. search needs) same-length returns put-row-requires add-a loop-less loop-again put-all-requires same-length-2 returns-2)

@@ -1,0 +1,14 @@
+-- `slots_text` meets its contract: the page is stored from its start on, and has room for it.
+use native.Mathlib.Omega.{arith}
+use borrow.Author.Needs.{needs}
+use Rattle.listing.proofs.Puts.{put-laid}
+use Rattle.listing.proofs.slots_text.Statement.{statement}
+use Rattle.listing.proofs.slots_text.Tie as tie
+
+returns : tie.Need-returns
+returns c =
+    let p = put-laid (c .put-slots .ensures) (omega (arith, c .before .put-slots-arg .given .0 .1)) in
+    (c .before .before .slots-due .ensures, p .0, p .1)
+
+pub slots-text-spec : {M : Type 1} → statement M
+slots-text-spec = tie.close (tie.spec (λ c κs. search needs) (λ c κs. search needs) returns)

@@ -1,0 +1,29 @@
+-- What a function that writes into a lent buffer ensures, within this crate.
+--
+-- Put m d at xs e next   the text xs, at most m bytes, was stored from `at` on: d became e, and `next` is where the next
+--                        byte goes. A store past the end of the buffer changes nothing
+-- rowMade f              the row that the figures of the code stand for
+use Prim.Native.Nat.{ℕ, _+_, _≤_}
+use mathlib.Core.Path.{_≡_}
+use mathlib.Core.List.{List}
+use lib.ListN.{length}
+use lib.Seq.{sets}
+use Rattle.bounds.specs.declared.Figures.{Figures}
+use Rattle.bounds.specs.Bounds.{Row}
+
+pub record Put (m : ℕ) (d : List ℕ) (at : ℕ) (xs e : List ℕ) (next : ℕ) : Type 0 where
+  pub stored : e ≡ sets d at xs
+  pub ends : next ≡ at + length xs
+  pub short : length xs ≤ m
+
+abbrev pub rowMade : Figures → Row
+rowMade f =
+    record {
+      level = f .level;
+      share = f .share;
+      reads = f .reads .0;
+      writes = f .writes .0;
+      response = f .response .0;
+      period = f .period .0;
+      meets = f .meets;
+    }
