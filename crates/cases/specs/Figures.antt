@@ -5,12 +5,15 @@
 -- numbers xs ys        figures of the definitions, and their numbers
 -- bounded t a x        what `bound` answers of accelerator a
 -- responded T b        the bounds of case 9, where the period is T and b says whether it is met
+-- printed t ls         the report of the tree t has the lines ls
+-- linesOf ls           the text of the lines ls, each ended by LF
 -- holds f              what the figure f claims
 -- every fs             each of the figures fs holds
 -- table                the figures, each headed by its case
 -- figures              the claim: every figure of the table holds
 -- guard, guarded       what no starred case tells apart: with capacities nested as minima the first share would be 2
 use Prim.Native.Nat.{ℕ, zero, suc}
+use Prim.Native.String.{String}
 use mathlib.Core.Bool.{Bool, true, false}
 use mathlib.Core.List.{List, [], _∷_, _++_}
 use mathlib.Core.Path.{_≡_, refl}
@@ -23,17 +26,25 @@ use Rattle.machine.specs.Turns.{who, after, turnPort, turnAllowance, seek, bits
 use Rattle.machine.specs.Machine.{Answer, admitted, served, idle, refused, freshState, offered, slotted, tick}
 use Rattle.machine.specs.Calls.{Call, offer, slot, answersOf}
 use Rattle.bounds.specs.Bounds.{Answer as Bound, given, aloneRead, aloneWrite, slotRead, slotWrite, othersAt, shareAlong, shareOf, boundOf}
-use Rattle.cases.specs.Trees.{chain, timed, pair, nested}
+use Rattle.listing.specs.Decimal.{digits, decimalText}
+use Rattle.listing.specs.Listing.{bytes, ended, joined, rowText, allLine, refusalText, reportText}
+use Rattle.cases.specs.Trees.{chain, timed, pair, worked, nested}
 
 pub data Figure : Type 0 where
   answers : Tree → List Call → List Answer → Figure
   numbers : List ℕ → List ℕ → Figure
   bounded : Tree → ℕ → Bound → Figure
+  printed : Tree → List String → Figure
+
+abbrev pub linesOf : List String → List ℕ
+linesOf [] = []
+linesOf (l ∷ ls) = ended (bytes l) ++ linesOf ls
 
 abbrev pub holds : Figure → Type 0
 holds (answers t cs xs) = answersOf t (freshState t) cs ≡ xs
 holds (numbers xs ys) = xs ≡ ys
 holds (bounded t a x) = boundOf t a ≡ x
+holds (printed t ls) = reportText t ≡ linesOf ls
 
 abbrev pub every : List Figure → Type 0
 every [] = Unit {0}
@@ -83,11 +94,18 @@ table =
     -- 9: "response 3,920; T 3,920 meets, 3,919 is late"
     ∷ bounded (timed 3920) 1 (responded 3920 true)
     ∷ bounded (timed 3919) 1 (responded 3919 false)
+    -- the worked listing of the report program
+    ∷ printed worked
+    ("acc\tlevel\tshare\tyr\tyw\tresp\tperiod\tverdict"
+    ∷ "0\t1\t2\t10\t5\t2460\t2000\tlate"
+    ∷ "1\t1\t2\t1\t0\t100\t100\tmeets"
+    ∷ "all\tlate"
+    ∷ [])
     ∷ []
 
 pub figures : every table
-unfolding answersOf offered slotted tick who after turnPort turnAllowance seek bitsBelow treeKeeps stateKeeps sized recordKeeps turnKeeps busKeeps carries rootPlaced childPlaced usedInterconnect unusedInterconnect usedAccelerator unusedAccelerator inside above sum all shareAlong othersAt boundOf
-figures = (refl, (refl, (refl, (refl, (refl, (refl, (refl, (refl, (refl, (refl, (refl, tt)))))))))))
+unfolding answersOf offered slotted tick who after turnPort turnAllowance seek bitsBelow treeKeeps stateKeeps sized recordKeeps turnKeeps busKeeps carries rootPlaced childPlaced usedInterconnect unusedInterconnect usedAccelerator unusedAccelerator inside above sum all shareAlong othersAt boundOf reportText rowText allLine refusalText joined decimalText digits
+figures = (refl, (refl, (refl, (refl, (refl, (refl, (refl, (refl, (refl, (refl, (refl, (refl, tt))))))))))))
 
 abbrev pub guard : List Figure
 guard = numbers (shareOf nested 0 ∷ shareOf nested 1 ∷ []) (3 ∷ 2 ∷ []) ∷ []

@@ -11,6 +11,7 @@
 -- timed T              the tree of case 9: accelerator 1 of case 1's tree is at level 2 and has share 4
 -- pair g P f h b       one interconnect of granularity g with two accelerators, of phi f and h, at ports 0 and 1, each of
 --                      budget b
+-- worked               the tree of the report's worked listing
 -- nested               a tree whose shares tell the plain sum of capacities from nested minima
 use Prim.Native.Nat.{ℕ, _-_}
 use mathlib.Core.List.{List, [], _∷_, _++_}
@@ -80,3 +81,9 @@ nested =
     tree 16
     (interconnect 0 0 2 (ports (Acc 0) (Int 1)) ∷ interconnect 0 1 1 (ports (Acc 1) Empty) ∷ [])
     (block 0 0 1 8 ∷ block 1 0 2 8 ∷ [])
+
+abbrev pub worked : Tree
+worked =
+    tree 8
+    (interconnect 0 0 1 (record { port = Acc 0 } ∷ emptyCell ∷ emptyCell ∷ record { port = Acc 1 } ∷ replicate 4 emptyCell) ∷ [])
+    (withJob 10 5 1000 2000 (block 0 0 4 2) ∷ withJob 1 0 0 100 (block 0 3 4 2) ∷ [])

@@ -20,7 +20,7 @@ fuel zero m n h l = absurd (omega arith)
 fuel (suc k) zero n h l = absurd (omega arith)
 fuel (suc k) (suc m) n h l = elim (decLt n 10) [
   | yes s ↦ rw (lt-ltb n 10 s)
-  | no d ↦ rw (le-ltb n 10 (omega arith)) (ap (λ (s : List ℕ). s ++ (48 + n % 10) ∷ []) (fuel k m (n / 10) (omega arith) (omega arith)))
+  | no d ↦ rw (le-ltb n 10 (omega arith), fuel k m (n / 10) (omega arith) (omega arith))
 ]
 
 pub decimal-one : (n : ℕ) → n < 10 → decimalText n ≡ (48 + n) ∷ []
@@ -30,7 +30,7 @@ decimal-one n h = rw (lt-ltb n 10 h)
 pub decimal-more : (n : ℕ) → 10 ≤ n → decimalText n ≡ decimalText (n / 10) ++ (48 + n % 10) ∷ []
 unfolding decimalText digits
 decimal-more n h =
-    rw (le-ltb n 10 h) (ap (λ (s : List ℕ). s ++ (48 + n % 10) ∷ []) (fuel n (suc (n / 10)) (n / 10) (omega arith) (omega arith)))
+    rw (le-ltb n 10 h, fuel n (suc (n / 10)) (n / 10) (omega arith) (omega arith))
 
 -- what holds of one digit, and of n from n / 10, holds of every n
 by-tens : (P : ℕ → Type 0) → ((n : ℕ) → n < 10 → P n) → ((n : ℕ) → 10 ≤ n → P (n / 10) → P n) → (n : ℕ) → P n
