@@ -1,0 +1,4 @@
+pub mod Held
+pub mod Trace
+pub mod Slots
+pub mod Endings

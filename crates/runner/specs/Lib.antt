@@ -1,0 +1,4 @@
+pub mod Offers
+pub mod Run
+pub mod Answers
+pub mod Places
