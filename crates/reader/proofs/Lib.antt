@@ -2,3 +2,5 @@ pub mod Fields
 pub mod Tests
 pub mod Files
 pub mod Traces
+pub mod Kept
+pub mod Requests

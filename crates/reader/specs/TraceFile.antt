@@ -9,6 +9,9 @@
 -- readTrace t s           11 first, which has no line; "File size comes first, then lines in order"; "An empty trace is
 --                         accepted"
 -- requests ls             the requests of an accepted trace's lines, in order
+-- rising s rs             "Slots do not fall": from slot s on
+-- inRange a r             request r is in its limits, of an accelerator of the tree
+-- totalFor a rs           what accelerator a's counts total
 -- isOffer l               line l is an o line of shape and limits, of an accelerator that a tree can have
 -- requestAt s at          the request on the line that begins at a place of the bytes, and the place after its LF
 use Prim.Native.Nat.{ℕ, _+_, _-_}
@@ -19,7 +22,7 @@ use lib.Dec.{leb, ltb, eqb}
 use Rattle.model.specs.declared.Tree.{Tree}
 use Rattle.model.specs.declared.Refusal.{Refusal}
 use Rattle.model.specs.declared.Refusal.the-variants.{Shape, Limit, Falling, Unknown}
-use Rattle.model.specs.Fold.{pick}
+use Rattle.model.specs.Fold.{pick, within}
 use Rattle.model.specs.Rules.{treeKeeps}
 use Rattle.text.specs.Text.{partLength, lines, unended}
 use Rattle.reader.specs.declared.Kind.the-variants.{OfferLine}
@@ -73,6 +76,21 @@ readTrace t s =
 unfoldable pub requests : List (List ℕ) → List Request
 requests [] = []
 requests (l ∷ ls) = requestOf (lineOf l .values) ∷ requests ls
+
+unfoldable pub rising : ℕ → List Request → Bool
+rising last [] = true
+rising last (r ∷ rs) = leb last (r .slot) && rising (r .slot) rs
+
+abbrev pub inRange : ℕ → Request → Bool
+inRange accs r = leb (r .slot) 4294967294 && ltb (r .accelerator) accs && within 1 (r .count) 16
+
+unfoldable pub allInRange : ℕ → List Request → Bool
+allInRange accs [] = true
+allInRange accs (r ∷ rs) = inRange accs r && allInRange accs rs
+
+unfoldable pub totalFor : ℕ → List Request → ℕ
+totalFor a [] = 0
+totalFor a (r ∷ rs) = pick (eqb a (r .accelerator)) (r .count) 0 + totalFor a rs
 
 abbrev pub isOffer : Line → Bool
 isOffer l = inTrace (l .kind) && shaped l && limitsKept OfferLine (l .values) && ltb (valueAt l 1) 32
