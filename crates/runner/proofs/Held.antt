@@ -64,7 +64,7 @@ module _ (t : Tree) (s : State) (h : List ℕ) (a : ℕ) where
         ∙ ap (λ (q : State). offerHeld (heldOf (release h a) a) t (offering q (release h a)) a) (sym (ap (λ (m : Outcome). m .state) same))
 
 -- what holds of either way after an offer
-either : {A : Type 0} (Q : A → Type 0) (x : Answer) (y z : A) → Q y → Q z → Q (onAdmitted x y z)
+pub either : {A : Type 0} (Q : A → Type 0) (x : Answer) (y z : A) → Q y → Q z → Q (onAdmitted x y z)
 either Q admitted y z p q = p
 either Q (served a) y z p q = q
 either Q idle y z p q = q

@@ -1,32 +1,23 @@
 -- The lines of an accepted trace, walked from its bytes: where bytes are left, a request stands there, it is the next of the
--- trace's requests, and what follows its line is accepted too. By the answers of the trace's reading at a position.
-use Prim.Native.Nat.{ℕ, suc, _+_, _-_, _*_, _≤_, _<_}
-use mathlib.Core.Bool.{Bool, true, false, _&&_}
+-- trace's requests, and what follows its line is accepted too. By the steps of the reader's walk.
+use Prim.Native.Nat.{ℕ, suc, _+_, _*_, _≤_, _<_}
 use mathlib.Core.List.{List, [], _∷_}
-use mathlib.Core.Path.{_≡_, refl, sym, _∙_, ap, ap₂, subst}
+use mathlib.Core.Path.{_≡_, refl, sym, _∙_, ap, subst}
 use native.Mathlib.Decide.{decLt, ℕ-discrete}
 use native.Mathlib.Omega.{arith}
-use lib.Dec.{ltb, leb, eqb}
-use lib.ListN.{length, getD, take, drop, length-set}
+use lib.Dec.{eqb}
+use lib.ListN.{length, length-set}
 use lib.Seq.{getD-set-same, getD-set-other}
-use borrow.Author.Tests.{lt-ltb, le-leb, lt-leb, eq-eqb, ne-eqb}
+use borrow.Author.Tests.{le-leb, lt-leb, eq-eqb, ne-eqb}
 use Rattle.model.specs.declared.Tree.{Tree}
-use Rattle.model.specs.Rules.{treeKeeps}
-use Rattle.model.proofs.Folds.{picked, passed, joined}
+use Rattle.model.proofs.Folds.{picked, passed}
 use Rattle.model.proofs.Sound.{sound}
-use Rattle.text.specs.Text.{partLength, lines}
-use Rattle.text.proofs.Parts.{lines-none, lines-next, part-fits}
-use Rattle.reader.specs.declared.Line.{Line as FileLine}
 use Rattle.reader.specs.declared.Request.{Request}
-use Rattle.reader.specs.declared.OfferRead.{OfferRead}
-use Rattle.reader.specs.declared.OfferRead.the-variants.{NoOffer, Offer}
-use Rattle.reader.specs.declared.NextRequest.{NextRequest}
 use Rattle.reader.specs.declared.NextRequest.the-variants.{Done, Due}
-use Rattle.reader.specs.declared.FileAnswer.{FileAnswer}
 use Rattle.reader.specs.declared.FileAnswer.the-variants.{Accepted}
-use Rattle.reader.specs.Lines.{lineOf, valueAt}
-use Rattle.reader.specs.TraceFile.{requestOf, added, offerLine, afterOffer, noTotals, readTrace, requests, isOffer, requestOn, requestAt}
-use Rattle.reader.proofs.Traces.{Good, offer-says, traceFrom, trace-broken, trace-size, trace-start, trace-unended, trace-line, request-done, request-line}
+use Rattle.reader.specs.TraceFile.{added, noTotals, readTrace, requestAt}
+use Rattle.reader.proofs.Traces.{trace-start}
+use Rattle.reader.proofs.Requests.{accepted-trace, Step, walk-step, walk-end}
 use Rattle.runner.specs.Offers.{heldOf}
 use Rattle.runner.specs.Run.{hold, heldWith, leftAfter}
 use Rattle.runner.specs.Places.{leftAt, Accepts, Room, Taken}
@@ -38,107 +29,63 @@ pub record Next (s : List ℕ) (at : ℕ) (r : Request) (p : ℕ) : Type 0 where
   pub known : r .accelerator < 32
   pub accepts : Accepts s p
 
-record Some (s : List ℕ) (at : ℕ) : Type 0 where
-  request : Request
-  place : ℕ
-  here : requestAt s at ≡ Due request place
-  next : Next s at request place
-
 module _ (s : List ℕ) (at : ℕ) (A : Accepts s at) where
-  abbrev end : ℕ
-  end = at + partLength 10 (drop at s)
-
-  abbrev text : FileLine
-  text = lineOf (take (end - at) (drop at s))
-
-  -- an accepted line is an o line
-  is-offer : (r : Request) → Good (A .accs) (A .last) (A .totals) text r → isOffer text ≡ true
-  is-offer r g =
-      joined _ _ (joined _ _ (g .offer) (g .limits))
-      (lt-ltb _ _ (subst (λ (q : Request). q .accelerator < 32) (sym (g .same)) (omega (arith, g .known, A .most))))
-
-  module _ (h : at < length s) (l : end < length s) where
-    -- what is left after the line
-    after : (x : OfferRead) → x ≡ offerLine (A .accs) (A .last) (A .totals) text
-        → afterOffer (A .line) x (λ r. traceFrom (A .line + 1) (A .accs) (r .slot) (added (A .totals) r) s (end + 1)) ≡ Accepted
-        → Some s at
-    unfolding requests
-    after (NoOffer y) e f = let z : _≡_ {A = ℕ} 0 1 = cc in absurd (omega arith)
-    after (Offer r) e f =
-        let g = offer-says (A .accs) (A .last) (A .totals) text r (sym e) in
-        record {
-          request = r;
-          place = end + 1;
-          here = request-line s at end refl l ∙ picked _ _ _ (is-offer r g) ∙ ap (λ (q : Request). Due q (end + 1)) (g .same);
-          next = record {
-            left = ap requests (lines-next s at end (A .inside) refl l .0) ∙ ap (λ (q : Request). q ∷ leftAt s (end + 1)) (g .same);
-            later = omega arith;
-            known = omega (arith, g .known, A .most);
-            accepts = record {
-              line = A .line + 1;
-              accs = A .accs;
-              last = r .slot;
-              totals = added (A .totals) r;
-              most = A .most;
-              inside = omega arith;
-              short = A .short;
-              accepted = f;
-            };
-          };
-        }
+  here : at < length s → Step (A .line) (A .accs) (A .last) (A .totals) s at
+  here h = walk-step (A .line) (A .accs) (A .last) (A .totals) s at (A .most) h (A .accepted)
 
   -- where bytes are left, a request stands there
-  line-here : at < length s → Some s at
-  line-here h = elim (ℕ-discrete end (length s)) [
-    | yes e ↦
-        let f = trace-unended (A .line) (A .accs) (A .last) (A .totals) s at end h refl e in
-        let a = A .accepted in
-        let z : _≡_ {A = ℕ} 0 1 = cc in absurd (omega arith)
-    | no d ↦
-        after h (omega (arith, part-fits 10 s at (A .inside))) (offerLine (A .accs) (A .last) (A .totals) text) refl
-        (sym (trace-line (A .line) (A .accs) (A .last) (A .totals) s at end h refl d _ refl) ∙ A .accepted)
-  ]
-
   pub line-some : at < length s → requestAt s at ≡ Done → ⊥
-  line-some h e = let x = line-here h .here in let z : _≡_ {A = ℕ} 0 1 = cc in omega arith
+  line-some h e = let x = here h .found in let z : _≡_ {A = ℕ} 0 1 = cc in omega arith
 
   pub line-next : at < length s → (r : Request) (p : ℕ) → requestAt s at ≡ Due r p → Next s at r p
   line-next h r p e =
-      let x = line-here h in
-      let d = x .here in
+      let x = here h in
+      let d = x .found in
       let q : x .request ≡ r = cc in
       let m : x .place ≡ p = cc in
-      subst (Next s at r) m (subst (λ (y : Request). Next s at y (x .place)) q (x .next))
+      subst (Next s at r) m
+      (subst (λ (y : Request). Next s at y (x .place)) q
+      (record {
+        left = x .first;
+        later = x .on;
+        known = omega (arith, x .known, A .most);
+        accepts = record {
+          line = A .line + 1;
+          accs = A .accs;
+          last = x .request .slot;
+          totals = added (A .totals) (x .request);
+          most = A .most;
+          inside = x .within;
+          short = A .short;
+          accepted = x .left;
+        };
+      }))
 
   -- no line is left exactly at the end
-  pub left-none : length s ≤ at → leftAt s at ≡ []
-  unfolding requests
-  left-none h = ap requests (lines-none s at h .0)
-
   pub left-ends : eqb at (length s) ≡ eqb (length (leftAt s at)) 0
   left-ends = elim (decLt at (length s)) [
     | yes h ↦
-        let some : length (leftAt s at) ≡ 0 → ⊥ = λ e. omega (arith, ap length (line-here h .next .left)) in
+        let some : length (leftAt s at) ≡ 0 → ⊥ = λ e. omega (arith, ap length (here h .first)) in
         ne-eqb at (length s) (omega arith) ∙ sym (ne-eqb (length (leftAt s at)) 0 some)
     | no d ↦
-        eq-eqb at (length s) (omega (arith, A .inside)) ∙ sym (eq-eqb (length (leftAt s at)) 0 (ap length (left-none (omega arith))))
+        eq-eqb at (length s) (omega (arith, A .inside))
+        ∙ sym (eq-eqb (length (leftAt s at)) 0 (ap length (walk-end s at (omega arith) .1)))
   ]
 
 -- an accepted trace is accepted from its first byte on
-pub accepts-start : (t : Tree) (s : List ℕ) → treeKeeps t ≡ true → readTrace t s ≡ Accepted → Accepts s 0
-accepts-start t s k e = elim (decLt 65536 (length s)) [
-  | yes l ↦ let f = trace-size t s k l in let z : _≡_ {A = ℕ} 0 1 = cc in absurd (omega arith)
-  | no d ↦ record {
-    line = 1;
-    accs = t .accs;
-    last = 0;
-    totals = noTotals;
-    most = sound t k .most-accs;
-    inside = omega arith;
-    short = omega arith;
-    accepted = sym (trace-start t s k (omega arith)) ∙ e;
-  }
-]
+pub accepts-start : (t : Tree) (s : List ℕ) → readTrace t s ≡ Accepted → Accepts s 0
+accepts-start t s e =
+    let a = accepted-trace t s e in
+    record {
+      line = 1;
+      accs = t .accs;
+      last = 0;
+      totals = noTotals;
+      most = sound t (a .keeps) .most-accs;
+      inside = omega arith;
+      short = a .size;
+      accepted = sym (trace-start t s (a .keeps) (a .size)) ∙ e;
+    }
 
 -- no line is due where none is left, or the next one is later; else it is added
 module _ (n : ℕ) (h : List ℕ) where
@@ -189,7 +136,7 @@ module _ (n : ℕ) (s h₀ : List ℕ) (at₀ : ℕ) (h : List ℕ) (at : ℕ) (
   }
 
   pub taking-all : length s ≤ at → Taken n s h₀ at₀ (record { held = h; at = at })
-  taking-all l = ends (none-due n h (leftAt s at) (left-none s at (T .accepts) l))
+  taking-all l = ends (none-due n h (leftAt s at) (walk-end s at l .1))
 
   module _ (l : at < length s) (r : Request) (p : ℕ) (e : requestAt s at ≡ Due r p) where
     pub taking-next : Next s at r p

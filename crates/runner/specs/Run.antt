@@ -5,7 +5,8 @@
 -- isDue n r             line r is due in slot n
 -- heldWith n h rs       the held counts once the lines of rs that are due in slot n are added
 -- leftAfter n rs        the lines of rs that are not due in slot n
--- beforeSlot t r        the state and the held counts once the lines due are added and the offers made
+-- withDue r             "Each slot it adds the lines due to the held counts": the state, and the held counts then
+-- beforeSlot t r        the state and the held counts once the offers are made too
 -- byteOf x              "one byte a slot, the accelerator's number or 255 for idle"
 -- next t r              where the run stands after one more slot; lastByte t r: the byte it wrote
 -- isDone r              "no line left, none held, none waiting"
@@ -55,8 +56,11 @@ unfoldable pub leftAfter : ℕ → List Request → List Request
 leftAfter n [] = []
 leftAfter n (r ∷ rs) = pick (isDue n r) (leftAfter n rs) (r ∷ rs)
 
+abbrev pub withDue : Run → Offering
+withDue r = offering (r .state) (heldWith (r .state .slot) (r .held) (r .left))
+
 abbrev pub beforeSlot : Tree → Run → Offering
-beforeSlot t r = offerEach (t .accs) t (offering (r .state) (heldWith (r .state .slot) (r .held) (r .left)))
+beforeSlot t r = offerEach (t .accs) t (withDue r)
 
 abbrev pub byteOf : Answer → ℕ
 byteOf admitted = 255

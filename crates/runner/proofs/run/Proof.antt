@@ -22,7 +22,7 @@ run-slots-requires : tie.Need-run-slots-requires
 run-slots-requires c κs =
     let x = c .before .before .before .before .before .before .before .before .before .before .args in
     let g = begun (x .t) _ _ (c .before .before .before .before .before .before .before .fresh .ensures) (ap freshMeans (c .before .before .before .before .before .enum-told .given .1)) in
-    (g .0, g .1, c .before .before .before .before .if1 .left, accepts-start (x .t) (x .trace .now) (g .0) (sym (c .before .before .before .read-trace .ensures) ∙ c .before .enum-told3 .given .1))
+    (g .0, g .1, c .before .before .before .before .if1 .left, accepts-start (x .t) (x .trace .now) (sym (c .before .before .before .read-trace .ensures) ∙ c .before .enum-told3 .given .1))
 
 returns-3 : tie.Need-returns-3
 returns-3 c =
