@@ -98,14 +98,14 @@ ran zero t r =
 ran (suc k) t r = test (isDone r) (ran-done k t r) (λ e. ran-slot k t r e (ran k t (next t r)))
 
 -- the end of a trail, by whether it is done
-ending-stopped : (x : Trail) (m : ℕ) → endOf x ≡ stopped m → (x .done ≡ false) × (length (x .bytes) ≡ m)
+pub ending-stopped : (x : Trail) (m : ℕ) → endOf x ≡ stopped m → (x .done ≡ false) × (length (x .bytes) ≡ m)
 ending-stopped x m = go (x .done)
   where
     go : (b : Bool) → pick b (done (length (x .bytes))) (stopped (length (x .bytes))) ≡ stopped m → (b ≡ false) × (length (x .bytes) ≡ m)
     go true e = let z : _≡_ {A = ℕ} 0 1 = cc in absurd (omega arith)
     go false e = (refl, cc)
 
-ending-done : (x : Trail) (m : ℕ) → endOf x ≡ done m → (x .done ≡ true) × (length (x .bytes) ≡ m)
+pub ending-done : (x : Trail) (m : ℕ) → endOf x ≡ done m → (x .done ≡ true) × (length (x .bytes) ≡ m)
 ending-done x m = go (x .done)
   where
     go : (b : Bool) → pick b (done (length (x .bytes))) (stopped (length (x .bytes))) ≡ done m → (b ≡ true) × (length (x .bytes) ≡ m)
