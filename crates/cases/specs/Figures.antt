@@ -2,6 +2,8 @@
 --
 -- Figure               one figure of a case
 -- answers t cs xs      the calls cs, from the fresh state of the tree t, get the answers xs
+-- ran t s n e bs       the run of trace s over a buffer of n bytes ends as e, and writes the bytes bs at its start and no other
+-- asks a c             the trace line "o 0 a c": accelerator a asks for c transactions at slot 0; both are one digit
 -- numbers xs ys        figures of the definitions, and their numbers
 -- bounded t a x        what `bound` answers of accelerator a
 -- responded T b        the bounds of case 9, where the period is T and b says whether it is met
@@ -12,11 +14,12 @@
 -- table                the figures, each headed by its case
 -- figures              the claim: every figure of the table holds
 -- guard, guarded       what no starred case tells apart: with capacities nested as minima the first share would be 2
-use Prim.Native.Nat.{ℕ, zero, suc}
+use Prim.Native.Nat.{ℕ, zero, suc, _+_, _-_}
 use Prim.Native.String.{String}
 use mathlib.Core.Bool.{Bool, true, false}
 use mathlib.Core.List.{List, [], _∷_, _++_}
 use mathlib.Core.Path.{_≡_, refl}
+use lib.ListN.{length, replicate}
 use Rattle.model.specs.declared.Tree.{Tree}
 use Rattle.model.specs.Fold.{sum, all}
 use Rattle.model.specs.Tree.{above}
@@ -25,6 +28,11 @@ use Rattle.model.specs.Rules.{treeKeeps, stateKeeps, sized, recordKeeps, turnKe
 use Rattle.machine.specs.Turns.{who, after, turnPort, turnAllowance, seek, bitsBelow}
 use Rattle.machine.specs.Machine.{Answer, admitted, served, idle, refused, freshState, offered, slotted, tick}
 use Rattle.machine.specs.Calls.{Call, offer, slot, answersOf}
+use Rattle.text.specs.Text.{parts, butLast, final, same, allDigits, decimal, fieldOf}
+use Rattle.reader.specs.Lines.{kindOf, pushed, lineOf, shaped}
+use Rattle.reader.specs.TraceFile.{offerLine, readOffers, readTrace, requests}
+use Rattle.runner.specs.Offers.{offerHeld, offerEach}
+use Rattle.runner.specs.Run.{Ending, done, heldWith, leftAfter, next, trail, ranOf, bufferAfter}
 use Rattle.bounds.specs.Bounds.{Answer as Bound, given, aloneRead, aloneWrite, slotRead, slotWrite, othersAt, shareAlong, shareOf, boundOf}
 use Rattle.listing.specs.Decimal.{digits, decimalText}
 use Rattle.listing.specs.Listing.{bytes, ended, joined, rowText, allLine, refusalText, reportText}
@@ -32,6 +40,7 @@ use Rattle.cases.specs.Trees.{chain, timed, pair, worked, nested}
 
 pub data Figure : Type 0 where
   answers : Tree → List Call → List Answer → Figure
+  ran : Tree → List ℕ → ℕ → Ending → List ℕ → Figure
   numbers : List ℕ → List ℕ → Figure
   bounded : Tree → ℕ → Bound → Figure
   printed : Tree → List String → Figure
@@ -42,6 +51,7 @@ linesOf (l ∷ ls) = ended (bytes l) ++ linesOf ls
 
 abbrev pub holds : Figure → Type 0
 holds (answers t cs xs) = answersOf t (freshState t) cs ≡ xs
+holds (ran t s n e bs) = (ranOf t s n ≡ e) × (bufferAfter t s (replicate n 7) ≡ bs ++ replicate (n - length bs) 7)
 holds (numbers xs ys) = xs ≡ ys
 holds (bounded t a x) = boundOf t a ≡ x
 holds (printed t ls) = reportText t ≡ linesOf ls
@@ -53,6 +63,9 @@ every (f ∷ fs) = holds f × every fs
 abbrev times : {A : Type 0} → ℕ → A → List A
 times zero x = []
 times (suc n) x = x ∷ times n x
+
+abbrev asks : ℕ → ℕ → List ℕ
+asks a c = 111 ∷ 9 ∷ 48 ∷ 9 ∷ (48 + a) ∷ 9 ∷ (48 + c) ∷ 10 ∷ []
 
 abbrev responded : ℕ → Bool → Bound
 responded T b =
@@ -66,12 +79,20 @@ table =
     ∷ answers chain
     (times 4 (offer 0) ++ times 2 (offer 1) ++ offer 2 ∷ offer 3 ∷ times 8 slot)
     (times 8 admitted ++ served 0 ∷ served 1 ∷ served 0 ∷ served 2 ∷ served 0 ∷ served 1 ∷ served 0 ∷ served 3 ∷ [])
+    -- 2, as a run: "served 0 1 0 2 0 1 0 3, done, 8 slots"
+    ∷ ran chain
+    (asks 0 4 ++ asks 1 2 ++ asks 2 1 ++ asks 3 1)
+    16
+    (done 8)
+    (0 ∷ 1 ∷ 0 ∷ 2 ∷ 0 ∷ 1 ∷ 0 ∷ 3 ∷ [])
     -- 3: "g 2, accelerators with phi 3 and 1 at ports 0 and 1: shares 2 and 3"
     ∷ numbers (shareOf (pair 2 16 3 1 8) 0 ∷ shareOf (pair 2 16 3 1 8) 1 ∷ []) (2 ∷ 3 ∷ [])
     -- 4: "3 and 1 offered: 0 0 1 0", on case 3's tree
     ∷ answers (pair 2 16 3 1 8)
     (times 3 (offer 0) ++ offer 1 ∷ times 4 slot)
     (times 4 admitted ++ served 0 ∷ served 0 ∷ served 1 ∷ served 0 ∷ [])
+    -- 4, as a run
+    ∷ ran (pair 2 16 3 1 8) (asks 0 3 ++ asks 1 1) 16 (done 4) (0 ∷ 0 ∷ 1 ∷ 0 ∷ [])
     -- 5: "one waits for each; two more for 0 arrive after slot 0: accelerator 1 is served in slot 1"
     ∷ answers (pair 4 16 4 4 8)
     (offer 0 ∷ offer 1 ∷ slot ∷ offer 0 ∷ offer 0 ∷ slot ∷ [])
@@ -94,6 +115,8 @@ table =
     -- 9: "response 3,920; T 3,920 meets, 3,919 is late"
     ∷ bounded (timed 3920) 1 (responded 3920 true)
     ∷ bounded (timed 3919) 1 (responded 3919 false)
+    -- 10: "Empty trace, buffer of 0 bytes: done, 0 slots"
+    ∷ ran chain [] 0 (done 0) []
     -- the worked listing of the report program
     ∷ printed worked
     ("acc\tlevel\tshare\tyr\tyw\tresp\tperiod\tverdict"
@@ -104,8 +127,8 @@ table =
     ∷ []
 
 pub figures : every table
-unfolding answersOf offered slotted tick who after turnPort turnAllowance seek bitsBelow treeKeeps stateKeeps sized recordKeeps turnKeeps busKeeps carries rootPlaced childPlaced usedInterconnect unusedInterconnect usedAccelerator unusedAccelerator inside above sum all shareAlong othersAt boundOf reportText rowText allLine refusalText joined decimalText digits
-figures = (refl, (refl, (refl, (refl, (refl, (refl, (refl, (refl, (refl, (refl, (refl, (refl, tt))))))))))))
+unfolding answersOf parts butLast final same allDigits decimal fieldOf kindOf pushed lineOf shaped offerLine readOffers readTrace requests ranOf bufferAfter heldWith leftAfter offerHeld offerEach next trail offered slotted tick who after turnPort turnAllowance seek bitsBelow treeKeeps stateKeeps sized recordKeeps turnKeeps busKeeps carries rootPlaced childPlaced usedInterconnect unusedInterconnect usedAccelerator unusedAccelerator inside above sum all shareAlong othersAt boundOf reportText rowText allLine refusalText joined decimalText digits
+figures = (refl, (refl, ((refl, refl), (refl, (refl, ((refl, refl), (refl, (refl, (refl, (refl, (refl, (refl, (refl, ((refl, refl), (refl, tt)))))))))))))))
 
 abbrev pub guard : List Figure
 guard = numbers (shareOf nested 0 ∷ shareOf nested 1 ∷ []) (3 ∷ 2 ∷ []) ∷ []

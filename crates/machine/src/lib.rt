@@ -159,7 +159,7 @@ pub fn offer(t: Tree, s: State, a: u8) -> OfferReply
     offer_within(t, s, a)
 }
 
-fn none_waits(s: State) -> bool
+pub fn none_waits(s: State) -> bool
     ensures { λ r. ⌜ r ≡ noneWaits s ⌝ }
 {
     let mut ok = true;

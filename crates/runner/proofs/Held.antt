@@ -1,0 +1,122 @@
+-- Laws of the offers of a run, each by the clauses of the definitions: one more offer of an accelerator, the ends of its
+-- offers, that offers keep the rules of the state and take from the held counts alone.
+use Prim.Native.Nat.{ℕ, zero, suc, _+_, _-_, _≤_, _<_}
+use mathlib.Core.Bool.{true}
+use mathlib.Core.List.{List}
+use mathlib.Core.Path.{_≡_, refl, sym, _∙_, ap, ap₂, subst}
+use native.Mathlib.Decide.{decLt, ℕ-discrete}
+use native.Mathlib.Nat.{le-antisymm}
+use native.Mathlib.Numerals.{add-one, sub-one}
+use native.Mathlib.Omega.{arith}
+use lib.ListN.{length, getD, set, length-set}
+use lib.Seq.{getD-set-same, getD-set-other, set-out}
+use Rattle.model.specs.declared.Tree.{Tree}
+use Rattle.model.specs.declared.State.{State}
+use Rattle.model.specs.Rules.{keeps}
+use Rattle.machine.specs.Machine.{Answer, admitted, served, idle, refused, Outcome, outcome, offeredWithin, offered}
+use Rattle.machine.proofs.Steps.{offer-passed}
+use Rattle.machine.proofs.Laws.{offer-keeps}
+use Rattle.runner.specs.declared.Offering.{Offering}
+use Rattle.runner.specs.Offers.{heldOf, release, onAdmitted, offering, offerHeld, offerAll, offerEach}
+
+-- an admission, and a refusal, picks its case
+on-admitted : {A : Type 0} (x : Answer) (y z : A) → x ≡ admitted → onAdmitted x y z ≡ y
+on-admitted x y z e = rw e
+
+on-refused : {A : Type 0} (x : Answer) (n : ℕ) (y z : A) → x ≡ refused n → onAdmitted x y z ≡ z
+on-refused x n y z e = rw e
+
+pub release-own : (h : List ℕ) (a : ℕ) → a < length h → heldOf (release h a) a ≡ heldOf h a - 1
+release-own h a l = getD-set-same h a _ 0 l
+
+module _ (t : Tree) (s : State) (h : List ℕ) (a : ℕ) where
+  pub held-none : heldOf h a ≤ 0 → offerHeld (heldOf h a) t (offering s h) a ≡ offering s h
+  unfolding offerHeld
+  held-none l = ap (λ k. offerHeld k t (offering s h) a) (le-antisymm l (omega arith))
+
+  held-refused : (k n : ℕ) → offered t s a .answer ≡ refused n → offerHeld k t (offering s h) a ≡ offering s h
+  unfolding offerHeld
+  held-refused zero n e = refl
+  held-refused (suc k) n e = on-refused _ n _ _ e
+
+  held-more : (k : ℕ) → offered t s a .answer ≡ admitted
+      → offerHeld (suc k) t (offering s h) a ≡ offerHeld k t (offering (offered t s a .state) (release h a)) a
+  unfolding offerHeld
+  held-more k e = on-admitted _ _ _ e
+
+  -- what one offer of the code says, where the state keeps its rules
+  module _ (k : keeps t s ≡ true) (x : Answer) (r : State) (o : outcome x r ≡ offeredWithin t s a) where
+    same : outcome x r ≡ offered t s a
+    same = o ∙ offer-passed t s a k
+
+    pub offer-kept : keeps t r ≡ true
+    offer-kept = subst (λ (m : Outcome). keeps t (m .state) ≡ true) (sym same) (offer-keeps t s a k)
+
+    pub held-stop : (n m : ℕ) → x ≡ refused n → offerHeld m t (offering s h) a ≡ offering s h
+    held-stop n m e = held-refused m n (sym (ap (λ (m : Outcome). m .answer) same) ∙ e)
+
+    pub held-turn : x ≡ admitted → 0 < heldOf h a → a < length h
+        → offerHeld (heldOf h a) t (offering s h) a ≡ offerHeld (heldOf (release h a) a) t (offering r (release h a)) a
+    held-turn e l m =
+        let n : heldOf h a ≡ suc (heldOf (release h a) a) = omega (arith, release-own h a m) in
+        ap (λ (q : ℕ). offerHeld q t (offering s h) a) n
+        ∙ held-more (heldOf (release h a) a) (sym (ap (λ (m : Outcome). m .answer) same) ∙ e)
+        ∙ ap (λ (q : State). offerHeld (heldOf (release h a) a) t (offering q (release h a)) a) (sym (ap (λ (m : Outcome). m .state) same))
+
+-- what holds of either way after an offer
+pub either : {A : Type 0} (Q : A → Type 0) (x : Answer) (y z : A) → Q y → Q z → Q (onAdmitted x y z)
+either Q admitted y z p q = p
+either Q (served a) y z p q = q
+either Q idle y z p q = q
+either Q (refused n) y z p q = q
+
+-- offers keep the rules of the state
+pub held-kept : (k : ℕ) (t : Tree) (o : Offering) (a : ℕ) → keeps t (o .state) ≡ true
+    → keeps t (offerHeld k t o a .state) ≡ true
+unfolding offerHeld
+held-kept zero t o a e = e
+held-kept (suc k) t o a e =
+    either (λ (p : Offering). keeps t (p .state) ≡ true) (offered t (o .state) a .answer) _ o
+    (held-kept k t (offering (offered t (o .state) a .state) (release (o .held) a)) a (offer-keeps t (o .state) a e)) e
+
+pub each-kept : (n : ℕ) (t : Tree) (o : Offering) → keeps t (o .state) ≡ true → keeps t (offerEach n t o .state) ≡ true
+unfolding offerEach
+each-kept zero t o e = e
+each-kept (suc n) t o e = held-kept (heldOf (offerEach n t o .held) n) t (offerEach n t o) n (each-kept n t o e)
+
+-- offers only take from the held counts
+release-less : (h : List ℕ) (a b : ℕ) → heldOf (release h a) b ≤ heldOf h b
+release-less h a b = elim (ℕ-discrete b a) [
+  | yes e ↦ elim (decLt a (length h)) [
+    | yes l ↦ subst (λ x. heldOf (release h a) x ≤ heldOf h x) (sym e) (omega (arith, release-own h a l))
+    | no d ↦ omega (arith, ap (λ (x : List ℕ). heldOf x b) (set-out h a (heldOf h a - 1) (omega arith)))
+  ]
+  | no d ↦ omega (arith, getD-set-other h a b (heldOf h a - 1) 0 d)
+]
+
+held-less : (k : ℕ) (t : Tree) (o : Offering) (a b : ℕ) → heldOf (offerHeld k t o a .held) b ≤ heldOf (o .held) b
+unfolding offerHeld
+held-less zero t o a b = omega arith
+held-less (suc k) t o a b =
+    either (λ (p : Offering). heldOf (p .held) b ≤ heldOf (o .held) b) (offered t (o .state) a .answer) _ o
+    (omega (
+      arith,
+      held-less k t (offering (offered t (o .state) a .state) (release (o .held) a)) a b,
+      release-less (o .held) a b,
+    ))
+    (omega arith)
+
+pub each-less : (n : ℕ) (t : Tree) (o : Offering) (b : ℕ) → heldOf (offerEach n t o .held) b ≤ heldOf (o .held) b
+unfolding offerEach
+each-less zero t o b = omega arith
+each-less (suc n) t o b =
+    omega (arith, held-less (heldOf (offerEach n t o .held) n) t (offerEach n t o) n b, each-less n t o b)
+
+-- one more accelerator
+pub each-none : (t : Tree) (o : Offering) → o ≡ offerEach 0 t o
+unfolding offerEach
+each-none t o = refl
+
+pub each-turn : (n : ℕ) (t : Tree) (o p r : Offering) → p ≡ offerEach n t o → r ≡ offerAll t p n → r ≡ offerEach (n + 1) t o
+unfolding offerEach
+each-turn n t o p r e f = f ∙ ap (λ (x : Offering). offerAll t x n) e ∙ ap (λ m. offerEach m t o) (sym (add-one n))

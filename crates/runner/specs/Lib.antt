@@ -1,0 +1,5 @@
+pub mod Offers
+pub mod Run
+pub mod Slots
+pub mod Answers
+pub mod Places

@@ -1,0 +1,89 @@
+-- A run as a list of calls (document 01, "What contracts have to carry", e: "A run that is not refused is such a list from the
+-- fresh state, the bytes it writes the slots' answers, 255 for idle").
+--
+-- offersHeld k t o a    the offers that accelerator a makes from o on, at most k of them, a refused one included
+-- offersAll t o a       those with all that accelerator a holds
+-- offersEach n t o      the offers of the accelerators below n, in rising number
+-- slotCalls t r         the calls of one slot: the offers, then the slot
+-- callsBefore n t r     the calls of the first n slots of the run from r
+-- callsOf t s n         the calls of the first n slots of the run of trace s
+-- bytesIn es            the answers of the slots among the events es, as bytes
+-- admissionsBy a es     the admissions of accelerator a among the events es
+-- Reports e m           the ending e "reports done or stopped, and the number of slots used", m
+-- RunIsCalls t s d m    what is proved of a run of trace s over the buffer d that reports m slots
+use Prim.Native.Nat.{ℕ, zero, suc, _+_, _≤_, _<_}
+use mathlib.Core.List.{List, [], _∷_, _++_}
+use mathlib.Core.Path.{_≡_}
+use mathlib.Core.Logic.{_⊎_}
+use lib.ListN.{length, take}
+use Rattle.model.specs.declared.Tree.{Tree}
+use Rattle.text.specs.Text.{lines}
+use Rattle.reader.specs.TraceFile.{requests, totalFor}
+use Rattle.machine.specs.Machine.{Answer, freshState, offered}
+use Rattle.machine.specs.Calls.{Call, offer, slot, stateAfter}
+use Rattle.guarantee.specs.Guarantee.{Event, eventsOf, slotsIn, admitsOne, Guarantee}
+use Rattle.runner.specs.declared.Offering.{Offering}
+use Rattle.runner.specs.Offers.{heldOf, release, onAdmitted, offering, offerEach}
+use Rattle.runner.specs.Run.{Run, withDue, byteOf, start, Ending, done, stopped, bufferAfter}
+use Rattle.runner.specs.Slots.{standing, dueBefore}
+
+unfoldable pub offersHeld : ℕ → Tree → Offering → ℕ → List Call
+offersHeld zero t o a = []
+offersHeld (suc k) t o a =
+    offer a
+    ∷ onAdmitted (offered t (o .state) a .answer)
+    (offersHeld k t (offering (offered t (o .state) a .state) (release (o .held) a)) a)
+    []
+
+abbrev pub offersAll : Tree → Offering → ℕ → List Call
+offersAll t o a = offersHeld (heldOf (o .held) a) t o a
+
+unfoldable pub offersEach : ℕ → Tree → Offering → List Call
+offersEach zero t o = []
+offersEach (suc n) t o = offersEach n t o ++ offersAll t (offerEach n t o) n
+
+abbrev pub slotCalls : Tree → Run → List Call
+slotCalls t r = offersEach (t .accs) t (withDue r) ++ slot ∷ []
+
+unfoldable pub callsBefore : ℕ → Tree → Run → List Call
+callsBefore zero t r = []
+callsBefore (suc n) t r = callsBefore n t r ++ slotCalls t (standing n t r)
+
+abbrev pub traceStart : Tree → List ℕ → Run
+traceStart t s = start t (requests (lines s))
+
+abbrev pub callsOf : Tree → List ℕ → ℕ → List Call
+callsOf t s n = callsBefore n t (traceStart t s)
+
+abbrev pub byteIn : Call → Answer → List ℕ
+byteIn (offer a) x = []
+byteIn slot x = byteOf x ∷ []
+
+unfoldable pub bytesIn : List Event → List ℕ
+bytesIn [] = []
+bytesIn (e ∷ es) = byteIn (e .call) (e .answer) ++ bytesIn es
+
+unfoldable pub admissionsBy : ℕ → List Event → ℕ
+admissionsBy a [] = 0
+admissionsBy a (e ∷ es) = admitsOne a (e .answer) (e .call) + admissionsBy a es
+
+abbrev pub eventsOfRun : Tree → List ℕ → ℕ → List Event
+eventsOfRun t s n = eventsOf t (freshState t) (callsOf t s n)
+
+abbrev pub Reports : Ending → ℕ → Type 0
+Reports e m = (e ≡ done m) ⊎ (e ≡ stopped m)
+
+pub record RunIsCalls (t : Tree) (s d : List ℕ) (m : ℕ) : Type 0 where
+  -- demand 3 holds of the run's calls, "from the fresh state"
+  pub demand : Guarantee t (freshState t) (callsOf t s m)
+  -- "the bytes it writes the slots' answers, 255 for idle"
+  pub bytes : bytesIn (eventsOfRun t s m) ≡ take m (bufferAfter t s d)
+  -- each slot used is one that is not refused, and there are at most as many as the buffer has bytes
+  pub slots : slotsIn (eventsOfRun t s m) ≡ m
+  pub room : m ≤ length d
+  -- the calls leave the state in which the run stands after its slots
+  pub state : stateAfter t (freshState t) (callsOf t s m) ≡ standing m t (traceStart t s) .state
+  -- what an accelerator still holds and what was admitted of it is what its lines due have asked
+  pub asked : (a : ℕ) → a < t .accs
+      → heldOf (standing m t (traceStart t s) .held) a + admissionsBy a (eventsOfRun t s m)
+      ≡ totalFor a (dueBefore m (requests (lines s)))
