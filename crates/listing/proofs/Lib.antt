@@ -3,3 +3,4 @@ pub mod Puts
 pub mod Lines
 pub mod Entries
 pub mod Rows
+pub mod Reasons

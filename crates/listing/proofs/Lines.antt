@@ -44,3 +44,9 @@ unfolding slotsText
 slots-end bs first count i q h l p =
     put-most (omega (arith, due-most (length bs) first count q))
     (put-as (ap (λ (n : ℕ). joined n (λ j. slotText (first + j) (getD bs (first + j) 0))) (le-antisymm h l ∙ q)) p)
+
+-- a page follows on those before it: together they are the lines of all slots so far, in order
+pub page-follows : (bs : List ℕ) (first : ℕ)
+    → joined first (λ i. slotText i (getD bs i 0)) ++ slotsText bs first ≡ joined (first + slotsDue (length bs) first) (λ i. slotText i (getD bs i 0))
+unfolding slotsText
+page-follows bs first = sym (joined-add first (slotsDue (length bs) first) (λ i. slotText i (getD bs i 0)))

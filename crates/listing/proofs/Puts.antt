@@ -8,7 +8,7 @@ use native.Mathlib.Omega.{arith}
 use lib.ListN.{length, take, getD, length-append}
 use lib.Seq.{sets, sets-eq, take-suc, take-length}
 use Rattle.listing.specs.Decimal.{decimalText}
-use Rattle.listing.specs.Listing.{laid}
+use Rattle.listing.specs.Listing.{Written}
 use Rattle.listing.specs.Put.{Put}
 use Rattle.listing.proofs.Decimal.{decimal-one, decimal-more, decimal-short}
 
@@ -42,9 +42,13 @@ put-next xs i h p q = put-as (sym (take-suc xs i 0 h) ∙ rw add-one) (put-then 
 pub put-whole : {m : ℕ} {d : List ℕ} {at : ℕ} (xs : List ℕ) {e : List ℕ} {next : ℕ} → m ≡ length xs → Put m d at (take m xs) e next → Put (length xs) d at xs e next
 put-whole {m} {d} {at} xs {e} {next} h p = put-as (take-length xs) (subst (λ (k : ℕ). Put k d at (take k xs) e next) h p)
 
-pub put-laid : {m : ℕ} {d : List ℕ} {xs e : List ℕ} {next : ℕ} → Put m d 0 xs e next → m ≤ length d → (e ≡ laid xs d) × (next ≡ length xs)
-put-laid {m} {d} {xs} {e} {next} p h =
-    (p .stored ∙ sets-eq xs d 0 (omega (arith, p .short)) ∙ rw zero-add, omega (arith, p .ends))
+pub put-laid : {m : ℕ} {d : List ℕ} {xs e : List ℕ} {next : ℕ} → Put m d 0 xs e next → m ≤ 65536 → length d ≡ 65536 → Written xs d e next
+put-laid {m} {d} {xs} {e} {next} p h l =
+    record {
+      page = p .stored ∙ sets-eq xs d 0 (omega (arith, p .short)) ∙ rw zero-add;
+      bytes = omega (arith, p .ends);
+      room = omega (arith, p .ends, p .short);
+    }
 
 -- a number below 10 is one digit; any other is that of n / 10 and one digit more
 module _ {d : List ℕ} {at : ℕ} {e : List ℕ} {last : ℕ} (n b : ℕ) where

@@ -24,12 +24,14 @@
 -- reasonOf n l         which line of `reasons` tells a refusal
 -- placeText l          the line that is refused; nothing for line 0
 -- reasonText n l       the line in words for a person
--- laid xs d            the buffer d with the text xs from its start on: "Bytes past .. keep their contents"
-use Prim.Native.Nat.{ℕ, zero, suc, _+_, _-_, min}
+-- laid xs d            the page d with the text xs from its start on, and past the text what d has there
+-- Written xs d e n     the page d became e, with the text xs laid on it; n is the length of the text, which has room
+use Prim.Native.Nat.{ℕ, zero, suc, _+_, _-_, _≤_, min}
 use Prim.Native.Char.{code}
 use Prim.Native.String.{String, [] as none, _∷_ as _then_}
 use mathlib.Core.Bool.{Bool, _&&_}
 use mathlib.Core.List.{List, [], _∷_, _++_}
+use mathlib.Core.Path.{_≡_}
 use lib.Dec.{ltb, eqb}
 use lib.ListN.{length, getD, drop}
 use Rattle.model.specs.declared.Tree.{Tree}
@@ -134,3 +136,8 @@ reasonText n l = placeText l ++ ended (lineOf (reasonOf n l) reasons)
 
 abbrev pub laid : List ℕ → List ℕ → List ℕ
 laid xs d = xs ++ drop (length xs) d
+
+pub record Written (xs d e : List ℕ) (n : ℕ) : Type 0 where
+  pub page : e ≡ laid xs d
+  pub bytes : n ≡ length xs
+  pub room : n ≤ 65536

@@ -21,7 +21,7 @@ ghost use Prim.Native.Nat.{_≤_};
 ghost use lib.ListN.{length};
 ghost use Rattle.model.specs.Fold.{pick};
 ghost use Rattle.model.specs.Rules.{treeKeeps};
-ghost use Rattle.listing.specs.Listing.{bytes as bytesOf, field, ended, headLine, verdictOf, rowText, allLine, refusalText, reportText, slotText, slotsDue, slotsText, endText, reasonOf, placeText, reasonText, laid};
+ghost use Rattle.listing.specs.Listing.{bytes as bytesOf, field, ended, headLine, verdictOf, rowText, allLine, refusalText, reportText, slotText, slotsDue, slotsText, endText, reasonOf, placeText, reasonText, Written};
 ghost use Rattle.listing.specs.Put.{Put, rowMade};
 
 // What a page of slots holds: the lines of so many slots, and how many bytes they are.
@@ -107,7 +107,7 @@ fn put_report(t: Tree, out: &mut [u8]) -> usize
 
 // The report of a configuration, or the refusal 11.
 pub fn report_text(t: Tree, out: &mut [u8; 65536]) -> usize
-    ensures { λ r. ⌜ (now (out .exit) ≡ laid (reportText t) (now (out .entry))) × (r ≡ length (reportText t)) ⌝ }
+    ensures { λ r. ⌜ Written (reportText t) (now (out .entry)) (now (out .exit)) r ⌝ }
 {
     if tree_keeps(t) {
         return put_report(t, out);
@@ -117,7 +117,7 @@ pub fn report_text(t: Tree, out: &mut [u8; 65536]) -> usize
 
 // The line of a refusal.
 pub fn refusal_text(number: u8, line: u32, out: &mut [u8; 65536]) -> usize
-    ensures { λ r. ⌜ (now (out .exit) ≡ laid (refusalText number line) (now (out .entry))) × (r ≡ length (refusalText number line)) ⌝ }
+    ensures { λ r. ⌜ Written (refusalText number line) (now (out .entry)) (now (out .exit)) r ⌝ }
 {
     put_refusal(out, number, line)
 }
@@ -162,7 +162,7 @@ fn put_slots(out: &mut [u8], served: &[u8], first: usize, count: usize) -> usize
 
 // The lines of the slots from `first` on, as many as a page holds: `served` has the byte of each slot used.
 pub fn slots_text(served: &[u8], first: usize, out: &mut [u8; 65536]) -> Filled
-    ensures { λ r. ⌜ (r .slots ≡ slotsDue (length (now (served .entry))) first) × (now (out .exit) ≡ laid (slotsText (now (served .entry)) first) (now (out .entry))) × (r .bytes ≡ length (slotsText (now (served .entry)) first)) ⌝ }
+    ensures { λ r. ⌜ (r .slots ≡ slotsDue (length (now (served .entry))) first) × Written (slotsText (now (served .entry)) first) (now (out .entry)) (now (out .exit)) (r .bytes) ⌝ }
 {
     let count = slots_due(served.len(), first);
     let bytes = put_slots(out, served, first, count);
@@ -190,7 +190,7 @@ fn put_end(out: &mut [u8], done: bool, slots: u32) -> usize
 
 // The last line of a simulation.
 pub fn end_text(done: bool, slots: u32, out: &mut [u8; 65536]) -> usize
-    ensures { λ r. ⌜ (now (out .exit) ≡ laid (endText done slots) (now (out .entry))) × (r ≡ length (endText done slots)) ⌝ }
+    ensures { λ r. ⌜ Written (endText done slots) (now (out .entry)) (now (out .exit)) r ⌝ }
 {
     put_end(out, done, slots)
 }
@@ -243,7 +243,7 @@ fn put_reason(out: &mut [u8], number: u8, line: u32) -> usize
 
 // What a refusal means, in words for a person.
 pub fn reason_text(number: u8, line: u32, out: &mut [u8; 65536]) -> usize
-    ensures { λ r. ⌜ (now (out .exit) ≡ laid (reasonText number line) (now (out .entry))) × (r ≡ length (reasonText number line)) ⌝ }
+    ensures { λ r. ⌜ Written (reasonText number line) (now (out .entry)) (now (out .exit)) r ⌝ }
 {
     put_reason(out, number, line)
 }

@@ -7,7 +7,7 @@ use Rattle.listing.proofs.end_text.Tie as tie
 
 returns : tie.Need-returns
 returns c =
-    put-laid (c .put-end .ensures) (omega (arith, c .before .put-end-arg .given .0 .1))
+    put-laid (c .put-end .ensures) (omega arith) (c .before .put-end-arg .given .0 .1)
 
 pub end-text-spec : {M : Type 1} → statement M
 end-text-spec = tie.close (tie.spec (λ c κs. search needs) returns)

@@ -7,7 +7,7 @@ use Rattle.listing.proofs.reason_text.Tie as tie
 
 returns : tie.Need-returns
 returns c =
-    put-laid (c .put-reason .ensures) (omega (arith, c .before .put-reason-arg .given .0 .1))
+    put-laid (c .put-reason .ensures) (omega arith) (c .before .put-reason-arg .given .0 .1)
 
 pub reason-text-spec : {M : Type 1} → statement M
 reason-text-spec = tie.close (tie.spec (λ c κs. search needs) returns)

@@ -12,12 +12,12 @@ put-report-requires c κs = sym (c .before .before .tree-keeps .ensures) ∙ c .
 
 returns : tie.Need-returns
 returns c =
-    put-laid (c .put-report .ensures) (omega (arith, c .before .put-report-arg .given .0 .1))
+    put-laid (c .put-report .ensures) (omega arith) (c .before .put-report-arg .given .0 .1)
 
 returns-2 : tie.Need-returns-2
 returns-2 c =
     put-laid (put-as (sym (report-broken _ (sym (c .before .before .before .tree-keeps .ensures) ∙ c .before .before .if1 .left))) (c .put-refusal .ensures))
-    (omega (arith, c .before .put-refusal-arg .given .0 .1))
+    (omega arith) (c .before .put-refusal-arg .given .0 .1)
 
 pub report-text-spec : {M : Type 1} → statement M
 report-text-spec = tie.close (tie.spec (λ c κs. search needs) put-report-requires returns (λ c κs. search needs) returns-2)
