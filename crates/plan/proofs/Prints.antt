@@ -1,20 +1,31 @@
 -- A text that fits the reading's answer is the report of the file: the reading equals its definition, by `read_tree`'s
 -- contract.
-use Prim.Native.Nat.{ℕ}
+use Prim.Native.Nat.{ℕ, _≤_}
+use native.Mathlib.Omega.{arith}
+use lib.ListN.{length, take, length-append}
+use lib.Seq.{length-take-le}
 use mathlib.Core.List.{List}
-use mathlib.Core.Path.{_≡_, ap, sym, _∙_}
-use lib.ListN.{length}
+use mathlib.Core.Path.{_≡_, ap, sym, subst, _∙_}
 use Rattle.reader.specs.declared.FileAnswer.{FileAnswer}
 use Rattle.reader.specs.declared.TreeRead.{TreeRead}
-use Rattle.listing.specs.Listing.{laid}
-use Rattle.plan.specs.Plan.{printed, numberGiven, lineGiven}
+use Rattle.listing.specs.Listing.{Written}
+use Rattle.plan.specs.Plan.{printed, numberGiven, lineGiven, Printing}
 
-pub prints : (R Q : TreeRead) → R ≡ Q → (x : FileAnswer) → R .answer ≡ x → (d e : List ℕ) (n : ℕ)
-    → e ≡ laid (printed x (R .tree)) d → n ≡ length (printed x (R .tree))
-    → (e ≡ laid (printed (Q .answer) (Q .tree)) d) × (n ≡ length (printed (Q .answer) (Q .tree)))
-    × (numberGiven x ≡ numberGiven (Q .answer)) × (lineGiven x ≡ lineGiven (Q .answer))
-prints R Q h x a d e n p q =
+pub prints : (R Q : TreeRead) → R ≡ Q → (x : FileAnswer) → R .answer ≡ x → {d e : List ℕ} {n : ℕ} (k l : ℕ)
+    → Written (printed x (R .tree)) d e n → k ≡ numberGiven x → l ≡ lineGiven x → Printing Q d e n k l
+prints R Q h x a {d} {e} {n} k l w p q =
     let same : printed x (R .tree) ≡ printed (Q .answer) (Q .tree) =
     ap (λ (y : FileAnswer). printed y (R .tree)) (sym a) ∙ ap (λ (r : TreeRead). printed (r .answer) (r .tree)) h in
     let answer : x ≡ Q .answer = sym a ∙ ap (λ (r : TreeRead). r .answer) h in
-    (p ∙ ap (λ (t : List ℕ). laid t d) same, q ∙ ap length same, ap numberGiven answer, ap lineGiven answer)
+    record {
+      text = subst (λ (t : List ℕ). Written t d e n) same w;
+      number = p ∙ ap numberGiven answer;
+      line = q ∙ ap lineGiven answer;
+    }
+
+-- a text that was put into a page is within it
+pub in-page : {xs d e : List ℕ} {n : ℕ} → Written xs d e n → n ≤ length e
+in-page {xs} {d} w = omega (arith, w .bytes, simp length-append at (ap length (w .page)))
+
+pub part-length : {xs d e : List ℕ} {n : ℕ} → Written xs d e n → n ≡ length (take n e)
+part-length {e = e} {n = n} w = sym (length-take-le n e (in-page w))

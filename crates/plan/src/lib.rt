@@ -4,11 +4,8 @@ use listing::report_text;
 use model::number;
 use reader::FileAnswer;
 use reader::tree::read_tree;
-ghost use mathlib.Core.Path.{_≡_};
-ghost use lib.ListN.{length, take};
-ghost use Rattle.listing.specs.Listing.{laid};
 ghost use Rattle.reader.specs.TreeFile.{readTree};
-ghost use Rattle.plan.specs.Plan.{reportOf, numberGiven, lineGiven};
+ghost use Rattle.plan.specs.Plan.{Printing};
 
 // How many bytes were put, and the refusal's number and line; number 0 says that the file is accepted.
 pub struct Printed {
@@ -18,7 +15,7 @@ pub struct Printed {
 }
 
 pub fn report(input: &[u8], out: &mut [u8; 65536]) -> Printed
-    ensures { λ r. ⌜ (now (out .exit) ≡ laid (reportOf (now (input .entry))) (now (out .entry))) × (r .bytes ≡ length (reportOf (now (input .entry)))) × (r .number ≡ numberGiven (readTree (now (input .entry)) .answer)) × (r .line ≡ lineGiven (readTree (now (input .entry)) .answer)) ⌝ }
+    ensures { λ r. ⌜ Printing (readTree (now (input .entry))) (now (out .entry)) (now (out .exit)) (r .bytes) (r .number) (r .line) ⌝ }
 {
     let x = read_tree(input);
     let t = x.tree;
@@ -50,14 +47,4 @@ pub fn report(input: &[u8], out: &mut [u8; 65536]) -> Printed
             }
         }
     }
-}
-
-// The first n bytes of a page; all of it where it has no more.
-pub fn part(page: &[u8], n: usize) -> &[u8]
-    ensures { λ r. ⌜ now r ≡ take n (now (page .entry)) ⌝ }
-{
-    if n < page.len() {
-        return &page[..n];
-    }
-    &page[..]
 }
