@@ -118,10 +118,10 @@ level-child t j d = omega (arith, above-up 14 t j d, above-more 14 t (parentOf t
 
 -- one port stored
 module _ (t : Tree) (j p : ℕ) (x : Port) (h : j < length (t .interconnects)) where
-  stored-here : interconnectOf (withPort t j p x) j ≡ carrying (interconnectOf t j) p x
+  pub stored-here : interconnectOf (withPort t j p x) j ≡ carrying (interconnectOf t j) p x
   stored-here = getD-set-same (t .interconnects) j _ noInterconnect h
 
-  stored-other : (k : ℕ) → (k ≡ j → ⊥) → interconnectOf (withPort t j p x) k ≡ interconnectOf t k
+  pub stored-other : (k : ℕ) → (k ≡ j → ⊥) → interconnectOf (withPort t j p x) k ≡ interconnectOf t k
   stored-other k d = getD-set-other (t .interconnects) j k _ noInterconnect d
 
   pub stored-parent : (k : ℕ) → parentOf (withPort t j p x) k ≡ parentOf t k
@@ -173,7 +173,7 @@ module _ (t : Tree) (j parent port g : ℕ) (h : j < length (t .interconnects)) 
   pub new-port : (q : ℕ) → portOf (withInterconnect t j parent port g) j q ≡ Empty
   new-port q = ap (λ (c : Interconnect). getD (c .ports) q emptyCell .port) new-here ∙ ap (λ (c : PortCell). c .port) (same-everywhere 8 q emptyCell)
 
-not-acc : (x : Port) (a : ℕ) → x ≡ Empty → x ≡ Acc a → ⊥
+pub not-acc : (x : Port) (a : ℕ) → x ≡ Empty → x ≡ Acc a → ⊥
 not-acc x a e f = let z : _≡_ {A = ℕ} 0 1 = cc in zero-one z
 
 not-int : (x : Port) (k : ℕ) → x ≡ Empty → x ≡ Int k → ⊥
@@ -195,7 +195,7 @@ no-port j p = blank-port emptyTree j p (same-everywhere 15 j noInterconnect)
 no-limit : (t : Tree) (a : ℕ) → acceleratorOf t a ≡ noAccelerator → 0 < limitOf t a → ⊥
 no-limit t a e h = omega (arith, ap (λ (x : Accelerator). x .phi) e)
 
-partial-empty : Partial emptyTree
+pub partial-empty : Partial emptyTree
 partial-empty =
     record {
       ints-size = refl;
@@ -442,16 +442,16 @@ module _ (t : Tree) (j parent port g : ℕ) (P : Partial t) (next : j ≡ t .int
 
 -- an accelerator is stored in its port and as its record
 module _ (t : Tree) (v : List ℕ) (P : Partial t) (e : limitsKept AccLine v ≡ true) (known : getD v 1 0 < t .ints) (once : limitOf t (getD v 0 0) ≡ 0) (free : portOf t (getD v 1 0) (getD v 2 0) ≡ Empty) where
-  home-size : getD v 1 0 < length (t .interconnects)
+  pub home-size : getD v 1 0 < length (t .interconnects)
   home-size = omega (arith, P .ints-size, P .most-ints)
 
-  acc-size : getD v 0 0 < length (t .accelerators)
+  pub acc-size : getD v 0 0 < length (t .accelerators)
   acc-size = omega (arith, P .accs-size, most AccLine v e 0 (lit< tt))
 
-  acc-new : acceleratorOf (withAcc t v) (getD v 0 0) ≡ accOf v
+  pub acc-new : acceleratorOf (withAcc t v) (getD v 0 0) ≡ accOf v
   acc-new = getD-set-same (t .accelerators) (getD v 0 0) (accOf v) noAccelerator acc-size
 
-  acc-old : (b : ℕ) → (b ≡ getD v 0 0 → ⊥) → acceleratorOf (withAcc t v) b ≡ acceleratorOf t b
+  pub acc-old : (b : ℕ) → (b ≡ getD v 0 0 → ⊥) → acceleratorOf (withAcc t v) b ≡ acceleratorOf t b
   acc-old b d = getD-set-other (t .accelerators) (getD v 0 0) b (accOf v) noAccelerator d
 
   -- a port that carries something is not the one that was free
@@ -459,7 +459,7 @@ module _ (t : Tree) (v : List ℕ) (P : Partial t) (e : limitsKept AccLine v ≡
   elsewhere j p x f d =
       stored-apart t (getD v 1 0) (getD v 2 0) (Acc (getD v 0 0)) home-size j p (λ i q. d (sym f ∙ subst (λ (n : ℕ). portOf t n p ≡ Empty) (sym i) (subst (λ (n : ℕ). portOf t (getD v 1 0) n ≡ Empty) (sym q) free))) ∙ f
 
-  acc-at : portOf (withAcc t v) (getD v 1 0) (getD v 2 0) ≡ Acc (getD v 0 0)
+  pub acc-at : portOf (withAcc t v) (getD v 1 0) (getD v 2 0) ≡ Acc (getD v 0 0)
   acc-at = stored-at t (getD v 1 0) (getD v 2 0) (Acc (getD v 0 0)) home-size (omega (arith, P .ports-size (getD v 1 0), most AccLine v e 2 (lit< tt)))
 
   data AccPort (j p : ℕ) : Type 0 where
@@ -535,7 +535,7 @@ module _ (t : Tree) (v : List ℕ) (P : Partial t) (e : limitsKept AccLine v ≡
         period = omega (arith, U .period, ap (λ (x : Accelerator). x .period) r);
       }
 
-  partial-acc : Partial (withAcc t v)
+  pub partial-acc : Partial (withAcc t v)
   partial-acc =
       let parents = stored-parent t (getD v 1 0) (getD v 2 0) (Acc (getD v 0 0)) home-size in
       let parent-ports = stored-parent-port t (getD v 1 0) (getD v 2 0) (Acc (getD v 0 0)) home-size in
@@ -573,10 +573,10 @@ module _ (t : Tree) (v : List ℕ) (P : Partial t) (e : limitsKept AccLine v ≡
 abbrev Fine : TreeRead → Type 0
 Fine r = r .answer ≡ Accepted → Partial (r .tree)
 
-never-refused : (A : Type 0) (x : Refusal) (n : ℕ) → Refused x n ≡ Accepted → A
+pub never-refused : (A : Type 0) (x : Refusal) (n : ℕ) → Refused x n ≡ Accepted → A
 never-refused A x n e = let z : _≡_ {A = ℕ} 0 1 = cc in zero-one z
 
-never-broken : {A : Type 0} → Broken ≡ Accepted → A
+pub never-broken : {A : Type 0} → Broken ≡ Accepted → A
 never-broken e = let z : _≡_ {A = ℕ} 0 1 = cc in zero-one z
 
 fine-pick : (c : Bool) (x : Refusal) (n : ℕ) (y : TreeRead) → (c ≡ false → Fine y) → Fine (pick c (refusedAt x n) y)
@@ -587,7 +587,7 @@ fine-choice : (c : Bool) (x y : TreeRead) → (c ≡ true → Fine x) → (c ≡
 fine-choice true x y f g e = f refl e
 fine-choice false x y f g e = g refl e
 
-is-empty : (x : Port) → isEmpty x ≡ true → x ≡ Empty
+pub is-empty : (x : Port) → isEmpty x ≡ true → x ≡ Empty
 is-empty Empty e = refl
 is-empty (Acc a) e = let z : _≡_ {A = ℕ} 0 1 = cc in zero-one z
 is-empty (Int j) e = let z : _≡_ {A = ℕ} 0 1 = cc in zero-one z

@@ -4,3 +4,4 @@ pub mod Files
 pub mod Traces
 pub mod Kept
 pub mod Requests
+pub mod Order
