@@ -5,3 +5,6 @@ pub mod Traces
 pub mod Kept
 pub mod Requests
 pub mod Order
+pub mod Written
+pub mod Stage
+pub mod Complete

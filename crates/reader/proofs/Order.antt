@@ -1,13 +1,13 @@
 -- Two texts that differ only in the order of acc lines are read as the same tree: two acc lines that follow one another are
 -- accepted in either order, because each leaves the other's number and port as they were, and the two stores commute.
-use Prim.Native.Nat.{ℕ, zero, suc, _+_, _-_, _≤_, _<_, max}
+use Prim.Native.Nat.{ℕ, _+_, _<_, max}
 use mathlib.Core.Bool.{Bool, true, false, _&&_, not}
-use mathlib.Core.List.{List, [], _∷_}
+use mathlib.Core.List.{List, _∷_}
 use mathlib.Core.Path.{_≡_, refl, sym, _∙_, ap, ap₂, subst}
 use native.Mathlib.Decide.{decLt, ℕ-discrete}
 use native.Mathlib.Omega.{arith}
-use lib.Dec.{ltb, leb, eqb, lit<}
-use lib.ListN.{length, getD, set, length-set}
+use lib.Dec.{ltb, leb, lit<}
+use lib.ListN.{length, getD, set}
 use lib.Seq.{getD-set-same, getD-set-other, set-comm, set-set}
 use borrow.Author.Tests.{lt-ltb, le-ltb, ltb-false, leb-false, not-false}
 use Rattle.text.specs.Text.{lines, unended}
@@ -17,7 +17,7 @@ use Rattle.model.specs.declared.Interconnect.{Interconnect}
 use Rattle.model.specs.declared.Accelerator.{Accelerator}
 use Rattle.model.specs.declared.PortCell.{PortCell}
 use Rattle.model.specs.declared.Port.{Port}
-use Rattle.model.specs.declared.Port.the-variants.{Empty, Acc, Int}
+use Rattle.model.specs.declared.Port.the-variants.{Empty, Acc}
 use Rattle.model.specs.declared.Refusal.{Refusal}
 use Rattle.model.specs.declared.Refusal.the-variants.{Shape, Limit, Order, Taken}
 use Rattle.model.specs.Fold.{pick}
@@ -31,9 +31,9 @@ use Rattle.reader.specs.declared.Kind.{Kind}
 use Rattle.reader.specs.declared.Kind.the-variants.{AccLine}
 use Rattle.reader.specs.declared.Line.{Line}
 use Rattle.reader.specs.Lines.{lineOf, inTree, shaped, limitsKept}
-use Rattle.reader.specs.TreeFile.{emptyTree, refusedAt, given, carrying, withPort, accOf, withAcc, accLine, recordLine, treeLine, onward, readLines, readTree}
-use Rattle.reader.proofs.Tests.{least, most, acc-given, line-record}
-use Rattle.reader.proofs.Kept.{Partial, zero-one, fine-line, acc-new, acc-old, acc-at, stored-apart, home-size, acc-size, partial-acc, is-empty, not-acc, never-refused, never-broken, partial-empty}
+use Rattle.reader.specs.TreeFile.{emptyTree, refusedAt, given, carrying, accOf, withAcc, accLine, recordLine, treeLine, onward, readLines, readTree}
+use Rattle.reader.proofs.Tests.{least, acc-given, line-record}
+use Rattle.reader.proofs.Kept.{Partial, fine-line, acc-new, acc-old, acc-at, stored-apart, home-size, is-empty, not-acc, never-refused, never-broken, partial-empty}
 
 -- a test whose failure is a refusal has passed where the answer is accepted
 passed-test : (c : Bool) (x : Refusal) (n : ℕ) (y : TreeRead) → pick c (refusedAt x n) y .answer ≡ Accepted → (c ≡ false) × (y .answer ≡ Accepted)
