@@ -1,3 +1,4 @@
 pub mod Lines
 pub mod TreeFile
 pub mod TraceFile
+pub mod TreeText
