@@ -1,5 +1,5 @@
 // Texts stored in a lent buffer, one after the other. Each function stores from `at` on and answers where the next byte
-// goes; what would lie past the buffer's end is dropped.
+// goes; what would lie past the buffer's end is dropped. The bound that each asks of `at` only keeps sums from wrapping.
 ghost use mathlib.Core.Path.{_≡_};
 ghost use mathlib.Core.List.{[], _∷_, _++_};
 ghost use Prim.Native.Nat.{_+_, _-_, _≤_};

@@ -1,4 +1,4 @@
--- `put_row` meets its contract: the parts of the line are stored one after the other.
+-- `put_row` meets its contract: the fields of the line are stored one after the other.
 use mathlib.Core.Path.{_∙_}
 use native.Mathlib.Omega.{arith}
 use borrow.Author.Needs.{needs}
@@ -9,28 +9,71 @@ use Rattle.listing.proofs.put_row.Tie as tie
 
 put-field-requires-5 : tie.Need-put-field-requires-5
 put-field-requires-5 c κs =
-    omega (arith, c .before .before .before .before .before .before .before .before .before .before .before .before .before .before .before .before .put-field .ensures, c .before .before .before .before .before .before .before .before .before .before .before .put-field2 .ensures, c .before .before .before .before .before .before .before .put-field3 .ensures, c .before .before .before .put-field4 .ensures, c .before .before .before .before .before .before .before .before .before .before .before .before .before .before .before .before .before .before .before .before .before .before .before .pre)
+    let f4 = c .before .before .before in
+    let f3 = f4 .before .before .before .before in
+    let f2 = f3 .before .before .before .before in
+    let f1 = f2 .before .before .before .before .before in
+    omega (arith, f4 .put-field4 .ensures, f3 .put-field3 .ensures, f2 .put-field2 .ensures, f1 .put-field .ensures, f1 .before .before .before .before .before .before .before .pre)
 
 put-field-requires-6 : tie.Need-put-field-requires-6
 put-field-requires-6 c κs =
-    omega (arith, c .before .before .before .before .before .before .before .before .before .before .before .before .before .before .before .before .before .before .before .before .put-field .ensures, c .before .before .before .before .before .before .before .before .before .before .before .before .before .before .before .put-field2 .ensures, c .before .before .before .before .before .before .before .before .before .before .before .put-field3 .ensures, c .before .before .before .before .before .before .before .put-field4 .ensures, c .before .before .before .put-field5 .ensures, c .before .before .before .before .before .before .before .before .before .before .before .before .before .before .before .before .before .before .before .before .before .before .before .before .before .before .before .pre)
+    let f5 = c .before .before .before in
+    let f4 = f5 .before .before .before .before in
+    let f3 = f4 .before .before .before .before in
+    let f2 = f3 .before .before .before .before in
+    let f1 = f2 .before .before .before .before .before in
+    omega (arith, f5 .put-field5 .ensures, f4 .put-field4 .ensures, f3 .put-field3 .ensures, f2 .put-field2 .ensures, f1 .put-field .ensures, f1 .before .before .before .before .before .before .before .pre)
 
 put-field-requires-7 : tie.Need-put-field-requires-7
 put-field-requires-7 c κs =
-    omega (arith, c .before .before .before .before .before .before .before .before .before .before .before .before .before .before .before .before .before .before .before .before .before .before .before .before .put-field .ensures, c .before .before .before .before .before .before .before .before .before .before .before .before .before .before .before .before .before .before .before .put-field2 .ensures, c .before .before .before .before .before .before .before .before .before .before .before .before .before .before .before .put-field3 .ensures, c .before .before .before .before .before .before .before .before .before .before .before .put-field4 .ensures, c .before .before .before .before .before .before .before .put-field5 .ensures, c .before .before .before .put-field6 .ensures, c .before .before .before .before .before .before .before .before .before .before .before .before .before .before .before .before .before .before .before .before .before .before .before .before .before .before .before .before .before .before .before .pre)
+    let f6 = c .before .before .before in
+    let f5 = f6 .before .before .before .before in
+    let f4 = f5 .before .before .before .before in
+    let f3 = f4 .before .before .before .before in
+    let f2 = f3 .before .before .before .before in
+    let f1 = f2 .before .before .before .before .before in
+    omega (arith, f6 .put-field6 .ensures, f5 .put-field5 .ensures, f4 .put-field4 .ensures, f3 .put-field3 .ensures, f2 .put-field2 .ensures, f1 .put-field .ensures, f1 .before .before .before .before .before .before .before .pre)
 
 put-verdict-requires : tie.Need-put-verdict-requires
 put-verdict-requires c κs =
-    omega (arith, c .before .before .before .before .before .before .before .before .before .before .before .before .before .before .before .before .before .before .before .before .before .before .before .before .before .before .before .before .put-field .ensures, c .before .before .before .before .before .before .before .before .before .before .before .before .before .before .before .before .before .before .before .before .before .before .before .put-field2 .ensures, c .before .before .before .before .before .before .before .before .before .before .before .before .before .before .before .before .before .before .before .put-field3 .ensures, c .before .before .before .before .before .before .before .before .before .before .before .before .before .before .before .put-field4 .ensures, c .before .before .before .before .before .before .before .before .before .before .before .put-field5 .ensures, c .before .before .before .before .before .before .before .put-field6 .ensures, c .before .before .before .put-field7 .ensures, c .before .before .before .before .before .before .before .before .before .before .before .before .before .before .before .before .before .before .before .before .before .before .before .before .before .before .before .before .before .before .before .before .before .before .before .pre)
+    let f7 = c .before .before .before in
+    let f6 = f7 .before .before .before .before in
+    let f5 = f6 .before .before .before .before in
+    let f4 = f5 .before .before .before .before in
+    let f3 = f4 .before .before .before .before in
+    let f2 = f3 .before .before .before .before in
+    let f1 = f2 .before .before .before .before .before in
+    omega (arith, f7 .put-field7 .ensures, f6 .put-field6 .ensures, f5 .put-field5 .ensures, f4 .put-field4 .ensures, f3 .put-field3 .ensures, f2 .put-field2 .ensures, f1 .put-field .ensures, f1 .before .before .before .before .before .before .before .pre)
 
 same-length : tie.Need-same-length
 same-length c =
-    c .before .before .put-verdict .kept .0 ∙ c .before .before .before .before .before .before .put-field7 .kept .0 ∙ c .before .before .before .before .before .before .before .before .before .before .put-field6 .kept .0 ∙ c .before .before .before .before .before .before .before .before .before .before .before .before .before .before .put-field5 .kept .0 ∙ c .before .before .before .before .before .before .before .before .before .before .before .before .before .before .before .before .before .before .put-field4 .kept .0 ∙ c .before .before .before .before .before .before .before .before .before .before .before .before .before .before .before .before .before .before .before .before .before .before .put-field3 .kept .0 ∙ c .before .before .before .before .before .before .before .before .before .before .before .before .before .before .before .before .before .before .before .before .before .before .before .before .before .before .put-field2 .kept .0 ∙ c .before .before .before .before .before .before .before .before .before .before .before .before .before .before .before .before .before .before .before .before .before .before .before .before .before .before .before .before .before .before .before .put-field .kept .0
+    let f7 = c .before .before .before .before .before .before in
+    let f6 = f7 .before .before .before .before in
+    let f5 = f6 .before .before .before .before in
+    let f4 = f5 .before .before .before .before in
+    let f3 = f4 .before .before .before .before in
+    let f2 = f3 .before .before .before .before in
+    let f1 = f2 .before .before .before .before .before in
+    c .before .before .put-verdict .kept .0
+    ∙ f7 .put-field7 .kept .0
+    ∙ f6 .put-field6 .kept .0
+    ∙ f5 .put-field5 .kept .0
+    ∙ f4 .put-field4 .kept .0
+    ∙ f3 .put-field3 .kept .0
+    ∙ f2 .put-field2 .kept .0
+    ∙ f1 .put-field .kept .0
 
 returns : tie.Need-returns
 unfolding rowText
 returns c =
-    put-then (put-then (put-then (put-then (put-then (put-then (put-then (c .before .before .before .before .before .before .before .before .before .before .before .before .before .before .before .before .before .before .before .before .before .before .before .before .before .before .before .before .before .before .before .put-field .ensures) (c .before .before .before .before .before .before .before .before .before .before .before .before .before .before .before .before .before .before .before .before .before .before .before .before .before .before .put-field2 .ensures)) (c .before .before .before .before .before .before .before .before .before .before .before .before .before .before .before .before .before .before .before .before .before .before .put-field3 .ensures)) (c .before .before .before .before .before .before .before .before .before .before .before .before .before .before .before .before .before .before .put-field4 .ensures)) (c .before .before .before .before .before .before .before .before .before .before .before .before .before .before .put-field5 .ensures)) (c .before .before .before .before .before .before .before .before .before .before .put-field6 .ensures)) (c .before .before .before .before .before .before .put-field7 .ensures)) (c .before .before .put-verdict .ensures)
+    let f7 = c .before .before .before .before .before .before in
+    let f6 = f7 .before .before .before .before in
+    let f5 = f6 .before .before .before .before in
+    let f4 = f5 .before .before .before .before in
+    let f3 = f4 .before .before .before .before in
+    let f2 = f3 .before .before .before .before in
+    let f1 = f2 .before .before .before .before .before in
+    put-then (put-then (put-then (put-then (put-then (put-then (put-then (f1 .put-field .ensures) (f2 .put-field2 .ensures)) (f3 .put-field3 .ensures)) (f4 .put-field4 .ensures)) (f5 .put-field5 .ensures)) (f6 .put-field6 .ensures)) (f7 .put-field7 .ensures)) (c .before .before .put-verdict .ensures)
 
 pub put-row-spec : {M : Type 1} → statement M
 put-row-spec = tie.close (tie.spec (λ c κs. search needs) (λ c. search needs) (λ c κs. search needs) (λ c κs. search needs) (λ c κs. search needs) put-field-requires-5 put-field-requires-6 put-field-requires-7 put-verdict-requires same-length returns)
