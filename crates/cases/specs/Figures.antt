@@ -1,4 +1,4 @@
--- The starred cases of document 01, "Figures to check by": one table under one claim.
+-- The starred cases and the worked listing of document 01, "Figures to check by": one table under one claim.
 --
 -- Figure               one figure of a case
 -- answers t cs xs      the calls cs, from the fresh state of the tree t, get the answers xs

@@ -15,7 +15,6 @@ use bounds::bound;
 use model::Tree;
 use model::rules::tree_keeps;
 ghost use mathlib.Core.Bool.{true};
-ghost use mathlib.Core.List.{_++_};
 ghost use mathlib.Core.Path.{_≡_};
 ghost use Prim.Native.Nat.{_≤_};
 ghost use lib.ListN.{length};

@@ -2,10 +2,9 @@
 // goes; what would lie past the buffer's end is dropped. The bound that each asks of `at` only keeps sums from wrapping.
 ghost use mathlib.Core.Path.{_≡_};
 ghost use mathlib.Core.List.{[], _∷_, _++_};
-ghost use Prim.Native.Nat.{_+_, _-_, _≤_};
-ghost use lib.ListN.{length, take, drop};
+ghost use Prim.Native.Nat.{_+_, _≤_};
+ghost use lib.ListN.{length};
 ghost use Rattle.listing.specs.Decimal.{decimalText};
-ghost use Rattle.listing.specs.Listing.{lineOf};
 ghost use Rattle.listing.specs.Put.{Put};
 
 pub fn put_byte(out: &mut [u8], at: usize, b: u8) -> usize
