@@ -1,0 +1,12 @@
+-- `write_part` is safe: what it writes is a part of the bytes, by its test.
+use mathlib.Core.Path.{sym}
+use borrow.Author.Needs.{needs}
+use lib.Seq.{length-take-le}
+use Rattle.simulate.proofs.write_part.Statement.{statement}
+use Rattle.simulate.proofs.write_part.Tie as tie
+
+slice-aggregate-write-all : tie.Need-slice-aggregate-write-all
+slice-aggregate-write-all c = sym (length-take-le _ _ (c .before .if1 .taken))
+
+pub write-part-spec : {M : Type 1} → statement M
+write-part-spec = tie.close (tie.spec slice-aggregate-write-all (λ c κs. search needs) (λ c. search needs) (λ c. search needs))
