@@ -312,31 +312,24 @@ module _ (t : Tree) (j parent port g : ℕ) (P : Partial t) (next : j ≡ t .int
   parent-size = omega (arith, P .ints-size)
 
   child-size : j < length (carried .interconnects)
-  unfolding carried
   child-size = omega (arith, P .ints-size, length-set (t .interconnects) parent (carrying (interconnectOf t parent) port (Int j)))
 
   pub child-new : interconnectOf child j ≡ record { parent = parent; port = port; granularity = g; ports = replicate 8 emptyCell }
-  unfolding child carried
   child-new = new-here carried j parent port g child-size
 
   child-old : (k : ℕ) → (k ≡ j → ⊥) → interconnectOf child k ≡ interconnectOf carried k
-  unfolding child carried
   child-old k d = new-other carried j parent port g child-size k d
 
   pub child-parent : (k : ℕ) → (k ≡ j → ⊥) → parentOf child k ≡ parentOf t k
-  unfolding carried
   child-parent k d = ap (λ (c : Interconnect). c .parent) (child-old k d) ∙ stored-parent t parent port (Int j) parent-size k
 
   pub child-parent-port : (k : ℕ) → (k ≡ j → ⊥) → parentPortOf child k ≡ parentPortOf t k
-  unfolding carried
   child-parent-port k d = ap (λ (c : Interconnect). c .port) (child-old k d) ∙ stored-parent-port t parent port (Int j) parent-size k
 
   pub child-granularity : (k : ℕ) → (k ≡ j → ⊥) → granularityOf child k ≡ granularityOf t k
-  unfolding carried
   child-granularity k d = ap (λ (c : Interconnect). c .granularity) (child-old k d) ∙ stored-granularity t parent port (Int j) parent-size k
 
   child-ports-size : (k : ℕ) → length (interconnectOf child k .ports) ≡ 8
-  unfolding carried
   child-ports-size k = elim (ℕ-discrete k j) [
     | yes e ↦ subst (λ (i : ℕ). length (interconnectOf child i .ports) ≡ 8) (sym e) (ap (λ (c : Interconnect). length (c .ports)) child-new)
     | no d ↦ ap (λ (c : Interconnect). length (c .ports)) (child-old k d) ∙ stored-size t parent port (Int j) parent-size k ∙ P .ports-size k
@@ -346,13 +339,11 @@ module _ (t : Tree) (j parent port g : ℕ) (P : Partial t) (next : j ≡ t .int
   child-port-new q = ap (λ (c : Interconnect). getD (c .ports) q emptyCell .port) child-new ∙ ap (λ (c : PortCell). c .port) (same-everywhere 8 q emptyCell)
 
   pub child-port-at : portOf child parent port ≡ Int j
-  unfolding carried
   child-port-at =
       ap (λ (c : Interconnect). getD (c .ports) port emptyCell .port) (child-old parent (omega arith))
       ∙ stored-at t parent port (Int j) parent-size (omega (arith, P .ports-size parent))
 
   pub child-port-other : (k q : ℕ) → (k ≡ j → ⊥) → (k ≡ parent → q ≡ port → ⊥) → portOf child k q ≡ portOf t k q
-  unfolding carried
   child-port-other k q d f =
       ap (λ (c : Interconnect). getD (c .ports) q emptyCell .port) (child-old k d) ∙ stored-apart t parent port (Int j) parent-size k q f
 
@@ -405,11 +396,9 @@ module _ (t : Tree) (j parent port g : ℕ) (P : Partial t) (next : j ≡ t .int
       (child-port-other (parentOf t k) (parentPortOf t k) (omega arith) (λ a b. not-int _ k free (subst (λ (i : ℕ). portOf t i port ≡ Int k) a (subst (λ (i : ℕ). portOf t (parentOf t k) i ≡ Int k) b c))) ∙ c))
 
   unchanged : (k : ℕ) → t .ints + 1 ≤ k → interconnectOf carried k ≡ noInterconnect
-  unfolding carried
   unchanged k l = stored-other t parent port (Int j) parent-size k (omega arith) ∙ P .unused-int k (omega arith)
 
   pub partial-child : levelOf t parent < 4 → t .accs ≡ 0 → 1 ≤ g → g ≤ 16 → Partial (withChild t j parent port g)
-  unfolding child
   partial-child low no-accs g1 g16 =
       let above-of = ap (λ (c : Interconnect). c .parent) child-new in
       let port-on = ap (λ (c : Interconnect). c .port) child-new in
