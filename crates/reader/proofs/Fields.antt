@@ -1,24 +1,22 @@
 -- Laws of a line: its parts read one after the other, its record name by the tests in order, its form's table. By the laws
 -- of parts at a position, and by cases.
-use Prim.Native.Nat.{ℕ, zero, suc, _+_, _-_, _≤_, _<_}
-use mathlib.Core.Bool.{Bool, true, false, cond, _&&_, _||_, not}
+use Prim.Native.Nat.{ℕ, _+_, _-_, _≤_, _<_}
+use mathlib.Core.Bool.{Bool, true, false, cond}
 use mathlib.Core.List.{List, [], _∷_}
-use mathlib.Core.Path.{_≡_, refl, sym, _∙_, ap, ap₂, subst}
+use mathlib.Core.Path.{_≡_, refl, sym, _∙_, ap}
 use native.Mathlib.Omega.{arith}
 use lib.Dec.{ltb, lit≤}
-use lib.ListN.{length, getD, take, drop, set}
+use lib.ListN.{length, take, drop}
 use lib.Seq.{set-out}
 use borrow.Author.Tests.{lt-ltb, le-ltb}
 use Rattle.text.specs.declared.Field.{Field}
 use Rattle.text.specs.declared.Field.the-variants.{Malformed, Dash, Number}
-use Rattle.text.specs.Text.{parts, partLength, fields, same, fieldOf}
+use Rattle.text.specs.Text.{parts, partLength, same, fieldOf}
 use Rattle.text.proofs.Parts.{part-next, taken, left}
-use Rattle.model.specs.Fold.{pick, all}
 use Rattle.model.proofs.Folds.{picked, passed}
 use Rattle.reader.specs.declared.Kind.{Kind}
 use Rattle.reader.specs.declared.Kind.the-variants.{NoRecord, BusLine, IntLine, AccLine, OfferLine}
 use Rattle.reader.specs.declared.Line.{Line}
-use Rattle.reader.specs.declared.Form.{Form}
 use Rattle.reader.specs.Lines.{kindOf, named, push, pushed, lineFrom, lineOf, formOf}
 
 -- the tests of a record name, one after the other

@@ -1,16 +1,16 @@
 -- A tree that the reader gives keeps its rules. What is read so far keeps those that concern it, `Partial`; each line that is
 -- accepted keeps them, because its tests are what they ask; at the end nothing is missing. By cases along the definition's
 -- own tests, and by induction on the lines.
-use Prim.Native.Nat.{ℕ, zero, suc, _+_, _-_, _≤_, _<_, max}
+use Prim.Native.Nat.{ℕ, zero, suc, _+_, _≤_, _<_}
 use mathlib.Core.Bool.{Bool, true, false, _&&_, not}
 use mathlib.Core.List.{List, [], _∷_}
-use mathlib.Core.Path.{_≡_, refl, sym, _∙_, ap, ap₂, subst}
+use mathlib.Core.Path.{_≡_, refl, sym, _∙_, ap, subst}
 use native.Mathlib.Decide.{decLt, ℕ-discrete}
 use native.Mathlib.Omega.{arith}
-use lib.Dec.{ltb, leb, eqb, lit<, lit≤}
-use lib.ListN.{length, getD, set, replicate, length-set, length-replicate, List·getD-eq-default}
-use lib.Seq.{getD-set-same, getD-set-other, set-out}
-use borrow.Author.Tests.{lt-ltb, le-ltb, le-leb, lt-leb, eq-eqb, ne-eqb, leb-true, ltb-true, eqb-true, ltb-false, leb-false, eqb-false, not-false, not-true}
+use lib.Dec.{ltb, leb, eqb, lit<}
+use lib.ListN.{length, getD, set, replicate, length-set}
+use lib.Seq.{getD-set-same, getD-set-other}
+use borrow.Author.Tests.{lt-ltb, le-ltb, eq-eqb, ne-eqb, ltb-true, eqb-true, ltb-false, leb-false, eqb-false, not-false}
 use Rattle.text.specs.Text.{lines, unended}
 use Rattle.model.specs.declared.Tree.{Tree}
 use Rattle.model.specs.declared.Interconnect.{Interconnect}
@@ -20,10 +20,10 @@ use Rattle.model.specs.declared.Port.{Port}
 use Rattle.model.specs.declared.Port.the-variants.{Empty, Acc, Int}
 use Rattle.model.specs.declared.Refusal.{Refusal}
 use Rattle.model.specs.declared.Refusal.the-variants.{Order, Shape, Limit}
-use Rattle.model.specs.Fold.{pick, all, within}
+use Rattle.model.specs.Fold.{pick, all}
 use Rattle.model.specs.Tree.{emptyCell, noInterconnect, noAccelerator, interconnectOf, acceleratorOf, portOf, granularityOf, parentOf, parentPortOf, homeOf, homePortOf, limitOf, budgetOf, above, levelOf}
 use Rattle.model.specs.Rules.{busKeeps, isEmpty, isAcc, isInt, carries, rootPlaced, childPlaced, isPlaced, usedInterconnect, unusedInterconnect, interconnectKeeps, usedAccelerator, unusedAccelerator, acceleratorKeeps, treeKeeps}
-use Rattle.model.proofs.Folds.{picked, passed, tests, both, all-at, at-all}
+use Rattle.model.proofs.Folds.{picked, passed, tests, both, all-at}
 use Rattle.reader.specs.declared.FileAnswer.{FileAnswer}
 use Rattle.reader.specs.declared.FileAnswer.the-variants.{Accepted, Refused, Broken}
 use Rattle.reader.specs.declared.TreeRead.{TreeRead}
@@ -31,8 +31,8 @@ use Rattle.reader.specs.declared.Kind.{Kind}
 use Rattle.reader.specs.declared.Kind.the-variants.{NoRecord, BusLine, IntLine, AccLine, OfferLine}
 use Rattle.reader.specs.declared.Line.{Line}
 use Rattle.reader.specs.Lines.{lineOf, valueAt, dashAt, inTree, shaped, limitsKept}
-use Rattle.reader.specs.TreeFile.{noBus, emptyTree, refusedAt, given, busOf, withBus, busLine, intInOrder, rootRule, carrying, withPort, withInterconnect, withRoot, withChild, childLine, intLine, accOf, withAcc, accLine, complete, finish, recordLine, treeLine, onward, readLines, readTree}
-use Rattle.reader.proofs.Tests.{least, most, next-number}
+use Rattle.reader.specs.TreeFile.{emptyTree, refusedAt, given, busOf, withBus, busLine, intInOrder, rootRule, carrying, withPort, withInterconnect, withRoot, withChild, childLine, intLine, accOf, withAcc, accLine, complete, finish, recordLine, treeLine, onward, readLines, readTree}
+use Rattle.reader.proofs.Tests.{least, most}
 
 -- the limits of an accelerator's fields, and that its place is right
 pub record Used (t : Tree) (a : ℕ) : Type 0 where
@@ -118,10 +118,10 @@ level-child t j d = omega (arith, above-up 14 t j d, above-more 14 t (parentOf t
 
 -- one port stored
 module _ (t : Tree) (j p : ℕ) (x : Port) (h : j < length (t .interconnects)) where
-  stored-here : interconnectOf (withPort t j p x) j ≡ carrying (interconnectOf t j) p x
+  pub stored-here : interconnectOf (withPort t j p x) j ≡ carrying (interconnectOf t j) p x
   stored-here = getD-set-same (t .interconnects) j _ noInterconnect h
 
-  stored-other : (k : ℕ) → (k ≡ j → ⊥) → interconnectOf (withPort t j p x) k ≡ interconnectOf t k
+  pub stored-other : (k : ℕ) → (k ≡ j → ⊥) → interconnectOf (withPort t j p x) k ≡ interconnectOf t k
   stored-other k d = getD-set-other (t .interconnects) j k _ noInterconnect d
 
   pub stored-parent : (k : ℕ) → parentOf (withPort t j p x) k ≡ parentOf t k
@@ -173,10 +173,10 @@ module _ (t : Tree) (j parent port g : ℕ) (h : j < length (t .interconnects)) 
   pub new-port : (q : ℕ) → portOf (withInterconnect t j parent port g) j q ≡ Empty
   new-port q = ap (λ (c : Interconnect). getD (c .ports) q emptyCell .port) new-here ∙ ap (λ (c : PortCell). c .port) (same-everywhere 8 q emptyCell)
 
-not-acc : (x : Port) (a : ℕ) → x ≡ Empty → x ≡ Acc a → ⊥
+pub not-acc : (x : Port) (a : ℕ) → x ≡ Empty → x ≡ Acc a → ⊥
 not-acc x a e f = let z : _≡_ {A = ℕ} 0 1 = cc in zero-one z
 
-not-int : (x : Port) (k : ℕ) → x ≡ Empty → x ≡ Int k → ⊥
+pub not-int : (x : Port) (k : ℕ) → x ≡ Empty → x ≡ Int k → ⊥
 not-int x k e f = let z : _≡_ {A = ℕ} 0 1 = cc in zero-one z
 
 acc-not-int : (x : Port) (k a : ℕ) → x ≡ Int k → x ≡ Acc a → ⊥
@@ -195,7 +195,7 @@ no-port j p = blank-port emptyTree j p (same-everywhere 15 j noInterconnect)
 no-limit : (t : Tree) (a : ℕ) → acceleratorOf t a ≡ noAccelerator → 0 < limitOf t a → ⊥
 no-limit t a e h = omega (arith, ap (λ (x : Accelerator). x .phi) e)
 
-partial-empty : Partial emptyTree
+pub partial-empty : Partial emptyTree
 partial-empty =
     record {
       ints-size = refl;
@@ -218,7 +218,7 @@ partial-empty =
       int-place = λ j p k e. absurd (not-int _ k (no-port j p) e);
     }
 
-partial-bus : (t : Tree) (v : List ℕ) → Partial t → limitsKept BusLine v ≡ true → Partial (withBus t (busOf v))
+pub partial-bus : (t : Tree) (v : List ℕ) → Partial t → limitsKept BusLine v ≡ true → Partial (withBus t (busOf v))
 unfolding all busKeeps
 partial-bus t v P e =
     record {
@@ -255,13 +255,13 @@ partial-bus t v P e =
 
 -- the root is the first interconnect
 module _ (t : Tree) (g : ℕ) (P : Partial t) (none : t .ints ≡ 0) (g1 : 1 ≤ g) (g16 : g ≤ 16) where
-  root-size : 0 < length (t .interconnects)
+  pub root-size : 0 < length (t .interconnects)
   root-size = omega (arith, P .ints-size)
 
-  root-blank : (k : ℕ) → (k ≡ 0 → ⊥) → interconnectOf (withRoot t g) k ≡ noInterconnect
+  pub root-blank : (k : ℕ) → (k ≡ 0 → ⊥) → interconnectOf (withRoot t g) k ≡ noInterconnect
   root-blank k d = new-other t 0 0 0 g root-size k d ∙ P .unused-int k (omega arith)
 
-  root-ports : (j p : ℕ) → portOf (withRoot t g) j p ≡ Empty
+  pub root-ports : (j p : ℕ) → portOf (withRoot t g) j p ≡ Empty
   root-ports j p = elim (ℕ-discrete j 0) [
     | yes e ↦ subst (λ (k : ℕ). portOf (withRoot t g) k p ≡ Empty) (sym e) (new-port t 0 0 0 g root-size p)
     | no d ↦ blank-port (withRoot t g) j p (root-blank j d)
@@ -273,7 +273,7 @@ module _ (t : Tree) (g : ℕ) (P : Partial t) (none : t .ints ≡ 0) (g1 : 1 ≤
     | no d ↦ ap (λ (c : Interconnect). length (c .ports)) (root-blank j d)
   ]
 
-  partial-root : t .accs ≡ 0 → Partial (withRoot t g)
+  pub partial-root : t .accs ≡ 0 → Partial (withRoot t g)
   partial-root no-accs =
       let new = new-here t 0 0 0 g root-size in
       record {
@@ -302,57 +302,48 @@ module _ (t : Tree) (g : ℕ) (P : Partial t) (none : t .ints ≡ 0) (g1 : 1 ≤
 
 -- a child is stored in its parent's port and as one interconnect more
 module _ (t : Tree) (j parent port g : ℕ) (P : Partial t) (next : j ≡ t .ints) (bound : j < 15) (down : parent < j) (in-port : port < 8) (free : portOf t parent port ≡ Empty) where
-  carried : Tree
+  abbrev pub carried : Tree
   carried = withPort t parent port (Int j)
 
-  child : Tree
+  abbrev pub child : Tree
   child = withChild t j parent port g
 
   parent-size : parent < length (t .interconnects)
   parent-size = omega (arith, P .ints-size)
 
   child-size : j < length (carried .interconnects)
-  unfolding carried
   child-size = omega (arith, P .ints-size, length-set (t .interconnects) parent (carrying (interconnectOf t parent) port (Int j)))
 
-  child-new : interconnectOf child j ≡ record { parent = parent; port = port; granularity = g; ports = replicate 8 emptyCell }
-  unfolding child carried
+  pub child-new : interconnectOf child j ≡ record { parent = parent; port = port; granularity = g; ports = replicate 8 emptyCell }
   child-new = new-here carried j parent port g child-size
 
   child-old : (k : ℕ) → (k ≡ j → ⊥) → interconnectOf child k ≡ interconnectOf carried k
-  unfolding child carried
   child-old k d = new-other carried j parent port g child-size k d
 
-  child-parent : (k : ℕ) → (k ≡ j → ⊥) → parentOf child k ≡ parentOf t k
-  unfolding carried
+  pub child-parent : (k : ℕ) → (k ≡ j → ⊥) → parentOf child k ≡ parentOf t k
   child-parent k d = ap (λ (c : Interconnect). c .parent) (child-old k d) ∙ stored-parent t parent port (Int j) parent-size k
 
-  child-parent-port : (k : ℕ) → (k ≡ j → ⊥) → parentPortOf child k ≡ parentPortOf t k
-  unfolding carried
+  pub child-parent-port : (k : ℕ) → (k ≡ j → ⊥) → parentPortOf child k ≡ parentPortOf t k
   child-parent-port k d = ap (λ (c : Interconnect). c .port) (child-old k d) ∙ stored-parent-port t parent port (Int j) parent-size k
 
-  child-granularity : (k : ℕ) → (k ≡ j → ⊥) → granularityOf child k ≡ granularityOf t k
-  unfolding carried
+  pub child-granularity : (k : ℕ) → (k ≡ j → ⊥) → granularityOf child k ≡ granularityOf t k
   child-granularity k d = ap (λ (c : Interconnect). c .granularity) (child-old k d) ∙ stored-granularity t parent port (Int j) parent-size k
 
   child-ports-size : (k : ℕ) → length (interconnectOf child k .ports) ≡ 8
-  unfolding carried
   child-ports-size k = elim (ℕ-discrete k j) [
     | yes e ↦ subst (λ (i : ℕ). length (interconnectOf child i .ports) ≡ 8) (sym e) (ap (λ (c : Interconnect). length (c .ports)) child-new)
     | no d ↦ ap (λ (c : Interconnect). length (c .ports)) (child-old k d) ∙ stored-size t parent port (Int j) parent-size k ∙ P .ports-size k
   ]
 
-  child-port-new : (q : ℕ) → portOf child j q ≡ Empty
+  pub child-port-new : (q : ℕ) → portOf child j q ≡ Empty
   child-port-new q = ap (λ (c : Interconnect). getD (c .ports) q emptyCell .port) child-new ∙ ap (λ (c : PortCell). c .port) (same-everywhere 8 q emptyCell)
 
-  child-port-at : portOf child parent port ≡ Int j
-  unfolding carried
+  pub child-port-at : portOf child parent port ≡ Int j
   child-port-at =
       ap (λ (c : Interconnect). getD (c .ports) port emptyCell .port) (child-old parent (omega arith))
       ∙ stored-at t parent port (Int j) parent-size (omega (arith, P .ports-size parent))
 
-  child-port-other : (k q : ℕ) → (k ≡ j → ⊥) → (k ≡ parent → q ≡ port → ⊥) → portOf child k q ≡ portOf t k q
-  unfolding carried
+  pub child-port-other : (k q : ℕ) → (k ≡ j → ⊥) → (k ≡ parent → q ≡ port → ⊥) → portOf child k q ≡ portOf t k q
   child-port-other k q d f =
       ap (λ (c : Interconnect). getD (c .ports) q emptyCell .port) (child-old k d) ∙ stored-apart t parent port (Int j) parent-size k q f
 
@@ -405,11 +396,9 @@ module _ (t : Tree) (j parent port g : ℕ) (P : Partial t) (next : j ≡ t .int
       (child-port-other (parentOf t k) (parentPortOf t k) (omega arith) (λ a b. not-int _ k free (subst (λ (i : ℕ). portOf t i port ≡ Int k) a (subst (λ (i : ℕ). portOf t (parentOf t k) i ≡ Int k) b c))) ∙ c))
 
   unchanged : (k : ℕ) → t .ints + 1 ≤ k → interconnectOf carried k ≡ noInterconnect
-  unfolding carried
   unchanged k l = stored-other t parent port (Int j) parent-size k (omega arith) ∙ P .unused-int k (omega arith)
 
-  partial-child : levelOf t parent < 4 → t .accs ≡ 0 → 1 ≤ g → g ≤ 16 → Partial (withChild t j parent port g)
-  unfolding child
+  pub partial-child : levelOf t parent < 4 → t .accs ≡ 0 → 1 ≤ g → g ≤ 16 → Partial (withChild t j parent port g)
   partial-child low no-accs g1 g16 =
       let above-of = ap (λ (c : Interconnect). c .parent) child-new in
       let port-on = ap (λ (c : Interconnect). c .port) child-new in
@@ -442,16 +431,16 @@ module _ (t : Tree) (j parent port g : ℕ) (P : Partial t) (next : j ≡ t .int
 
 -- an accelerator is stored in its port and as its record
 module _ (t : Tree) (v : List ℕ) (P : Partial t) (e : limitsKept AccLine v ≡ true) (known : getD v 1 0 < t .ints) (once : limitOf t (getD v 0 0) ≡ 0) (free : portOf t (getD v 1 0) (getD v 2 0) ≡ Empty) where
-  home-size : getD v 1 0 < length (t .interconnects)
+  pub home-size : getD v 1 0 < length (t .interconnects)
   home-size = omega (arith, P .ints-size, P .most-ints)
 
-  acc-size : getD v 0 0 < length (t .accelerators)
+  pub acc-size : getD v 0 0 < length (t .accelerators)
   acc-size = omega (arith, P .accs-size, most AccLine v e 0 (lit< tt))
 
-  acc-new : acceleratorOf (withAcc t v) (getD v 0 0) ≡ accOf v
+  pub acc-new : acceleratorOf (withAcc t v) (getD v 0 0) ≡ accOf v
   acc-new = getD-set-same (t .accelerators) (getD v 0 0) (accOf v) noAccelerator acc-size
 
-  acc-old : (b : ℕ) → (b ≡ getD v 0 0 → ⊥) → acceleratorOf (withAcc t v) b ≡ acceleratorOf t b
+  pub acc-old : (b : ℕ) → (b ≡ getD v 0 0 → ⊥) → acceleratorOf (withAcc t v) b ≡ acceleratorOf t b
   acc-old b d = getD-set-other (t .accelerators) (getD v 0 0) b (accOf v) noAccelerator d
 
   -- a port that carries something is not the one that was free
@@ -459,7 +448,7 @@ module _ (t : Tree) (v : List ℕ) (P : Partial t) (e : limitsKept AccLine v ≡
   elsewhere j p x f d =
       stored-apart t (getD v 1 0) (getD v 2 0) (Acc (getD v 0 0)) home-size j p (λ i q. d (sym f ∙ subst (λ (n : ℕ). portOf t n p ≡ Empty) (sym i) (subst (λ (n : ℕ). portOf t (getD v 1 0) n ≡ Empty) (sym q) free))) ∙ f
 
-  acc-at : portOf (withAcc t v) (getD v 1 0) (getD v 2 0) ≡ Acc (getD v 0 0)
+  pub acc-at : portOf (withAcc t v) (getD v 1 0) (getD v 2 0) ≡ Acc (getD v 0 0)
   acc-at = stored-at t (getD v 1 0) (getD v 2 0) (Acc (getD v 0 0)) home-size (omega (arith, P .ports-size (getD v 1 0), most AccLine v e 2 (lit< tt)))
 
   data AccPort (j p : ℕ) : Type 0 where
@@ -535,7 +524,7 @@ module _ (t : Tree) (v : List ℕ) (P : Partial t) (e : limitsKept AccLine v ≡
         period = omega (arith, U .period, ap (λ (x : Accelerator). x .period) r);
       }
 
-  partial-acc : Partial (withAcc t v)
+  pub partial-acc : Partial (withAcc t v)
   partial-acc =
       let parents = stored-parent t (getD v 1 0) (getD v 2 0) (Acc (getD v 0 0)) home-size in
       let parent-ports = stored-parent-port t (getD v 1 0) (getD v 2 0) (Acc (getD v 0 0)) home-size in
@@ -573,10 +562,10 @@ module _ (t : Tree) (v : List ℕ) (P : Partial t) (e : limitsKept AccLine v ≡
 abbrev Fine : TreeRead → Type 0
 Fine r = r .answer ≡ Accepted → Partial (r .tree)
 
-never-refused : (A : Type 0) (x : Refusal) (n : ℕ) → Refused x n ≡ Accepted → A
+pub never-refused : (A : Type 0) (x : Refusal) (n : ℕ) → Refused x n ≡ Accepted → A
 never-refused A x n e = let z : _≡_ {A = ℕ} 0 1 = cc in zero-one z
 
-never-broken : {A : Type 0} → Broken ≡ Accepted → A
+pub never-broken : {A : Type 0} → Broken ≡ Accepted → A
 never-broken e = let z : _≡_ {A = ℕ} 0 1 = cc in zero-one z
 
 fine-pick : (c : Bool) (x : Refusal) (n : ℕ) (y : TreeRead) → (c ≡ false → Fine y) → Fine (pick c (refusedAt x n) y)
@@ -587,7 +576,7 @@ fine-choice : (c : Bool) (x y : TreeRead) → (c ≡ true → Fine x) → (c ≡
 fine-choice true x y f g e = f refl e
 fine-choice false x y f g e = g refl e
 
-is-empty : (x : Port) → isEmpty x ≡ true → x ≡ Empty
+pub is-empty : (x : Port) → isEmpty x ≡ true → x ≡ Empty
 is-empty Empty e = refl
 is-empty (Acc a) e = let z : _≡_ {A = ℕ} 0 1 = cc in zero-one z
 is-empty (Int j) e = let z : _≡_ {A = ℕ} 0 1 = cc in zero-one z

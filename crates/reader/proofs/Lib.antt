@@ -4,3 +4,7 @@ pub mod Files
 pub mod Traces
 pub mod Kept
 pub mod Requests
+pub mod Order
+pub mod Written
+pub mod Stage
+pub mod Complete

@@ -1,15 +1,15 @@
 -- What an accepted trace says: its requests are in order, within limits and totals, and walking the bytes gives them one
 -- after the other. By induction on the lines, with what an accepted line says at each.
 use Prim.Native.Nat.{ℕ, zero, suc, _+_, _-_, _≤_, _<_}
-use mathlib.Core.Bool.{Bool, true, false, _&&_, not}
+use mathlib.Core.Bool.{Bool, true, false}
 use mathlib.Core.List.{List, [], _∷_}
-use mathlib.Core.Path.{_≡_, refl, sym, _∙_, ap, ap₂, subst}
+use mathlib.Core.Path.{_≡_, refl, sym, _∙_, ap, subst}
 use native.Mathlib.Decide.{decLt, ℕ-discrete}
 use native.Mathlib.Omega.{arith}
-use lib.Dec.{ltb, leb, eqb, lit<}
-use lib.ListN.{length, getD, take, drop, set, replicate, length-set}
+use lib.Dec.{eqb, lit<}
+use lib.ListN.{length, getD, take, drop, replicate, length-set}
 use lib.Seq.{getD-set-same, getD-set-other}
-use borrow.Author.Tests.{lt-ltb, le-ltb, le-leb, lt-leb, eq-eqb, ne-eqb, not-false, not-true}
+use borrow.Author.Tests.{lt-ltb, le-leb, eq-eqb, ne-eqb}
 use Rattle.text.specs.Text.{partLength, lines, unended}
 use Rattle.text.proofs.Parts.{lines-none, lines-next, part-fits}
 use Rattle.model.specs.declared.Tree.{Tree}
@@ -24,12 +24,11 @@ use Rattle.reader.specs.declared.Line.{Line}
 use Rattle.reader.specs.declared.Request.{Request}
 use Rattle.reader.specs.declared.OfferRead.{OfferRead}
 use Rattle.reader.specs.declared.OfferRead.the-variants.{NoOffer, Offer}
-use Rattle.reader.specs.declared.NextRequest.{NextRequest}
 use Rattle.reader.specs.declared.NextRequest.the-variants.{Done, Due}
 use Rattle.reader.specs.declared.FileAnswer.{FileAnswer}
-use Rattle.reader.specs.declared.FileAnswer.the-variants.{Accepted, Refused, Broken}
-use Rattle.reader.specs.Lines.{lineOf, valueAt, shaped, limitsKept, inTrace}
-use Rattle.reader.specs.TraceFile.{requestOf, totalOf, added, offerLine, afterOffer, readOffers, noTotals, readTrace, requests, rising, inRange, allInRange, totalFor, isOffer, requestOn, requestAt}
+use Rattle.reader.specs.declared.FileAnswer.the-variants.{Accepted, Refused}
+use Rattle.reader.specs.Lines.{lineOf, valueAt}
+use Rattle.reader.specs.TraceFile.{totalOf, added, offerLine, afterOffer, readOffers, noTotals, readTrace, requests, rising, inRange, allInRange, totalFor, isOffer, requestAt}
 use Rattle.reader.proofs.Tests.{most, least}
 use Rattle.reader.proofs.Traces.{Good, offer-says, traceFrom, trace-broken, trace-size, trace-start, trace-unended, trace-line, request-done, request-line}
 use Rattle.reader.proofs.Kept.{zero-one}

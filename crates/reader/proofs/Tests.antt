@@ -1,25 +1,23 @@
 -- What passed tests say of a line, and the answer of each chain of tests at each return, over any values: the same order of
 -- tests in code and definition.
-use Prim.Native.Nat.{ℕ, max, zero, suc, _+_, _-_, _≤_, _<_}
-use mathlib.Core.Bool.{Bool, true, false, cond, _&&_, _||_, not}
-use mathlib.Core.List.{List, [], _∷_}
-use mathlib.Core.Path.{_≡_, refl, sym, _∙_, ap, ap₂, subst}
-use native.Mathlib.Omega.{arith}
-use lib.Dec.{ltb, leb, eqb, lit≤}
-use lib.ListN.{length, getD, set}
+use Prim.Native.Nat.{ℕ, max, _+_, _≤_, _<_}
+use mathlib.Core.Bool.{Bool, true, false, _&&_, not}
+use mathlib.Core.List.{List}
+use mathlib.Core.Path.{_≡_, _∙_, ap, ap₂}
+use lib.Dec.{ltb, leb, eqb}
+use lib.ListN.{getD, set}
 use borrow.Author.Tests.{lt-ltb, le-ltb, le-leb, lt-leb, leb-true, eq-eqb, ne-eqb, eqb-true}
 use Rattle.model.specs.declared.Tree.{Tree}
 use Rattle.model.specs.declared.Accelerator.{Accelerator}
 use Rattle.model.specs.declared.Port.the-variants.{Acc}
 use Rattle.model.specs.declared.Refusal.the-variants.{Shape, Limit, Order, Taken, Level}
-use Rattle.model.specs.Fold.{pick, all}
 use Rattle.model.specs.Tree.{portOf, limitOf, levelOf}
 use Rattle.model.specs.Rules.{isEmpty}
 use Rattle.model.proofs.Folds.{picked, passed, all-at, both}
 use Rattle.reader.specs.declared.Kind.{Kind}
 use Rattle.reader.specs.declared.Line.{Line}
 use Rattle.reader.specs.Lines.{formOf, limitKept, limitsKept, valueAt, shaped, inTree}
-use Rattle.reader.specs.TreeFile.{refusedAt, given, intInOrder, rootRule, withRoot, withPort, accOf, withChild, childLine, intLine, withAcc, accLine, complete, finish, recordLine, treeLine}
+use Rattle.reader.specs.TreeFile.{refusedAt, given, intInOrder, rootRule, withRoot, withPort, accOf, withChild, childLine, intLine, withAcc, accLine, recordLine, treeLine}
 
 -- each field is in its limits
 module _ (k : Kind) (v : List ℕ) (e : limitsKept k v ≡ true) (i : ℕ) (h : i < formOf k .count) where

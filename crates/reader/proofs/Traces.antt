@@ -1,13 +1,12 @@
 -- Laws of a trace file: the answer of each chain of tests at each return, and the file read at a position, where the answer
 -- for the whole is the answer for what is left. By the tests in order, and by the laws of lines at a position.
-use Prim.Native.Nat.{ℕ, zero, suc, _+_, _-_, _≤_, _<_}
-use mathlib.Core.Bool.{Bool, true, false, _&&_, not}
-use mathlib.Core.List.{List, [], _∷_}
+use Prim.Native.Nat.{ℕ, _+_, _-_, _≤_, _<_}
+use mathlib.Core.Bool.{Bool, true, false, _&&_}
+use mathlib.Core.List.{List}
 use mathlib.Core.Path.{_≡_, refl, sym, _∙_, ap, ap₂, subst}
 use native.Mathlib.Omega.{arith}
-use lib.Dec.{ltb, leb, eqb, lit<}
-use lib.ListN.{length, getD, take, drop, set, length-take, length-drop}
-use borrow.Author.Tests.{lt-ltb, le-ltb, le-leb, lt-leb, eq-eqb, ne-eqb, leb-false, ltb-false, ltb-true, not-false}
+use lib.ListN.{length, take, drop}
+use borrow.Author.Tests.{lt-ltb, le-ltb, le-leb, lt-leb, ne-eqb, leb-false, ltb-false, ltb-true, not-false}
 use Rattle.text.specs.Text.{partLength, lines, unended}
 use Rattle.text.proofs.Parts.{lines-none, lines-unended, lines-next, part-fits}
 use Rattle.model.specs.declared.Tree.{Tree}
@@ -21,12 +20,12 @@ use Rattle.reader.specs.declared.Line.{Line}
 use Rattle.reader.specs.declared.Request.{Request}
 use Rattle.reader.specs.declared.OfferRead.{OfferRead}
 use Rattle.reader.specs.declared.OfferRead.the-variants.{NoOffer, Offer}
-use Rattle.reader.specs.declared.NextRequest.the-variants.{Done, Due}
+use Rattle.reader.specs.declared.NextRequest.the-variants.{Done}
 use Rattle.reader.specs.declared.FileAnswer.{FileAnswer}
 use Rattle.reader.specs.declared.FileAnswer.the-variants.{Accepted, Refused, Broken}
 use Rattle.reader.specs.Lines.{lineOf, valueAt, shaped, limitsKept, inTrace}
 use Rattle.reader.specs.TraceFile.{requestOf, totalOf, added, offerLine, afterOffer, readOffers, noTotals, readTrace, isOffer, requestOn, requestAt}
-use Rattle.reader.proofs.Tests.{yes-not, no-not, most}
+use Rattle.reader.proofs.Tests.{yes-not, no-not}
 use Rattle.reader.proofs.Files.{nonempty}
 
 module _ (accs last : ℕ) (totals : List ℕ) (l : Line) where

@@ -1,3 +1,5 @@
 pub mod Lines
+pub mod Answer
 pub mod TreeFile
 pub mod TraceFile
+pub mod TreeText

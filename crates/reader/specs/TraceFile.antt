@@ -14,13 +14,12 @@
 -- totalFor a rs           what accelerator a's counts total
 -- isOffer l               line l is an o line of shape and limits, of an accelerator that a tree can have
 -- requestAt s at          the request on the line that begins at a place of the bytes, and the place after its LF
-use Prim.Native.Nat.{ℕ, _+_, _-_}
-use mathlib.Core.Bool.{Bool, true, false, _&&_, not}
+use Prim.Native.Nat.{ℕ, _+_}
+use mathlib.Core.Bool.{Bool, true, _&&_, not}
 use mathlib.Core.List.{List, [], _∷_}
 use lib.ListN.{length, getD, set, take, drop, replicate}
 use lib.Dec.{leb, ltb, eqb}
 use Rattle.model.specs.declared.Tree.{Tree}
-use Rattle.model.specs.declared.Refusal.{Refusal}
 use Rattle.model.specs.declared.Refusal.the-variants.{Shape, Limit, Falling, Unknown}
 use Rattle.model.specs.Fold.{pick, within}
 use Rattle.model.specs.Rules.{treeKeeps}

@@ -23,7 +23,7 @@
 -- readLines n t ls u   the lines ls from line n on, and u after the last LF ("missing last LF" is 1)
 -- readTree s           "File size comes first, then lines in order"
 use Prim.Native.Nat.{ℕ, _+_, max}
-use mathlib.Core.Bool.{Bool, true, false, _&&_, not}
+use mathlib.Core.Bool.{Bool, _&&_, not}
 use mathlib.Core.List.{List, [], _∷_}
 use lib.ListN.{length, getD, set, replicate}
 use lib.Dec.{leb, ltb, eqb}
@@ -31,9 +31,8 @@ use Rattle.model.specs.declared.Tree.{Tree}
 use Rattle.model.specs.declared.Bus.{Bus}
 use Rattle.model.specs.declared.Interconnect.{Interconnect}
 use Rattle.model.specs.declared.Accelerator.{Accelerator}
-use Rattle.model.specs.declared.PortCell.{PortCell}
 use Rattle.model.specs.declared.Port.{Port}
-use Rattle.model.specs.declared.Port.the-variants.{Empty, Acc, Int}
+use Rattle.model.specs.declared.Port.the-variants.{Acc, Int}
 use Rattle.model.specs.declared.Refusal.{Refusal}
 use Rattle.model.specs.declared.Refusal.the-variants.{Shape, Limit, Order, Taken, Level}
 use Rattle.model.specs.Fold.{pick, all}

@@ -83,6 +83,20 @@ pub fn read_line(s: &[u8]) -> Line
     r
 }
 
+// Parent and port of an int line may be "-".
+const ROOT_DASHES: [bool; 10] = [
+    false,
+    true,
+    true,
+    false,
+    false,
+    false,
+    false,
+    false,
+    false,
+    false,
+];
+
 pub fn form_of(kind: Kind) -> Form
     ensures { λ r. ⌜ r ≡ formOf kind ⌝ }
 {
@@ -102,18 +116,7 @@ pub fn form_of(kind: Kind) -> Form
         },
         Kind::IntLine => Form {
             count: 4,
-            dashes: [
-                false,
-                true,
-                true,
-                false,
-                false,
-                false,
-                false,
-                false,
-                false,
-                false,
-            ],
+            dashes: ROOT_DASHES,
             lows: [0, 0, 0, 1, 0, 0, 0, 0, 0, 0],
             highs: [14, 14, 7, 16, 0, 0, 0, 0, 0, 0],
         },

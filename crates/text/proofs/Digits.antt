@@ -1,18 +1,17 @@
 -- Laws of digits and of equal bytes, read at a position: what stands there says what the rest of the bytes says. By the
 -- clauses of the definitions through `drop-cons`; the value of digits by their places.
-use Prim.Native.Nat.{ℕ, zero, suc, _+_, _-_, _*_, _^_, _≤_, _<_}
-use mathlib.Core.Bool.{Bool, true, false, cond, _&&_, and-false}
-use mathlib.Core.List.{List, [], _∷_, _++_}
-use mathlib.Core.Path.{_≡_, refl, sym, _∙_, ap, ap₂, subst}
-use native.Mathlib.Nat.{add-mul, mul-assoc, mul-comm, pow-suc, pow-le-pow-right, le-trans, mul-le-mul-left, add-assoc}
+use Prim.Native.Nat.{ℕ, suc, _+_, _-_, _*_, _^_, _≤_, _<_}
+use mathlib.Core.Bool.{true, false, and-false}
+use mathlib.Core.List.{List, [], _∷_}
+use mathlib.Core.Path.{_≡_, refl, _∙_, ap}
+use native.Mathlib.Nat.{add-mul, mul-assoc, mul-comm, pow-suc, pow-le-pow-right}
 use native.Mathlib.Numerals.{add-one}
 use native.Mathlib.Omega.{arith}
-use lib.Dec.{eqb, ltb, leb, lit<}
-use lib.ListN.{length, getD, take, drop, length-drop, drop-of-length-le}
-use lib.Seq.{drop-cons, drop-drop, take-all}
+use lib.Dec.{eqb, lit<}
+use lib.ListN.{length, getD, drop, length-drop, drop-of-length-le}
+use lib.Seq.{drop-cons}
 use borrow.Author.Tests.{eq-eqb, ne-eqb, lt-ltb, le-ltb, le-leb, lt-leb}
-use Rattle.text.specs.declared.Field.{Field}
-use Rattle.text.specs.declared.Field.the-variants.{Malformed, Dash, Number}
+use Rattle.text.specs.declared.Field.the-variants.{Malformed, Dash}
 use Rattle.text.specs.Text.{same, allDigits, decimal, leadingZero, digitsOf, fieldOf}
 use Rattle.text.proofs.Parts.{taken, left}
 

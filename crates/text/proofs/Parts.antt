@@ -1,15 +1,15 @@
 -- Laws of parts: what stands at a position says where the part there ends, and a part ends at the next separator. By the
 -- clauses of the definitions, read at a position through `drop-cons`, and by induction on the bytes.
-use Prim.Native.Nat.{ℕ, zero, suc, _+_, _-_, _≤_, _<_}
+use Prim.Native.Nat.{ℕ, suc, _+_, _-_, _≤_, _<_}
 use mathlib.Core.Bool.{Bool, true, false, cond}
-use mathlib.Core.List.{List, [], _∷_, _++_}
-use mathlib.Core.Path.{_≡_, refl, sym, _∙_, ap, ap₂, subst}
+use mathlib.Core.List.{List, [], _∷_}
+use mathlib.Core.Path.{_≡_, refl, sym, _∙_, ap}
 use native.Mathlib.Decide.{ℕ-discrete, decLt}
 use native.Mathlib.Numerals.{add-one}
 use native.Mathlib.Omega.{arith}
-use lib.Dec.{eqb, ltb}
+use lib.Dec.{ltb}
 use lib.ListN.{length, getD, take, drop, length-drop, drop-of-length-le}
-use lib.Seq.{drop-cons, drop-drop, take-all}
+use lib.Seq.{drop-cons, drop-drop}
 use borrow.Author.Tests.{eq-eqb, ne-eqb, lt-ltb, le-ltb}
 use Rattle.text.specs.Text.{parts, partLength, behind, butLast, final, lines, unended}
 
@@ -101,3 +101,37 @@ module _ (s : List ℕ) (at e : ℕ) (h : at ≤ length s) (q : e ≡ at + partL
   lines-next l =
       let p = part-next 10 s at e h q ∙ ap (λ r. take (e - at) (drop at s) ∷ r) (taken _ _ _ (lt-ltb _ _ l)) in
       (ap butLast p ∙ parts-some 10 (drop (e + 1) s) _, ap final p ∙ final-some 10 (drop (e + 1) s) _)
+
+-- the bytes of lines, each with its LF
+pub sizes : List (List ℕ) → ℕ
+sizes [] = 0
+sizes (l ∷ ls) = suc (length l) + sizes ls
+
+pub sizes-cons : (l : List ℕ) (ls : List (List ℕ)) → sizes (l ∷ ls) ≡ suc (length l) + sizes ls
+unfolding sizes
+sizes-cons l ls = refl
+
+parts-sizes : (sep : ℕ) (s : List ℕ) → sizes (parts sep s) ≡ suc (length s)
+unfolding sizes parts
+parts-sizes sep [] = omega arith
+parts-sizes sep (b ∷ s) = elim (ℕ-discrete b sep) [
+  | yes e ↦ ap sizes (taken _ ([] ∷ parts sep s) (behind b (parts sep s)) (eq-eqb b sep e)) ∙ omega (arith, parts-sizes sep s)
+  | no d ↦ ap sizes (left _ ([] ∷ parts sep s) (behind b (parts sep s)) (ne-eqb b sep d)) ∙ go (parts sep s) (first-part sep s) (parts-sizes sep s)
+]
+  where
+    go : (ps : List (List ℕ)) {p : List ℕ} {qs : List (List ℕ)} → ps ≡ p ∷ qs → sizes ps ≡ suc (length s) → sizes (behind b ps) ≡ suc (suc (length s))
+    go [] e f = let z : _≡_ {A = ℕ} 0 1 = cc in absurd (omega arith)
+    go (p ∷ ps) e f = omega arith
+
+last-sizes : (p : List ℕ) (ps : List (List ℕ)) → sizes (butLast (p ∷ ps)) + suc (length (final (p ∷ ps))) ≡ sizes (p ∷ ps)
+unfolding sizes butLast final
+last-sizes p [] = omega arith
+last-sizes p (q ∷ ps) = omega (arith, last-sizes q ps)
+
+-- a text has the bytes of its lines and what stands after the last LF
+pub text-size : (s : List ℕ) → sizes (lines s) + length (unended s) ≡ length s
+text-size s = go (parts 10 s) (first-part 10 s) (parts-sizes 10 s)
+  where
+    go : (ps : List (List ℕ)) {p : List ℕ} {qs : List (List ℕ)} → ps ≡ p ∷ qs → sizes ps ≡ suc (length s) → sizes (butLast ps) + length (final ps) ≡ length s
+    go [] e f = let z : _≡_ {A = ℕ} 0 1 = cc in absurd (omega arith)
+    go (p ∷ ps) e f = omega (arith, last-sizes p ps)

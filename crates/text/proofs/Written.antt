@@ -1,0 +1,158 @@
+-- What is written is read back: the digits of a number are that number, the fields of a line are its fields, the lines of a
+-- file its lines. By induction on what is written.
+use Prim.Native.Nat.{ℕ, zero, suc, _+_, _-_, _*_, _^_, _/_, _%_, _≤_, _<_}
+use mathlib.Core.Bool.{Bool, true, false, _&&_, and-false}
+use mathlib.Core.List.{List, [], _∷_, _++_}
+use mathlib.Core.Path.{_≡_, refl, sym, _∙_, ap, subst}
+use native.Mathlib.Decide.{ℕ-discrete, decLt}
+use native.Mathlib.Nat.{add-mul, mul-assoc, pow-suc}
+use native.Mathlib.Omega.{arith}
+use lib.Dec.{eqb, ltb, leb}
+use lib.ListN.{length, getD, length-append}
+use borrow.Author.Tests.{eq-eqb, ne-eqb, lt-ltb, le-ltb, le-leb, leb-true}
+use Rattle.text.specs.declared.Field.the-variants.{Number}
+use Rattle.text.specs.Text.{parts, behind, butLast, final, lines, unended, fields, same, isDigit, allDigits, decimal, leadingZero, fieldOf}
+use Rattle.text.specs.Write.{digits, numberText, fieldsText, lineText, fileText}
+use Rattle.text.proofs.Parts.{taken, left, parts-some, final-some}
+use Rattle.text.proofs.Digits.{field-digits}
+
+-- no byte of s is sep
+pub data Clean (sep : ℕ) : List ℕ → Type 0 where
+  clean-none : Clean sep []
+  clean-more : {b : ℕ} {s : List ℕ} → (b ≡ sep → ⊥) → Clean sep s → Clean sep (b ∷ s)
+
+pub clean-append : {sep : ℕ} {s r : List ℕ} → Clean sep s → Clean sep r → Clean sep (s ++ r)
+clean-append clean-none R = R
+clean-append (clean-more d S) R = clean-more d (clean-append S R)
+
+pub parts-clean : (sep : ℕ) {p : List ℕ} → Clean sep p → parts sep p ≡ p ∷ []
+unfolding parts
+parts-clean sep clean-none = refl
+parts-clean sep (clean-more {b = b} {s = s} d C) = left _ _ _ (ne-eqb b sep d) ∙ ap (behind b) (parts-clean sep C)
+
+pub parts-part : (sep : ℕ) {p : List ℕ} (r : List ℕ) → Clean sep p → parts sep (p ++ (sep ∷ r)) ≡ p ∷ parts sep r
+unfolding parts
+parts-part sep r clean-none = taken _ _ _ (eq-eqb sep sep refl)
+parts-part sep r (clean-more {b = b} {s = s} d C) = left _ _ _ (ne-eqb b sep d) ∙ ap (behind b) (parts-part sep r C)
+
+append-nil : (s : List ℕ) → s ++ [] ≡ s
+append-nil [] = refl
+append-nil (b ∷ s) = ap (λ r. b ∷ r) (append-nil s)
+
+-- fields and lines without separators in them
+pub data AllClean (sep : ℕ) : List (List ℕ) → Type 0 where
+  all-none : AllClean sep []
+  all-more : {l : List ℕ} {ls : List (List ℕ)} → Clean sep l → AllClean sep ls → AllClean sep (l ∷ ls)
+
+pub fields-read : {name : List ℕ} {fs : List (List ℕ)} → Clean 9 name → AllClean 9 fs → fields (lineText name fs) ≡ name ∷ fs
+unfolding fieldsText
+fields-read {name} C all-none = ap fields (append-nil name) ∙ parts-clean 9 C
+fields-read {name} C (all-more {l = f} {ls = fs} F A) = parts-part 9 (f ++ fieldsText fs) C ∙ ap (λ r. name ∷ r) (fields-read F A)
+
+pub lines-read : {ls : List (List ℕ)} → AllClean 10 ls → (lines (fileText ls) ≡ ls) × (unended (fileText ls) ≡ [])
+unfolding fileText butLast final parts
+lines-read all-none = (refl, refl)
+lines-read (all-more {l = l} {ls = ls} C A) =
+    let p = parts-part 10 (fileText ls) C in
+    let i = lines-read A in
+    (ap butLast p ∙ parts-some 10 (fileText ls) l ∙ ap (λ r. l ∷ r) (i .0), ap final p ∙ final-some 10 (fileText ls) l ∙ i .1)
+
+-- one digit more at the end
+decimal-last : (s : List ℕ) (d : ℕ) → decimal (s ++ (d ∷ [])) ≡ decimal s * 10 + (d - 48)
+unfolding decimal
+decimal-last [] d = omega arith
+decimal-last (b ∷ s) d =
+    let l : length (s ++ (d ∷ [])) ≡ suc (length s) = omega (arith, length-append s (d ∷ [])) in
+    rw (l, pow-suc) (omega (arith, decimal-last s d, add-mul ((b - 48) * 10 ^ length s) (decimal s) 10, mul-assoc (b - 48) (10 ^ length s) 10))
+
+both-of : (a b : Bool) → a && b ≡ true → (a ≡ true) × (b ≡ true)
+both-of true b e = (refl, e)
+both-of false b e = let z : _≡_ {A = ℕ} 0 1 = cc in absurd (omega arith)
+
+digits-last : (s : List ℕ) (d : ℕ) → allDigits s ≡ true → 48 ≤ d → d ≤ 57 → allDigits (s ++ (d ∷ [])) ≡ true
+unfolding allDigits
+digits-last [] d e h k = simp (le-leb 48 d h, le-leb d 57 k)
+digits-last (b ∷ s) d e h k = let a = both-of (isDigit b) (allDigits s) e in rw (a .0) (digits-last s d (a .1) h k)
+
+-- what the digits s of a number n are
+record Digits (s : List ℕ) (k n : ℕ) : Type 0 where
+  every : allDigits s ≡ true
+  value : decimal s ≡ n
+  some : 1 ≤ length s
+  most : length s ≤ k
+  lead : 0 < n → getD s 0 0 ≡ 48 → ⊥
+  none : n ≡ 0 → length s ≡ 1
+
+-- the first byte is that of what stands first
+first-of : (s r : List ℕ) → 1 ≤ length s → getD (s ++ r) 0 0 ≡ getD s 0 0
+first-of [] r h = absurd (omega arith)
+first-of (b ∷ s) r h = refl
+
+one-digit : (k n : ℕ) → n < 10 → Digits (digits (suc k) n) (suc k) n
+unfolding digits allDigits decimal
+one-digit k n l =
+    subst (λ (s : List ℕ). Digits s (suc k) n) (sym (taken (ltb n 10) ((48 + n) ∷ []) _ (lt-ltb n 10 l)))
+    (record {
+      every = simp (le-leb 48 (48 + n) (omega arith), le-leb (48 + n) 57 (omega arith));
+      value = omega arith;
+      some = omega arith;
+      most = omega arith;
+      lead = λ h e. omega arith;
+      none = λ e. refl;
+    })
+
+more-digits : (k n : ℕ) → 10 ≤ n → Digits (digits k (n / 10)) k (n / 10) → Digits (digits (suc k) n) (suc k) n
+unfolding digits
+more-digits k n l W =
+    let s = digits k (n / 10) in
+    let d = 48 + n % 10 in
+    let a = length-append s (d ∷ []) in
+    subst (λ (r : List ℕ). Digits r (suc k) n) (sym (left (ltb n 10) _ (s ++ (d ∷ [])) (le-ltb n 10 l)))
+    (record {
+      every = digits-last s d (W .every) (omega arith) (omega arith);
+      value = omega (arith, decimal-last s d, W .value);
+      some = omega (arith, W .some);
+      most = omega (arith, W .most);
+      lead = λ h e. W .lead (omega arith) (sym (first-of s (d ∷ []) (W .some)) ∙ e);
+      none = λ e. absurd (omega arith);
+    })
+
+written : (k n : ℕ) → n < 10 ^ suc k → Digits (digits (suc k) n) (suc k) n
+written zero n h = one-digit zero n h
+written (suc k) n h = elim (decLt n 10) [
+  | yes l ↦ one-digit (suc k) n l
+  | no d ↦ more-digits (suc k) n (omega arith) (written k (n / 10) (omega (arith, pow-suc 10 (suc k))))
+]
+
+not-dash : (s : List ℕ) → allDigits s ≡ true → same s (45 ∷ []) ≡ false
+unfolding same allDigits
+not-dash [] e = refl
+not-dash (b ∷ s) e =
+    let l = leb-true 48 b (both-of (leb 48 b) (leb b 57) (both-of (isDigit b) (allDigits s) e .0) .0) in
+    rw (ne-eqb b 45 (omega arith)) refl
+
+no-lead : (s : List ℕ) (n : ℕ) → Digits s 10 n → leadingZero s ≡ false
+no-lead s n W = elim (ℕ-discrete n 0) [
+  | yes e ↦ rw (eq-eqb (length s) 1 (W .none e)) (and-false (eqb (getD s 0 0) 48))
+  | no d ↦ rw (ne-eqb (getD s 0 0) 48 (W .lead (omega arith))) refl
+]
+
+-- a number's text is read as that number
+pub number-read : (n : ℕ) → n < 10000000000 → fieldOf (numberText n) ≡ Number n
+number-read n h =
+    let W = written 9 n h in
+    field-digits (numberText n) (not-dash (numberText n) (W .every)) (W .some) (W .most) (no-lead (numberText n) n W)
+    ∙ taken _ _ _ (W .every) ∙ ap Number (W .value)
+
+pub number-length : (n : ℕ) → n < 10000000000 → length (numberText n) ≤ 10
+number-length n h = written 9 n h .most
+
+clean-digits : (sep : ℕ) → (sep < 48) → (s : List ℕ) → allDigits s ≡ true → Clean sep s
+unfolding allDigits
+clean-digits sep h [] e = clean-none
+clean-digits sep h (b ∷ s) e =
+    let a = both-of (isDigit b) (allDigits s) e in
+    clean-more (λ (q : b ≡ sep). omega (arith, h, q, leb-true 48 b (both-of (leb 48 b) (leb b 57) (a .0) .0))) (clean-digits sep h s (a .1))
+
+pub number-clean : (sep : ℕ) → sep < 48 → (n : ℕ) → n < 10000000000 → Clean sep (numberText n)
+number-clean sep h n l = clean-digits sep h (numberText n) (written 9 n l .every)
