@@ -1,12 +1,15 @@
 -- A line of a file: its record name, its fields, and the tests 1 and 2 of document 01 ("The tree on paper").
 --
 -- kindOf name          "A line begins with one of the record names bus, int or acc"; in a trace it is o
+-- named k              a line of record k before its fields
 -- push l f             line l with one field more; past the tenth, fields are only counted
+-- pushed l fs          line l with the fields fs; lineFrom ps: the line of the parts ps, the record name first
 -- lineOf s             the line that the bytes s write
 -- valueAt l i          the number in field i of line l, counted from 0; 0 where the field is no number
 -- dashAt l i           field i of line l is "-"
 -- formOf k             the fields of record k: how many, which may be "-" ("in any other field "-" is 1"), and their
 --                      limits, in the order of the paper
+-- noDashes             no field may be "-"
 -- dashKept f d i       field i is "-" only where it may be; dashesKept k d: so are all fields of record k
 -- shaped l             test 1: as many fields as the record has, none malformed, "-" only where it may stand
 -- limitKept f v i      field i is in its limits

@@ -1,9 +1,11 @@
 -- A trace file (document 01, "The tree on paper": "A trace is a file of the same form with lines o").
 --
 -- requestOf v             the request that the fields v write: slot, accelerator, count
+-- totalOf totals a        the total of accelerator a so far; noTotals: none yet
 -- added totals r          the totals of the accelerators with request r added
 -- offerLine a s totals l  a line of a trace on a tree of a accelerators, after lines up to slot s: "Within a trace line: 1,
 --                         2 by field, 7, 6, 2 by total"
+-- afterOffer n x next     what a line's answer x lets the reading do: it ends at line n, or goes on with the request
 -- readOffers n a s totals ls u
 --                         the lines ls from line n on, and u after the last LF ("missing last LF" is 1)
 -- readTrace t s           11 first, which has no line; "File size comes first, then lines in order"; "An empty trace is
@@ -11,8 +13,10 @@
 -- requests ls             the requests of an accepted trace's lines, in order
 -- rising s rs             "Slots do not fall": from slot s on
 -- inRange a r             request r is in its limits, of an accelerator of the tree
+-- allInRange a rs         all of them are
 -- totalFor a rs           what accelerator a's counts total
 -- isOffer l               line l is an o line of shape and limits, of an accelerator that a tree can have
+-- requestOn l end         the request on line l, and the place after its LF at `end`
 -- requestAt s at          the request on the line that begins at a place of the bytes, and the place after its LF
 use Prim.Native.Nat.{ℕ, _+_}
 use mathlib.Core.Bool.{Bool, true, _&&_, not}

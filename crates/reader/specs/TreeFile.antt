@@ -1,11 +1,13 @@
 -- A tree file (document 01, "The tree on paper" and "What is refused").
 --
+-- noBus                no bus line yet
 -- emptyTree            the tree before the first line: no window, no interconnect, no accelerator. While a file is read,
 --                      what is read so far is held as a tree: a window of 0 says that no bus line was read, a phi of 0
 --                      that the accelerator's line was not read
 -- refusedAt r n        refused by r at line n; the tree given beside it is the empty one
 -- given t              accepted, with tree t
 -- busOf v, accOf v     the bus and the accelerator that the fields v write
+-- withBus t b          tree t with the bus b
 -- busLine n t v        a bus line: "One bus line comes first"
 -- intInOrder t l       an int line comes after the bus line and before any acc line ("then int lines 0, 1, 2 and on
 --                      without a gap, a parent smaller than its child, then acc lines")
@@ -14,12 +16,16 @@
 -- carrying c p x       interconnect c with port p carrying x
 -- withPort t j p x     tree t with port p of interconnect j carrying x
 -- withInterconnect     tree t with one interconnect more, number j, its eight ports empty
+-- withRoot t g         tree t with the root; withChild t j p q g: with interconnect j on port q of interconnect p
 -- intLine n t l        an int line; childLine n t v: one of another interconnect than the root
+-- withAcc t v          tree t with the accelerator that the fields v write
 -- accLine n t v        an acc line: "acc lines in any order, numbers 0 to n - 1 each once"
 -- complete t           nothing is missing at the end of the file: bus, an int, an acc, each number below the highest
 -- finish n t           "A record missing at the end of the file, an accelerator number in a gap too, is 3 with the line
 --                      after the last"
+-- recordLine k n t l   a line of record k, by its name
 -- treeLine n t l       "Within a tree line: 1, then 2 field by field, 3, 4, 5"
+-- onward x r next      what a line's answer x lets the reading do: it ends with r, or goes on with next
 -- readLines n t ls u   the lines ls from line n on, and u after the last LF ("missing last LF" is 1)
 -- readTree s           "File size comes first, then lines in order"
 use Prim.Native.Nat.{ℕ, _+_, max}

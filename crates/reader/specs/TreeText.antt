@@ -3,10 +3,13 @@
 --
 -- dash                 the field "-"
 -- numbers xs           the fields of the numbers xs
+-- busValues b          the numbers of the bus line; accValues a x: of an acc line
 -- busText t            the bus line
+-- intFields t j        the fields of an int line
 -- intText t j          the int line of interconnect j
 -- accText t a          the acc line of accelerator a
 -- rows n k f           the lines f k, f (k + 1) and on, n of them
+-- treeLines t          the lines of the file
 -- treeText t           the file
 use Prim.Native.Nat.{ℕ, zero, suc}
 use mathlib.Core.List.{List, [], _∷_, _++_}

@@ -9,6 +9,7 @@
 -- beforeSlot t r        the state and the held counts once the offers are made too
 -- byteOf x              "one byte a slot, the accelerator's number or 255 for idle"
 -- next t r              where the run stands after one more slot; lastByte t r: the byte it wrote
+-- noneHeld h            nothing is held
 -- isDone r              "no line left, none held, none waiting"
 -- Trail                 the bytes written, one a slot used, and whether the run ended done
 -- trail k t r           the run from r on, over at most k slots: "Done is tested before each slot"
@@ -16,6 +17,8 @@
 -- runFor t rs n         the run from the start, over the lines rs and a buffer of n bytes
 -- Ending                how a run ends: refused by a number and a line, or by 11, which has no line; or done, or stopped, "and
 --                       the number of slots used"
+-- endOf x               the ending of a run with the trail x
+-- answered q x          the ending that the trace's reading q allows; overwritten q x d: the buffer d then
 -- ranOf t s n           how a run of trace s over a buffer of n bytes ends: "the runner 11, buffer size, trace"
 -- bufferAfter t s d     the buffer d after the run: "Bytes past the slots used keep their contents", and a refusal leaves all
 use Prim.Native.Nat.{ℕ, zero, suc, _+_}

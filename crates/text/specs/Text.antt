@@ -1,11 +1,14 @@
 -- Parts of a byte string, lines, fields and decimal numbers (document 01, "The tree on paper").
 --
+-- behind b ps         the parts ps with b in front of the first one
 -- parts sep s         the parts of s between separators: always one part more than there are separators
 -- partLength sep s    how many bytes stand before the first separator of s; all of s where it has none
+-- butLast ps          the parts but the last; final ps: the last part
 -- lines s             "each line ends in LF": the lines of s, without their LF
 -- unended s           what stands after the last LF: nothing, unless the last LF is missing
 -- fields l            "fields are parted by one tab, and each field is read as the part of the line between two tabs"
 -- same a b            the byte strings a and b are equal
+-- isDigit b           the byte b is a decimal digit
 -- allDigits s         every byte of s is a decimal digit
 -- decimal s           the number that the digits s write
 -- leadingZero s       s begins with 0 and is not 0 itself

@@ -2,6 +2,7 @@
 --
 -- digits k n          the last digits of n, at most k of them, without leading zeros
 -- numberText n        the decimal digits of n, at most ten
+-- fieldsText fs       the fields, each after a tab
 -- lineText name fs    a line: its name and its fields, each after a tab
 -- fileText ls         the lines, each with its LF
 use Prim.Native.Nat.{ℕ, zero, suc, _+_, _/_, _%_}
