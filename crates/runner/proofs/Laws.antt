@@ -7,21 +7,20 @@ use mathlib.Core.Logic.{_↔_}
 use mathlib.Core.Path.{_≡_, refl, sym, _∙_, ap, ap₂, subst}
 use native.Mathlib.Decide.{decLt}
 use native.Mathlib.Omega.{arith}
-use lib.Dec.{ltb, leb}
+use lib.Dec.{ltb}
 use lib.ListN.{length, length-set}
 use borrow.Author.Tests.{lt-ltb, le-ltb, le-leb, lt-leb}
 use Rattle.model.specs.declared.Tree.{Tree}
-use Rattle.model.specs.declared.State.{State}
 use Rattle.model.specs.Fold.{pick}
 use Rattle.model.specs.Rules.{treeKeeps, keeps}
 use Rattle.model.proofs.Folds.{picked, passed}
 use Rattle.reader.specs.declared.Request.{Request}
-use Rattle.machine.specs.Machine.{Answer, Outcome, refused, offered, lastSlot, slotted}
+use Rattle.machine.specs.Machine.{refused, offered, lastSlot, slotted}
 use Rattle.machine.proofs.Laws.{fresh-keeps, offer-others, slot-keeps, slot-only-last, slot-windows}
 use Rattle.runner.specs.declared.Offering.{Offering}
 use Rattle.runner.specs.Offers.{heldOf, release, offering, offerHeld, offerEach}
-use Rattle.runner.specs.Run.{Run, hold, isDue, heldWith, leftAfter, withDue, beforeSlot, lastByte, next, isDone, Trail, ended, written, trail, start, Ending, done, stopped, endOf}
-use Rattle.runner.specs.Slots.{standing, bytesBefore, leftFrom, dueBefore}
+use Rattle.runner.specs.Run.{Run, hold, isDue, heldWith, leftAfter, withDue, beforeSlot, lastByte, next, isDone, Trail, trail, start, done, stopped, endOf}
+use Rattle.runner.specs.Slots.{standing, bytesBefore, leftFrom}
 use Rattle.runner.proofs.Held.{either, each-kept}
 use Rattle.runner.proofs.Slots.{trail-done, trail-none, trail-slot}
 

@@ -1,15 +1,13 @@
 -- Slot by slot: the code's place stands for the run of the definition, and what was written so far, with what the definition
 -- writes from here, is what it writes from the start. By the clauses of the definitions and the laws of offers and slots.
-use Prim.Native.Nat.{ℕ, zero, suc, _+_, _-_, _*_, _≤_, _<_}
-use mathlib.Core.Bool.{Bool, true, false, not}
+use Prim.Native.Nat.{ℕ, zero, suc, _+_, _-_, _≤_, _<_}
+use mathlib.Core.Bool.{Bool, true, false}
 use mathlib.Core.List.{List, [], _∷_, _++_, append-nil, append-assoc}
 use mathlib.Core.Path.{_≡_, refl, sym, _∙_, ap, ap₂, subst}
 use native.Mathlib.Numerals.{add-one}
 use native.Mathlib.Omega.{arith}
-use lib.Dec.{ltb}
 use lib.ListN.{length, take, drop, set, replicate, length-set, take-append-drop}
 use lib.Seq.{length-take-le, take-suc-set, drop-set-lt, drop-drop}
-use borrow.Author.Tests.{lt-ltb, le-ltb}
 use Rattle.model.specs.declared.Tree.{Tree}
 use Rattle.model.specs.declared.State.{State}
 use Rattle.model.specs.Fold.{pick}
@@ -25,7 +23,7 @@ use Rattle.runner.specs.declared.Due.{Due}
 use Rattle.runner.specs.declared.Place.{Place}
 use Rattle.runner.specs.declared.Step.{Step}
 use Rattle.runner.specs.Offers.{heldOf, offering, offerEach}
-use Rattle.runner.specs.Run.{Run, beforeSlot, byteOf, lastByte, next, isDone, Trail, ended, written, trail, start, Ending, done, stopped, endOf, over}
+use Rattle.runner.specs.Run.{Run, beforeSlot, byteOf, lastByte, next, isDone, Trail, ended, written, trail, start, done, stopped, endOf, over}
 use Rattle.runner.specs.Places.{leftAt, runAt, Accepts, Taken, Stands, Stepped}
 use Rattle.runner.proofs.Held.{each-kept, each-less}
 

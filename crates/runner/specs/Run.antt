@@ -9,20 +9,22 @@
 -- beforeSlot t r        the state and the held counts once the offers are made too
 -- byteOf x              "one byte a slot, the accelerator's number or 255 for idle"
 -- next t r              where the run stands after one more slot; lastByte t r: the byte it wrote
--- noneHeld h            nothing is held
+-- noneHeld h            none is held
 -- isDone r              "no line left, none held, none waiting"
--- Trail                 the bytes written, one a slot used, and whether the run ended done
+-- Trail                 the bytes written, one a slot used, and whether the run ended done; ended d: no byte more; written b x:
+--                       the byte b, then x
 -- trail k t r           the run from r on, over at most k slots: "Done is tested before each slot"
 -- start t rs            "The runner starts fresh": nothing is held, and all lines rs are left
 -- runFor t rs n         the run from the start, over the lines rs and a buffer of n bytes
 -- Ending                how a run ends: refused by a number and a line, or by 11, which has no line; or done, or stopped, "and
 --                       the number of slots used"
--- endOf x               the ending of a run with the trail x
--- answered q x          the ending that the trace's reading q allows; overwritten q x d: the buffer d then
+-- endOf x               done or stopped by the trail x: the slots used are its bytes
+-- answered y x          how a run of the trail x ends where the trace's reading answers y; overwritten y x d: the buffer d then
+-- over x d              the trail's bytes over those of d
 -- ranOf t s n           how a run of trace s over a buffer of n bytes ends: "the runner 11, buffer size, trace"
 -- bufferAfter t s d     the buffer d after the run: "Bytes past the slots used keep their contents", and a refusal leaves all
 use Prim.Native.Nat.{ℕ, zero, suc, _+_}
-use mathlib.Core.Bool.{Bool, true, false, _&&_, not}
+use mathlib.Core.Bool.{Bool, true, _&&_, not}
 use mathlib.Core.List.{List, [], _∷_, _++_}
 use lib.ListN.{length, set, drop, replicate}
 use lib.Dec.{leb, ltb, eqb}
@@ -117,7 +119,6 @@ pub data Ending : Type 0 where
 abbrev pub endOf : Trail → Ending
 endOf x = pick (x .done) (done (length (x .bytes))) (stopped (length (x .bytes)))
 
--- what the trace's reading lets the run answer, and the buffer after it
 abbrev pub answered : FileAnswer → Trail → Ending
 answered Accepted x = endOf x
 answered (Refused r n) x = refusedAt (numberOf r) n

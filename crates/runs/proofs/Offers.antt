@@ -14,7 +14,7 @@ use Rattle.model.specs.declared.State.{State}
 use Rattle.model.specs.Fold.{pick}
 use Rattle.model.proofs.Folds.{picked, passed}
 use Rattle.model.proofs.Lists.{beyond}
-use Rattle.machine.specs.Machine.{Outcome, admitted, admit, offered}
+use Rattle.machine.specs.Machine.{Outcome, offered}
 use Rattle.machine.specs.Calls.{Call, offer, stateAfter}
 use Rattle.machine.proofs.Cases.{Offered, refuses, admits, offer-cases}
 use Rattle.guarantee.specs.Guarantee.{Event, event, eventsOf, slotsIn}

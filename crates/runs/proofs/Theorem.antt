@@ -3,11 +3,11 @@
 use Prim.Native.Nat.{ℕ, zero, suc, _+_, _≤_, _<_}
 use mathlib.Core.Bool.{Bool, true, false, not}
 use mathlib.Core.List.{List, [], _∷_, _++_}
-use mathlib.Core.Logic.{_⊎_, inl, inr, ⊎-elim}
-use mathlib.Core.Path.{_≡_, refl, sym, _∙_, ap, ap₂, subst}
+use mathlib.Core.Logic.{⊎-elim}
+use mathlib.Core.Path.{_≡_, refl, sym, _∙_, ap, ap₂}
 use native.Mathlib.Omega.{arith}
 use lib.Dec.{ltb}
-use lib.ListN.{length, take, drop, replicate}
+use lib.ListN.{length, take, drop}
 use lib.Seq.{take-at}
 use borrow.Author.Tests.{not-false, ltb-false}
 use Rattle.model.specs.declared.Tree.{Tree}
@@ -22,19 +22,19 @@ use Rattle.reader.specs.declared.FileAnswer.{FileAnswer}
 use Rattle.reader.specs.declared.FileAnswer.the-variants.{Accepted, Refused, Broken}
 use Rattle.reader.specs.TraceFile.{readTrace, requests, totalFor}
 use Rattle.machine.specs.Machine.{Answer, admitted, served, idle, refused, lastSlot, freshState, slotted}
-use Rattle.machine.specs.Calls.{Call, slot, stateAfter}
+use Rattle.machine.specs.Calls.{slot, stateAfter}
 use Rattle.machine.proofs.Keeps.{zeros}
 use Rattle.machine.proofs.Laws.{fresh-keeps}
-use Rattle.guarantee.specs.Guarantee.{Event, event, eventsOf, unrefused, slotsIn}
+use Rattle.guarantee.specs.Guarantee.{event, eventsOf, unrefused, slotsIn}
 use Rattle.guarantee.proofs.Theorem.{guarantee}
-use Rattle.runner.specs.Offers.{heldOf, offerEach}
-use Rattle.runner.specs.Run.{Run, Trail, withDue, beforeSlot, byteOf, lastByte, next, trail, start, runFor, Ending, refusedAt, broken, done, stopped, endOf, answered, over, overwritten, ranOf, bufferAfter}
+use Rattle.runner.specs.Offers.{heldOf}
+use Rattle.runner.specs.Run.{Run, Trail, withDue, beforeSlot, lastByte, next, start, runFor, Ending, refusedAt, broken, endOf, answered, over, overwritten, ranOf, bufferAfter}
 use Rattle.runner.specs.Slots.{standing, bytesBefore, leftFrom, dueBefore}
-use Rattle.runner.proofs.Laws.{Ran, ran, bytes-length, ending-done, ending-stopped, Stood, stood, stood-unrefused, due-long}
+use Rattle.runner.proofs.Laws.{ran, ending-done, ending-stopped, Stood, stood, stood-unrefused, due-long}
 use Rattle.runner.proofs.Asked.{held-asked, asked-more, asked-start}
 use Rattle.runs.specs.Calls.{offersEach, slotCalls, callsBefore, bytesIn, admissionsBy, Reports, RunIsCalls}
 use Rattle.runs.proofs.Events.{state-append, events-append, bytes-append, slots-append, admissions-append}
-use Rattle.runs.proofs.Offers.{Offers, makes-each}
+use Rattle.runs.proofs.Offers.{makes-each}
 
 -- a slot that is not refused counts
 counts : (t : Tree) (s : State) → ((m : ℕ) → slotted t s .answer ≡ refused m → ⊥) → unrefused (slotted t s .answer) ≡ 1
@@ -84,12 +84,12 @@ one-slot t r f =
     no-admission a idle = refl
     no-admission a (refused n) = refl
 
--- the calls of the first n slots
-record Called (t : Tree) (rs : List Request) (n : ℕ) : Type 0 where
-  state : stateAfter t (freshState t) (callsBefore n t (start t rs)) ≡ standing n t (start t rs) .state
-  bytes : bytesIn (eventsOf t (freshState t) (callsBefore n t (start t rs))) ≡ bytesBefore n t (start t rs)
-  slots : slotsIn (eventsOf t (freshState t) (callsBefore n t (start t rs))) ≡ n
-  asked : (a : ℕ) → a < 32
+-- the calls of the first n slots, for every n that a run can use
+pub record Called (t : Tree) (rs : List Request) (n : ℕ) : Type 0 where
+  pub state : stateAfter t (freshState t) (callsBefore n t (start t rs)) ≡ standing n t (start t rs) .state
+  pub bytes : bytesIn (eventsOf t (freshState t) (callsBefore n t (start t rs))) ≡ bytesBefore n t (start t rs)
+  pub slots : slotsIn (eventsOf t (freshState t) (callsBefore n t (start t rs))) ≡ n
+  pub asked : (a : ℕ) → a < 32
       → heldOf (standing n t (start t rs) .held) a + admissionsBy a (eventsOf t (freshState t) (callsBefore n t (start t rs)))
       ≡ totalFor a (dueBefore n rs)
 
@@ -122,7 +122,7 @@ module _ (t : Tree) (rs : List Request) (n : ℕ) (S : Stood t rs n (standing n 
             );
       }
 
-called : (t : Tree) (rs : List Request) → treeKeeps t ≡ true → (n : ℕ) → n ≤ lastSlot → Called t rs n
+pub called : (t : Tree) (rs : List Request) → treeKeeps t ≡ true → (n : ℕ) → n ≤ lastSlot → Called t rs n
 unfolding standing callsBefore bytesBefore stateAfter eventsOf bytesIn slotsIn admissionsBy
 called t rs k zero l = record {
   state = refl;
