@@ -4,7 +4,6 @@
 -- release h a           the held counts with one transaction of accelerator a less
 -- offering s h          the state s and the held counts h between two offers
 -- onAdmitted x y z      y if the answer x is an admission, else z
--- offering s h          the state s and the held counts h between two offers
 -- offerHeld k t o a     accelerator a offers held transactions, at most k of them, "until one is refused or none is left, and
 --                       an offer that is refused leaves the held request first in line"
 -- offerAll t o a        the same with all that accelerator a holds

@@ -9,6 +9,7 @@
 -- traceStart t s        where the run of trace s starts
 -- callsOf t s n         the calls of the first n slots of the run of trace s
 -- eventsOfRun t s n     those calls with their answers
+-- byteIn c x            the byte of a slot's answer; none for an offer
 -- bytesIn es            the answers of the slots among the events es, as bytes
 -- admissionsBy a es     the admissions of accelerator a among the events es
 -- Reports e m           the ending e "reports done or stopped, and the number of slots used", m
