@@ -1,3 +1,4 @@
+pub mod Allowance
 pub mod Next
 pub mod Choice
 pub mod Cases
