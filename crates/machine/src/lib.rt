@@ -1,8 +1,5 @@
 // The machine of document 01: the fresh state, the offer of one transaction, and one slot of service. Each call takes the
 // configuration and a state by value and returns its answer with the next state; a refusal returns the state it was handed.
-mod table;
-pub mod turns;
-
 use model::Port;
 use model::Refusal;
 use model::State;

@@ -19,8 +19,8 @@ use Rattle.model.specs.Beneath.{under, inside, waitsUnder}
 use Rattle.model.proofs.Folds.{picked, passed}
 use Rattle.model.proofs.Sound.{Sound, Kept, above-root}
 use Rattle.model.proofs.Beneath.{On, here, there, no-crossing, lane, at-port, child-level, settled, some-port, child-lane, path-unique, path-up}
-use Rattle.machine.specs.Turns.{liveSet, nextPort, goesOn, turnPort, turnAllowance, reached, who, withTurn, turned, after}
-use Rattle.machine.proofs.Next.{bit-of, next-found}
+use Rattle.turns.specs.Turns.{liveSet, nextPort, goesOn, turnPort, turnAllowance, reached, who, withTurn, turned, after}
+use Rattle.turns.proofs.Next.{bit-of, next-found}
 
 -- the turn of interconnect j: its port has something waiting, and its allowance is above zero and within both its limits
 pub record Turn (t : Tree) (s : State) (j : ℕ) : Type 0 where

@@ -8,10 +8,10 @@ use lib.Dec.{ltb}
 use borrow.Author.Needs.{needs}
 use Rattle.model.specs.Fold.{pick}
 use Rattle.model.specs.Beneath.{waitsUnder}
-use Rattle.machine.specs.Turns.{bitsBelow}
-use Rattle.machine.proofs.Steps.{live-none, live-turn}
-use Rattle.machine.proofs.turns.live_set.Statement.{statement}
-use Rattle.machine.proofs.turns.live_set.Tie as tie
+use Rattle.turns.specs.Turns.{bitsBelow}
+use Rattle.turns.proofs.Steps.{live-none, live-turn}
+use Rattle.turns.proofs.live_set.Statement.{statement}
+use Rattle.turns.proofs.live_set.Tie as tie
 
 abbrev Inv-loop : tie.InvT-loop
 Inv-loop t s j set₀ p₀ set p = (p ≤ 8) × (set ≡ bitsBelow p (λ q. ltb 0 (waitsUnder t s j q)))

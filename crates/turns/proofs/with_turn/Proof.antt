@@ -1,8 +1,8 @@
 -- `with_turn` meets its contract: the two stores are those of the definition, and none past the end changes anything.
 use borrow.Author.Needs.{needs}
-use Rattle.machine.proofs.Steps.{turn-far}
-use Rattle.machine.proofs.turns.with_turn.Statement.{statement}
-use Rattle.machine.proofs.turns.with_turn.Tie as tie
+use Rattle.turns.proofs.Steps.{turn-far}
+use Rattle.turns.proofs.with_turn.Statement.{statement}
+use Rattle.turns.proofs.with_turn.Tie as tie
 
 returns-2 : tie.Need-returns-2
 returns-2 c =

@@ -1,7 +1,7 @@
 -- `grant` meets its contract: the test picks the smaller of the two.
 use borrow.Author.Needs.{needs}
-use Rattle.machine.proofs.turns.grant.Statement.{statement}
-use Rattle.machine.proofs.turns.grant.Tie as tie
+use Rattle.turns.proofs.grant.Statement.{statement}
+use Rattle.turns.proofs.grant.Tie as tie
 
 returns : tie.Need-returns
 returns c = search needs

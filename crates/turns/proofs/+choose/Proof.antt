@@ -6,17 +6,17 @@ use borrow.Author.Needs.{needs}
 use borrow.Fn.Kinds.{In}
 use borrow.Fn.PlainCycle.{Measures, is, falls, and}
 use native.Mathlib.Nat.{pos-of-ne-zero}
-use Rattle.machine.specs.Turns.{reached, who, turned, after}
-use Rattle.machine.proofs.Steps.{who-none, after-none, who-turn, after-turn}
-use Rattle.machine.proofs.turns.choose.Reads as choose
-use Rattle.machine.proofs.turns.choose.Kinds as choose-kinds
-use Rattle.machine.proofs.turns.+choose.Lts-choose as lts
-use Rattle.machine.proofs.turns.less_one.Reads as less-one-reads
-use Rattle.machine.proofs.turns.turn_at.Reads as turn-at-reads
-use Rattle.machine.proofs.turns.with_turn.Reads as with-turn-reads
+use Rattle.turns.specs.Turns.{reached, who, turned, after}
+use Rattle.turns.proofs.Steps.{who-none, after-none, who-turn, after-turn}
+use Rattle.turns.proofs.choose.Reads as choose
+use Rattle.turns.proofs.choose.Kinds as choose-kinds
+use Rattle.turns.proofs.+choose.Lts-choose as lts
+use Rattle.turns.proofs.less_one.Reads as less-one-reads
+use Rattle.turns.proofs.turn_at.Reads as turn-at-reads
+use Rattle.turns.proofs.with_turn.Reads as with-turn-reads
 use Rattle.model.proofs.access.port_at.Reads as port-at-reads
-use Rattle.machine.proofs.turns.+choose.{statement}
-use Rattle.machine.proofs.turns.+choose.Tie.{close}
+use Rattle.turns.proofs.+choose.{statement}
+use Rattle.turns.proofs.+choose.Tie.{close}
 
 abbrev μ : Measures 0 choose-kinds.ps ℕ
 μ κs a = a .1 .1 .0

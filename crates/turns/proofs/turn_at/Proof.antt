@@ -4,10 +4,10 @@ use Prim.Native.Nat.{ℕ, _≤_, _<_, min}
 use borrow.Author.Needs.{needs}
 use Rattle.model.specs.declared.Interconnect.{Interconnect}
 use Rattle.model.specs.Beneath.{waitsUnder}
-use Rattle.machine.specs.Turns.{nextPort}
-use Rattle.machine.proofs.Steps.{goes-port, goes-allowance, passes-port, passes-allowance}
-use Rattle.machine.proofs.turns.turn_at.Statement.{statement}
-use Rattle.machine.proofs.turns.turn_at.Tie as tie
+use Rattle.turns.specs.Turns.{nextPort}
+use Rattle.turns.proofs.Steps.{goes-port, goes-allowance, passes-port, passes-allowance}
+use Rattle.turns.proofs.turn_at.Statement.{statement}
+use Rattle.turns.proofs.turn_at.Tie as tie
 
 returns : tie.Need-returns
 returns c =

@@ -9,7 +9,7 @@ use Rattle.model.specs.declared.Accelerator.{Accelerator}
 use Rattle.model.specs.declared.Port.the-variants.{Acc}
 use Rattle.model.specs.Fold.{sum}
 use Rattle.model.specs.Beneath.{inside}
-use Rattle.machine.specs.Turns.{turnPort, turnAllowance}
+use Rattle.turns.specs.Turns.{turnPort, turnAllowance}
 
 abbrev block : ℕ → Accelerator
 block p = record { interconnect = 0; port = p; phi = 4; budget = 8; reads = 1; writes = 1; computing = 0; period = 1 }

@@ -2,8 +2,8 @@
 use mathlib.Core.Path.{sym}
 use borrow.Author.Tests.{le-ltb, lt-ltb}
 use Rattle.model.proofs.Folds.{picked, passed}
-use Rattle.machine.proofs.turns.live_bit.Statement.{statement}
-use Rattle.machine.proofs.turns.live_bit.Tie as tie
+use Rattle.turns.proofs.live_bit.Statement.{statement}
+use Rattle.turns.proofs.live_bit.Tie as tie
 
 returns : tie.Need-returns
 returns c = sym (picked _ _ _ (lt-ltb _ _ (c .if1 .taken)))

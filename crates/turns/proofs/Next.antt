@@ -8,7 +8,7 @@ use native.Mathlib.Nat.{pow-suc, one-le-pow, add-mul-div-right, add-mul-mod-self
 use native.Mathlib.Omega.{arith}
 use lib.Dec.{eqb}
 use Rattle.model.specs.Fold.{pick}
-use Rattle.machine.specs.Turns.{bitsBelow, hasPort, seek, nextPort}
+use Rattle.turns.specs.Turns.{bitsBelow, hasPort, seek, nextPort}
 
 picked-bound : (x n : ℕ) (c : Bool) → x < 2 ^ n → x + pick c (2 ^ n) 0 < 2 ^ suc n
 picked-bound x n true h = omega (arith, pow-suc 2 n)

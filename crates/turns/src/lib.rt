@@ -1,4 +1,6 @@
 // The turn rule: which port an interconnect serves in a slot, and the choice from the root down to an accelerator.
+mod table;
+
 use crate::table::NEXT;
 use model::Port;
 use model::State;
@@ -12,7 +14,7 @@ ghost use mathlib.Core.Path.{_≡_};
 ghost use Prim.Native.Nat.{_-_, min};
 ghost use lib.Dec.{ltb};
 ghost use Rattle.model.specs.Fold.{pick};
-ghost use Rattle.machine.specs.Turns.{liveSet, nextPort, turnPort, turnAllowance, reached, who, withTurn, turned, after};
+ghost use Rattle.turns.specs.Turns.{liveSet, nextPort, turnPort, turnAllowance, reached, who, withTurn, turned, after};
 
 // The turn at an interconnect in a slot: its port, and the allowance before this slot takes one off.
 pub struct Turn {
