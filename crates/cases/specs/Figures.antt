@@ -35,8 +35,9 @@ use Rattle.reader.specs.TraceFile.{offerLine, readOffers, readTrace, requests}
 use Rattle.runner.specs.Offers.{offerHeld, offerEach}
 use Rattle.runner.specs.Run.{Ending, done, heldWith, leftAfter, next, trail, ranOf, bufferAfter}
 use Rattle.bounds.specs.Bounds.{Answer as Bound, given, aloneRead, aloneWrite, slotRead, slotWrite, othersAt, shareAlong, shareOf, boundOf}
-use Rattle.listing.specs.Decimal.{digits, decimalText}
-use Rattle.listing.specs.Listing.{bytes, ended, joined, rowText, allLine, refusalText, reportText}
+use Rattle.put.specs.Decimal.{digits, decimalText}
+use Rattle.put.specs.Page.{bytes, ended, joined}
+use Rattle.listing.specs.Listing.{rowText, allLine, refusalText, reportText}
 use Rattle.cases.specs.Trees.{chain, timed, pair, worked, nested}
 
 pub data Figure : Type 0 where

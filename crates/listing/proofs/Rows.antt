@@ -17,9 +17,11 @@ use Rattle.bounds.specs.declared.BoundAnswer.the-variants.{Refused, Bound}
 use Rattle.bounds.specs.declared.Figures.{Figures}
 use Rattle.bounds.specs.Bounds.{Row, given, rowOf, meaningOf, boundOf}
 use Rattle.bounds.proofs.Answers.{bound-given}
-use Rattle.listing.specs.Listing.{headLine, joined, rowText, allLine, refusalText, reportText}
-use Rattle.listing.specs.Put.{Put, rowMade}
-use Rattle.listing.proofs.Puts.{put-then, put-as, put-most}
+use Rattle.listing.specs.Listing.{headLine, rowText, allLine, refusalText, reportText}
+use Rattle.put.specs.Page.{joined}
+use Rattle.put.specs.Put.{Put}
+use Rattle.listing.specs.Listing.{rowMade}
+use Rattle.put.proofs.Puts.{put-then, put-as, put-most}
 
 given-same : (x y : Row) → given x ≡ given y → x ≡ y
 given-same x y e = cc

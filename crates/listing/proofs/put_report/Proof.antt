@@ -9,10 +9,11 @@ use Rattle.model.specs.Fold.{all}
 use Rattle.model.proofs.Sums.{all-none, all-turn}
 use Rattle.model.proofs.Sound.{sound}
 use Rattle.bounds.specs.Bounds.{Row, rowOf}
-use Rattle.listing.specs.Listing.{joined, rowText}
-use Rattle.listing.specs.Put.{Put}
-use Rattle.listing.proofs.Puts.{put-none, put-as}
-use Rattle.listing.proofs.Lines.{lines-none, lines-turn}
+use Rattle.put.specs.Page.{joined}
+use Rattle.listing.specs.Listing.{rowText}
+use Rattle.put.specs.Put.{Put}
+use Rattle.put.proofs.Puts.{put-none, put-as}
+use Rattle.put.proofs.Lines.{lines-none, lines-turn}
 use Rattle.listing.proofs.Rows.{row-made, never-refused, report-end}
 use Rattle.listing.proofs.put_report.Statement.{statement}
 use Rattle.listing.proofs.put_report.Tie as tie
