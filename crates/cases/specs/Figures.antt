@@ -25,7 +25,7 @@ use Rattle.model.specs.declared.Tree.{Tree}
 use Rattle.model.specs.Fold.{sum, all}
 use Rattle.model.specs.Tree.{above}
 use Rattle.model.specs.Beneath.{inside}
-use Rattle.model.specs.Rules.{treeKeeps, stateKeeps, sized, recordKeeps, turnKeeps, busKeeps, carries, rootPlaced, childPlaced, usedInterconnect, unusedInterconnect, usedAccelerator, unusedAccelerator}
+use Rattle.rules.specs.Rules.{treeKeeps, stateKeeps, sized, recordKeeps, turnKeeps, busKeeps, carries, rootPlaced, childPlaced, usedInterconnect, unusedInterconnect, usedAccelerator, unusedAccelerator}
 use Rattle.turns.specs.Turns.{who, after, turnPort, turnAllowance, seek, bitsBelow}
 use Rattle.machine.specs.Machine.{Answer, admitted, served, idle, refused, freshState, offered, slotted, tick}
 use Rattle.machine.specs.Calls.{Call, offer, slot, answersOf}

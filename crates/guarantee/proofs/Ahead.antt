@@ -18,8 +18,8 @@ use Rattle.model.specs.Fold.{pick, sum}
 use Rattle.model.specs.Tree.{granularityOf, limitOf, waitingOf, lastOf, allowanceOf}
 use Rattle.model.specs.Beneath.{waitsUnder}
 use Rattle.model.proofs.Folds.{picked, passed}
-use Rattle.model.proofs.Sound.{Sound, Kept}
-use Rattle.model.proofs.Beneath.{weight-mono}
+use Rattle.rules.proofs.Sound.{Sound, Kept}
+use Rattle.rules.proofs.Beneath.{weight-mono}
 use Rattle.turns.specs.Turns.{hasPort, liveSet, nextPort, goesOn, turnPort, turnAllowance}
 use Rattle.turns.proofs.Next.{bit-of}
 use Rattle.turns.proofs.Descent.{Turn, Turned, Unturned}

@@ -9,9 +9,9 @@ use native.Mathlib.Omega.{arith}
 use Rattle.model.specs.declared.Tree.{Tree}
 use Rattle.model.specs.declared.Refusal.{Refusal}
 use Rattle.model.specs.Fold.{all}
-use Rattle.model.specs.Rules.{treeKeeps}
+use Rattle.rules.specs.Rules.{treeKeeps}
 use Rattle.model.proofs.Folds.{picked, passed}
-use Rattle.model.proofs.Sound.{sound}
+use Rattle.rules.proofs.Sound.{sound}
 use Rattle.bounds.specs.declared.BoundAnswer.{BoundAnswer}
 use Rattle.bounds.specs.declared.BoundAnswer.the-variants.{Refused, Bound}
 use Rattle.bounds.specs.declared.Figures.{Figures}

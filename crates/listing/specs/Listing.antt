@@ -14,7 +14,7 @@ use mathlib.Core.Bool.{Bool}
 use mathlib.Core.List.{List, _++_}
 use Rattle.model.specs.declared.Tree.{Tree}
 use Rattle.model.specs.Fold.{pick, all}
-use Rattle.model.specs.Rules.{treeKeeps}
+use Rattle.rules.specs.Rules.{treeKeeps}
 use Rattle.bounds.specs.declared.Figures.{Figures}
 use Rattle.bounds.specs.Bounds.{Row, rowOf}
 use Rattle.put.specs.Decimal.{decimalText}

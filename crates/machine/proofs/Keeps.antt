@@ -13,8 +13,8 @@ use Rattle.model.specs.declared.State.{State}
 use Rattle.model.specs.Fold.{pick}
 use Rattle.model.specs.Tree.{granularityOf, limitOf, budgetOf, path, waitingOf, admittedOf, lastOf, allowanceOf, portOf}
 use Rattle.model.specs.Beneath.{weightUnder, waitsUnder}
-use Rattle.model.proofs.Sound.{Sound, Kept}
-use Rattle.model.proofs.Beneath.{On, on?, only, only-same, only-other, under-sum, weight-on, weight-off, path-bounds}
+use Rattle.rules.proofs.Sound.{Sound, Kept}
+use Rattle.rules.proofs.Beneath.{On, on?, only, only-same, only-other, under-sum, weight-on, weight-off, path-bounds}
 use Rattle.turns.specs.Turns.{turnPort}
 use Rattle.machine.specs.Machine.{freshState, admit, opens, tick, takeOne}
 use Rattle.turns.proofs.Descent.{Turned, Unturned, Choice}

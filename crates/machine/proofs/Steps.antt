@@ -12,7 +12,7 @@ use borrow.Author.Tests.{eq-eqb, ne-eqb, le-leb, lt-leb}
 use Rattle.model.specs.declared.Tree.{Tree}
 use Rattle.model.specs.declared.State.{State}
 use Rattle.model.specs.Tree.{windowOf, waitingOf, admittedOf, limitOf, budgetOf}
-use Rattle.model.specs.Rules.{treeKeeps, keeps}
+use Rattle.rules.specs.Rules.{treeKeeps, keeps}
 use Rattle.model.proofs.Folds.{picked, passed}
 use Rattle.machine.specs.Machine.{outcome, admitted, served, idle, refused, started, notStarted, beginning, zeroState, freshState, freshened, admit, offeredWithin, offered, noneWaits, lastSlot, chosen, takeOne, serve, tick, opens, slottedWithin, slotted}
 

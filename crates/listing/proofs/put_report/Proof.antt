@@ -7,7 +7,7 @@ use lib.ListN.{length}
 use borrow.Author.Needs.{needs}
 use Rattle.model.specs.Fold.{all}
 use Rattle.model.proofs.Sums.{all-none, all-turn}
-use Rattle.model.proofs.Sound.{sound}
+use Rattle.rules.proofs.Sound.{sound}
 use Rattle.bounds.specs.Bounds.{Row, rowOf}
 use Rattle.put.specs.Page.{joined}
 use Rattle.listing.specs.Listing.{rowText}
