@@ -8,7 +8,6 @@ use put::put_bytes;
 use put::put_field;
 use put::put_number;
 ghost use mathlib.Core.Path.{_≡_};
-ghost use Prim.Native.Nat.{_≤_};
 ghost use lib.ListN.{length};
 ghost use Rattle.model.specs.Fold.{pick};
 ghost use Rattle.put.specs.Page.{bytes as bytesOf, field, Written};
@@ -22,7 +21,6 @@ pub struct Filled {
 }
 
 fn put_slot(out: &mut [u8], at: usize, slot: u64, byte: u8) -> usize
-    requires { ⌜ at ≤ 90000 ⌝ }
     ensures { λ r. ⌜ Put 42 (now (out .entry)) at (slotText slot byte) (now (out .exit)) r ⌝ }
 {
     let next = put_field(out, at, slot, b'\t');

@@ -40,7 +40,6 @@ fn line_length(s: &[u8]) -> usize
 
 // Line k of s, without its LF.
 pub fn put_line(out: &mut [u8], at: usize, s: &[u8], k: u8) -> usize
-    requires { ⌜ (at ≤ 100000) × (length (now s) ≤ 1000) ⌝ }
     ensures { λ r. ⌜ Put (length (now (s .entry))) (now (out .entry)) at (lineOf k (now (s .entry))) (now (out .exit)) r ⌝ }
 {
     let from = line_start(s, k);

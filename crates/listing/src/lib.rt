@@ -9,7 +9,6 @@ use put::put_field;
 use rules::tree_keeps;
 ghost use mathlib.Core.Bool.{true};
 ghost use mathlib.Core.Path.{_≡_};
-ghost use Prim.Native.Nat.{_≤_};
 ghost use Rattle.rules.specs.Rules.{treeKeeps};
 ghost use Rattle.put.specs.Page.{ended, Written};
 ghost use Rattle.put.specs.Put.{Put};
@@ -25,7 +24,6 @@ fn put_refusal(out: &mut [u8], number: u8, line: u32) -> usize
 
 // A verdict, the last field of its line.
 fn put_verdict(out: &mut [u8], at: usize, meets: bool) -> usize
-    requires { ⌜ at ≤ 100000 ⌝ }
     ensures { λ r. ⌜ Put 6 (now (out .entry)) at (ended (verdictOf meets)) (now (out .exit)) r ⌝ }
 {
     if meets {
@@ -36,7 +34,6 @@ fn put_verdict(out: &mut [u8], at: usize, meets: bool) -> usize
 
 // The line of accelerator a.
 fn put_row(out: &mut [u8], at: usize, a: u8, f: Figures) -> usize
-    requires { ⌜ at ≤ 90000 ⌝ }
     ensures { λ r. ⌜ Put 153 (now (out .entry)) at (rowText a (rowMade f)) (now (out .exit)) r ⌝ }
 {
     let reads = f.reads;
@@ -64,7 +61,6 @@ fn put_head(out: &mut [u8]) -> usize
 }
 
 fn put_all(out: &mut [u8], at: usize, meets: bool) -> usize
-    requires { ⌜ at ≤ 90000 ⌝ }
     ensures { λ r. ⌜ Put 10 (now (out .entry)) at (allLine meets) (now (out .exit)) r ⌝ }
 {
     let next = put_bytes(out, at, b"all\t");

@@ -1,12 +1,12 @@
 -- Texts stored one after the other are their concatenation stored at once. By induction on the first text.
-use Prim.Native.Nat.{ℕ, suc, _+_, _/_, _%_, _^_, _≤_, _<_}
+use Prim.Native.Nat.{ℕ, zero, suc, _+_, _-_, _/_, _%_, _^_, _≤_, _<_, min}
 use mathlib.Core.List.{List, [], _∷_, _++_}
-use mathlib.Core.Path.{_≡_, refl, ap, sym, _∙_, subst}
+use mathlib.Core.Path.{_≡_, refl, ap, ap₂, sym, _∙_, subst}
 use native.Mathlib.Nat.{add-suc, suc-add, add-zero, zero-add}
 use native.Mathlib.Numerals.{add-one}
 use native.Mathlib.Omega.{arith}
 use lib.ListN.{length, take, getD, length-append}
-use lib.Seq.{sets, sets-eq, take-suc, take-length}
+use lib.Seq.{sets, sets-eq, length-sets, set-out, take-suc, take-length}
 use Rattle.put.specs.Decimal.{decimalText}
 use Rattle.put.specs.Page.{Written}
 use Rattle.put.specs.Put.{Put}
@@ -16,15 +16,35 @@ pub sets-append : (xs ys d : List ℕ) (at : ℕ) → sets (sets d at xs) (at + 
 sets-append [] ys d at = rw add-zero
 sets-append (x ∷ xs) ys d at = rw (add-suc, ← suc-add) (sets-append xs ys _ (suc at))
 
+-- past the end of the buffer nothing is stored
+sets-past : (ys l : List ℕ) (i : ℕ) → length l ≤ i → sets l i ys ≡ l
+sets-past [] l i h = refl
+sets-past (y ∷ ys) l i h = ap (λ (k : List ℕ). sets k (suc i) ys) (set-out l i y h) ∙ sets-past ys l (suc i) (omega arith)
+
+-- so what follows a text that the buffer cuts short may as well follow the whole of it
+sets-stop : (ys l : List ℕ) (at k n : ℕ) → (at + k) - length l ≡ n → sets l (at + min k (length l - at)) ys ≡ sets l (at + k) ys
+sets-stop ys l at k zero e = ap (λ (i : ℕ). sets l i ys) (omega arith)
+sets-stop ys l at k (suc n) e =
+    sets-past ys l (at + min k (length l - at)) (omega arith) ∙ sym (sets-past ys l (at + k) (omega arith))
+
+-- where the next byte goes after j bytes and then k
+stop-add : (at j k n : ℕ) → (at + min j (n - at)) + min k (n - (at + min j (n - at))) ≡ at + min (j + k) (n - at)
+stop-add at j k n = omega arith
+
 pub put-none : (d : List ℕ) (at : ℕ) → Put 0 d at [] d at
-put-none d at = record { stored = refl; ends = sym (add-zero at); short = omega arith }
+put-none d at = record { stored = refl; ends = omega arith; short = omega arith }
 
 pub put-then : {m n : ℕ} {d : List ℕ} {at : ℕ} {xs e : List ℕ} {next : ℕ} {ys f : List ℕ} {last : ℕ}
     → Put m d at xs e next → Put n e next ys f last → Put (m + n) d at (xs ++ ys) f last
 put-then {m} {n} {d} {at} {xs} {e} {next} {ys} {f} {last} p q =
+    let l : length e ≡ length d = ap length (p .stored) ∙ length-sets d at xs in
     record {
-      stored = q .stored ∙ ap (λ (k : ℕ). sets e k ys) (p .ends) ∙ ap (λ (l : List ℕ). sets l (at + length xs) ys) (p .stored) ∙ sets-append xs ys d at;
-      ends = omega (arith, p .ends, q .ends, length-append xs ys);
+      stored =
+          q .stored ∙ ap (λ (k : ℕ). sets e k ys) (p .ends) ∙ ap (λ (k : ℕ). sets e (at + min (length xs) (k - at)) ys) (sym l)
+          ∙ sets-stop ys e at (length xs) _ refl ∙ ap (λ (k : List ℕ). sets k (at + length xs) ys) (p .stored) ∙ sets-append xs ys d at;
+      ends =
+          q .ends ∙ ap₂ (λ (i n : ℕ). i + min (length ys) (n - i)) (p .ends) l ∙ stop-add at (length xs) (length ys) (length d)
+          ∙ ap (λ (k : ℕ). at + min k (length d - at)) (sym (length-append xs ys));
       short = omega (arith, p .short, q .short, length-append xs ys);
     }
 
@@ -46,7 +66,7 @@ pub put-laid : {m : ℕ} {d : List ℕ} {xs e : List ℕ} {next : ℕ} → Put m
 put-laid {m} {d} {xs} {e} {next} p h l =
     record {
       page = p .stored ∙ sets-eq xs d 0 (omega (arith, p .short)) ∙ rw zero-add;
-      bytes = omega (arith, p .ends);
+      bytes = omega (arith, p .ends, p .short);
       room = omega (arith, p .ends, p .short);
     }
 

@@ -1,5 +1,5 @@
 // Texts stored in a lent buffer, one after the other. Each function stores from `at` on and answers where the next byte
-// goes; what would lie past the buffer's end is dropped. The bound that each asks of `at` only keeps sums from wrapping.
+// goes; what would lie past the buffer's end is dropped.
 ghost use mathlib.Core.Path.{_≡_};
 ghost use mathlib.Core.List.{[], _∷_, _++_};
 ghost use Prim.Native.Nat.{_+_, _≤_};
@@ -8,17 +8,16 @@ ghost use Rattle.put.specs.Decimal.{decimalText};
 ghost use Rattle.put.specs.Put.{Put};
 
 pub fn put_byte(out: &mut [u8], at: usize, b: u8) -> usize
-    requires { ⌜ at ≤ 200000 ⌝ }
     ensures { λ r. ⌜ Put 1 (now (out .entry)) at (b ∷ []) (now (out .exit)) r ⌝ }
 {
     if at < out.len() {
         out[at] = b;
+        return at + 1;
     }
-    at + 1
+    at
 }
 
 pub fn put_bytes(out: &mut [u8], at: usize, s: &[u8]) -> usize
-    requires { ⌜ (at ≤ 100000) × (length (now s) ≤ 1000) ⌝ }
     ensures { λ r. ⌜ Put (length (now (s .entry))) (now (out .entry)) at (now (s .entry)) (now (out .exit)) r ⌝ }
 {
     let mut next = at;
@@ -39,7 +38,6 @@ fn digit(n: u64) -> u8
 
 // The decimal digits of n: those of all but the last, then the last.
 pub fn put_number(out: &mut [u8], at: usize, n: u64) -> usize
-    requires { ⌜ at ≤ 100000 ⌝ }
     ensures { λ r. ⌜ Put 20 (now (out .entry)) at (decimalText n) (now (out .exit)) r ⌝ }
 {
     if n < 10 {
@@ -51,7 +49,6 @@ pub fn put_number(out: &mut [u8], at: usize, n: u64) -> usize
 
 // A number and the byte after it, a tab or LF.
 pub fn put_field(out: &mut [u8], at: usize, n: u64, end: u8) -> usize
-    requires { ⌜ at ≤ 100000 ⌝ }
     ensures { λ r. ⌜ Put 21 (now (out .entry)) at (decimalText n ++ end ∷ []) (now (out .exit)) r ⌝ }
 {
     let next = put_number(out, at, n);

@@ -2,6 +2,7 @@
 use mathlib.Core.Path.{_≡_, refl, _∙_}
 use mathlib.Core.List.{[]}
 use Prim.Native.Nat.{_≤_, _-_, _+_, _*_}
+use native.Mathlib.Omega.{arith}
 use lib.ListN.{length, getD}
 use borrow.Author.Needs.{needs}
 use Rattle.put.specs.Page.{joined}
@@ -29,6 +30,9 @@ loop-again c =
     let a = c .before .before .before .before .before .before .before .before .before .args in
     (lines-turn 0 42 [] (λ j. slotText (a .first + j) (getD (a .served .now) (a .first + j) 0)) _ (l .inv .0) (c .before .before .put-slot .ensures), search needs, c .before .before .put-slot .kept .0 ∙ l .inv .2)
 
+loop-less : tie.Need-loop-less Inv-loop μ-loop
+loop-less c = omega (arith, c .before .before .before .before .before .loop-test .taken)
+
 same-length : tie.Need-same-length Inv-loop μ-loop
 same-length c = c .before .loop .inv .2
 
@@ -37,4 +41,4 @@ returns c =
     slots-end _ _ _ _ (c .before .before .before .before .pre) (c .before .loop .inv .1) (c .loop-test .left) (c .before .loop .inv .0)
 
 pub put-slots-spec : {M : Type 1} → statement M
-put-slots-spec = tie.close (tie.spec Inv-loop μ-loop loop-holds (λ c. search needs) (λ c. search needs) (λ c κs. search needs) (λ c. search needs) (λ c. search needs) loop-again same-length returns)
+put-slots-spec = tie.close (tie.spec Inv-loop μ-loop loop-holds (λ c. search needs) (λ c. search needs) (λ c κs. search needs) (λ c. search needs) loop-less loop-again same-length returns)
