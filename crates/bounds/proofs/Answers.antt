@@ -4,7 +4,7 @@ use mathlib.Core.Bool.{true, false, not}
 use mathlib.Core.Path.{_≡_, ap, _∙_}
 use borrow.Author.Tests.{le-leb, lt-leb}
 use Rattle.model.specs.declared.Tree.{Tree}
-use Rattle.model.specs.Rules.{treeKeeps}
+use Rattle.rules.specs.Rules.{treeKeeps}
 use Rattle.model.proofs.Folds.{picked, passed}
 use Rattle.bounds.specs.Bounds.{refused, given, rowOf, boundOf}
 

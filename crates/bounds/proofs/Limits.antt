@@ -10,9 +10,9 @@ use Rattle.model.specs.declared.Tree.{Tree}
 use Rattle.model.specs.declared.Bus.{Bus}
 use Rattle.model.specs.declared.Accelerator.{Accelerator}
 use Rattle.model.specs.Tree.{acceleratorOf, homeOf, levelOf}
-use Rattle.model.specs.Rules.{treeKeeps, busKeeps, usedAccelerator}
+use Rattle.rules.specs.Rules.{treeKeeps, busKeeps, usedAccelerator}
 use Rattle.model.proofs.Folds.{tests, picked}
-use Rattle.model.proofs.Sound.{sound}
+use Rattle.rules.proofs.Sound.{sound}
 use Rattle.bounds.specs.Bounds.{interference, aloneRead, aloneWrite, slotRead, slotWrite, readTime, writeTime, responseOf, shareOf}
 use Rattle.bounds.specs.Limits.{Limited}
 use Rattle.bounds.proofs.Shares.{share-bounds}

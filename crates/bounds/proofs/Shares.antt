@@ -13,10 +13,10 @@ use borrow.Author.Tests.{eq-eqb, ne-eqb}
 use Rattle.model.specs.declared.Tree.{Tree}
 use Rattle.model.specs.Fold.{pick, sum}
 use Rattle.model.specs.Tree.{Crossing, granularityOf, homeOf, parentOf, parentPortOf, above, path}
-use Rattle.model.specs.Rules.{treeKeeps}
+use Rattle.rules.specs.Rules.{treeKeeps}
 use Rattle.model.proofs.Folds.{picked, passed}
-use Rattle.model.proofs.Sound.{Sound, sound}
-use Rattle.model.proofs.Beneath.{On, here, there, path-bounds}
+use Rattle.rules.proofs.Sound.{Sound, sound}
+use Rattle.rules.proofs.Beneath.{On, here, there, path-bounds}
 use Rattle.bounds.specs.Bounds.{capacityOf, counted, othersAt, shareAlong, shareOf}
 
 -- n terms of at most b

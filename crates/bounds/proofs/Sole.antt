@@ -12,10 +12,10 @@ use native.Mathlib.Omega.{arith}
 use Rattle.model.specs.declared.Tree.{Tree}
 use Rattle.model.specs.Tree.{Crossing, portOf, parentOf, parentPortOf, homeOf, homePortOf, limitOf, path}
 use Rattle.model.specs.Beneath.{under, inside, weightUnder}
-use Rattle.model.specs.Rules.{treeKeeps}
+use Rattle.rules.specs.Rules.{treeKeeps}
 use Rattle.model.proofs.Folds.{sum-zero, term-le}
-use Rattle.model.proofs.Sound.{Sound, sound, above-step}
-use Rattle.model.proofs.Beneath.{only, only-same, only-other, some-port, On, here, there, lane, at-port, path-bounds, path-unique, path-root, beneath-on, beneath-once}
+use Rattle.rules.proofs.Sound.{Sound, sound, above-step}
+use Rattle.rules.proofs.Beneath.{only, only-same, only-other, some-port, On, here, there, lane, at-port, path-bounds, path-unique, path-root, beneath-on, beneath-once}
 use Rattle.bounds.specs.Bounds.{capacityOf, counted, othersAt, shareAlong, shareOf}
 use Rattle.bounds.proofs.Shares.{counted-own, counted-other, share-least}
 

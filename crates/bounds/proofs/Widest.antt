@@ -14,7 +14,7 @@ use Rattle.model.specs.declared.Port.the-variants.{Acc, Int}
 use Rattle.model.specs.Fold.{sum, all}
 use Rattle.model.specs.Tree.{noInterconnect, noAccelerator, above}
 use Rattle.model.specs.Beneath.{inside}
-use Rattle.model.specs.Rules.{treeKeeps, busKeeps, carries, rootPlaced, childPlaced, usedInterconnect, unusedInterconnect, usedAccelerator, unusedAccelerator}
+use Rattle.rules.specs.Rules.{treeKeeps, busKeeps, carries, rootPlaced, childPlaced, usedInterconnect, unusedInterconnect, usedAccelerator, unusedAccelerator}
 use Rattle.bounds.specs.Bounds.{othersAt, shareAlong, Row, given, boundOf}
 
 abbrev cell : Port → PortCell

@@ -35,7 +35,7 @@ use Rattle.model.specs.declared.Accelerator.{Accelerator}
 use Rattle.model.specs.Fold.{pick, sum}
 use Rattle.model.specs.Tree.{Crossing, granularityOf, limitOf, homeOf, levelOf, path, acceleratorOf}
 use Rattle.model.specs.Beneath.{weightUnder}
-use Rattle.model.specs.Rules.{treeKeeps}
+use Rattle.rules.specs.Rules.{treeKeeps}
 use Rattle.model.specs.Answer.{numberOf}
 use Rattle.bounds.specs.declared.BoundAnswer.{BoundAnswer}
 use Rattle.bounds.specs.declared.BoundAnswer.the-variants.{Refused, Bound}

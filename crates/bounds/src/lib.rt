@@ -12,7 +12,7 @@ use model::Refusal;
 use model::Tree;
 use model::access::accelerator_at;
 use model::access::level_of;
-use model::rules::tree_keeps;
+use rules::tree_keeps;
 ghost use mathlib.Core.Path.{_≡_};
 ghost use Rattle.bounds.specs.Bounds.{given, rowFrom, meaningOf, boundOf};
 ghost use Rattle.bounds.specs.Limits.{Limited};

@@ -4,13 +4,13 @@ use model::Tree;
 use model::access::accelerator_at;
 use model::access::interconnect_at;
 use model::access::port_at;
-use model::rules::smaller;
+use rules::smaller;
 ghost use mathlib.Core.Path.{_≡_};
 ghost use mathlib.Core.Bool.{true};
 ghost use Prim.Native.Nat.{_+_, _*_, _^_, _≤_, _<_};
 ghost use Rattle.model.specs.Tree.{limitOf, above};
 ghost use Rattle.model.specs.Beneath.{under, inside};
-ghost use Rattle.model.specs.Rules.{treeKeeps};
+ghost use Rattle.rules.specs.Rules.{treeKeeps};
 ghost use Rattle.bounds.specs.Bounds.{capacityOf, counted, othersAt, shareAlong, shareOf};
 
 // How many transactions of accelerator a may be outstanding.

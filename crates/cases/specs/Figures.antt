@@ -1,4 +1,5 @@
--- The starred cases and the worked listing of document 01, "Figures to check by": one table under one claim.
+-- The starred cases and the worked listing of document 01, "Figures to check by", and a figure for the trap that no case
+-- tells: one table under one claim.
 --
 -- Figure               one figure of a case
 -- answers t cs xs      the calls cs, from the fresh state of the tree t, get the answers xs
@@ -24,8 +25,8 @@ use Rattle.model.specs.declared.Tree.{Tree}
 use Rattle.model.specs.Fold.{sum, all}
 use Rattle.model.specs.Tree.{above}
 use Rattle.model.specs.Beneath.{inside}
-use Rattle.model.specs.Rules.{treeKeeps, stateKeeps, sized, recordKeeps, turnKeeps, busKeeps, carries, rootPlaced, childPlaced, usedInterconnect, unusedInterconnect, usedAccelerator, unusedAccelerator}
-use Rattle.machine.specs.Turns.{who, after, turnPort, turnAllowance, seek, bitsBelow}
+use Rattle.rules.specs.Rules.{treeKeeps, stateKeeps, sized, recordKeeps, turnKeeps, busKeeps, carries, rootPlaced, childPlaced, usedInterconnect, unusedInterconnect, usedAccelerator, unusedAccelerator}
+use Rattle.turns.specs.Turns.{who, after, turnPort, turnAllowance, seek, bitsBelow}
 use Rattle.machine.specs.Machine.{Answer, admitted, served, idle, refused, freshState, offered, slotted, tick}
 use Rattle.machine.specs.Calls.{Call, offer, slot, answersOf}
 use Rattle.text.specs.Text.{parts, butLast, final, same, allDigits, decimal, fieldOf}
@@ -34,8 +35,9 @@ use Rattle.reader.specs.TraceFile.{offerLine, readOffers, readTrace, requests}
 use Rattle.runner.specs.Offers.{offerHeld, offerEach}
 use Rattle.runner.specs.Run.{Ending, done, heldWith, leftAfter, next, trail, ranOf, bufferAfter}
 use Rattle.bounds.specs.Bounds.{Answer as Bound, given, aloneRead, aloneWrite, slotRead, slotWrite, othersAt, shareAlong, shareOf, boundOf}
-use Rattle.listing.specs.Decimal.{digits, decimalText}
-use Rattle.listing.specs.Listing.{bytes, ended, joined, rowText, allLine, refusalText, reportText}
+use Rattle.put.specs.Decimal.{digits, decimalText}
+use Rattle.put.specs.Page.{bytes, ended, joined}
+use Rattle.listing.specs.Listing.{rowText, allLine, refusalText, reportText}
 use Rattle.cases.specs.Trees.{chain, timed, pair, worked, nested}
 
 pub data Figure : Type 0 where
@@ -97,6 +99,11 @@ table =
     ∷ answers (pair 4 16 4 4 8)
     (offer 0 ∷ offer 1 ∷ slot ∷ offer 0 ∷ offer 0 ∷ slot ∷ [])
     (admitted ∷ admitted ∷ served 0 ∷ admitted ∷ admitted ∷ served 1 ∷ [])
+    -- an allowance that grows while its turn runs: with g 2 the turn of accelerator 0 ends after two slots, though a third
+    -- of its transactions arrives within it (case 5 does not tell this)
+    ∷ answers (pair 2 16 4 4 8)
+    (times 2 (offer 0) ++ offer 1 ∷ slot ∷ offer 0 ∷ times 2 slot)
+    (times 3 admitted ++ served 0 ∷ admitted ∷ served 0 ∷ served 1 ∷ [])
     -- 6: "P 4, budget 2, phi 4: of three offers at slot 0 the third is refused 9; at slot 4 it is admitted"
     ∷ answers (pair 1 4 4 4 2)
     (times 3 (offer 0) ++ times 4 slot ++ offer 0 ∷ [])
@@ -128,7 +135,7 @@ table =
 
 pub figures : every table
 unfolding answersOf parts butLast final same allDigits decimal fieldOf kindOf pushed lineOf shaped offerLine readOffers readTrace requests ranOf bufferAfter heldWith leftAfter offerHeld offerEach next trail offered slotted tick who after turnPort turnAllowance seek bitsBelow treeKeeps stateKeeps sized recordKeeps turnKeeps busKeeps carries rootPlaced childPlaced usedInterconnect unusedInterconnect usedAccelerator unusedAccelerator inside above sum all shareAlong othersAt boundOf reportText rowText allLine refusalText joined decimalText digits
-figures = (refl, (refl, ((refl, refl), (refl, (refl, ((refl, refl), (refl, (refl, (refl, (refl, (refl, (refl, (refl, ((refl, refl), (refl, tt)))))))))))))))
+figures = (refl, (refl, ((refl, refl), (refl, (refl, ((refl, refl), (refl, (refl, (refl, (refl, (refl, (refl, (refl, (refl, ((refl, refl), (refl, tt))))))))))))))))
 
 abbrev pub guard : List Figure
 guard = numbers (shareOf nested 0 ∷ shareOf nested 1 ∷ []) (3 ∷ 2 ∷ []) ∷ []

@@ -18,11 +18,11 @@ use Rattle.model.specs.Fold.{pick, sum}
 use Rattle.model.specs.Tree.{granularityOf, limitOf, waitingOf, lastOf, allowanceOf}
 use Rattle.model.specs.Beneath.{waitsUnder}
 use Rattle.model.proofs.Folds.{picked, passed}
-use Rattle.model.proofs.Sound.{Sound, Kept}
-use Rattle.model.proofs.Beneath.{weight-mono}
-use Rattle.machine.specs.Turns.{hasPort, liveSet, nextPort, goesOn, turnPort, turnAllowance}
-use Rattle.machine.proofs.Next.{bit-of}
-use Rattle.machine.proofs.Choice.{Turn, Turned, Unturned}
+use Rattle.rules.proofs.Sound.{Sound, Kept}
+use Rattle.rules.proofs.Beneath.{weight-mono}
+use Rattle.turns.specs.Turns.{hasPort, liveSet, nextPort, goesOn, turnPort, turnAllowance}
+use Rattle.turns.proofs.Next.{bit-of}
+use Rattle.turns.proofs.Descent.{Turn, Turned, Unturned}
 use Rattle.bounds.specs.Bounds.{capacityOf, counted, othersAt}
 use Rattle.guarantee.proofs.Circle.{between, between-all, next-sooner, last-with}
 

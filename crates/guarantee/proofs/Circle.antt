@@ -11,7 +11,7 @@ use lib.Dec.{eqb}
 use borrow.Author.Tests.{eq-eqb, ne-eqb}
 use Rattle.model.specs.Fold.{pick, sum}
 use Rattle.model.proofs.Folds.{picked, passed, sum-suc}
-use Rattle.machine.specs.Turns.{hasPort, seek, nextPort}
+use Rattle.turns.specs.Turns.{hasPort, seek, nextPort}
 
 -- a sum taken from its first term on, and round the circle
 sum-first : (n : ℕ) (f : ℕ → ℕ) → sum (suc n) f ≡ f 0 + sum n (λ i. f (suc i))

@@ -10,8 +10,8 @@ use Rattle.model.specs.declared.State.{State}
 use Rattle.model.specs.Fold.{sum, all}
 use Rattle.model.specs.Tree.{above, waitingOf, admittedOf}
 use Rattle.model.specs.Beneath.{inside}
-use Rattle.model.specs.Rules.{treeKeeps, stateKeeps, sized, recordKeeps, turnKeeps, busKeeps, carries, rootPlaced, childPlaced, usedInterconnect, unusedInterconnect, usedAccelerator, unusedAccelerator, keeps}
-use Rattle.machine.specs.Turns.{who, after, turnPort, turnAllowance, seek, bitsBelow}
+use Rattle.rules.specs.Rules.{treeKeeps, stateKeeps, sized, recordKeeps, turnKeeps, busKeeps, carries, rootPlaced, childPlaced, usedInterconnect, unusedInterconnect, usedAccelerator, unusedAccelerator, keeps}
+use Rattle.turns.specs.Turns.{who, after, turnPort, turnAllowance, seek, bitsBelow}
 use Rattle.machine.specs.Machine.{Answer, admitted, served, freshState, offered, slotted, tick}
 use Rattle.machine.specs.Calls.{Call, offer, slot, stateAfter}
 use Rattle.bounds.specs.Bounds.{othersAt, shareAlong}

@@ -1,3 +1,4 @@
+pub mod Answered
 pub mod Circle
 pub mod Ahead
 pub mod Path

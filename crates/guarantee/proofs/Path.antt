@@ -17,10 +17,10 @@ use Rattle.model.specs.declared.Tree.{Tree}
 use Rattle.model.specs.declared.State.{State}
 use Rattle.model.specs.declared.Port.the-variants.{Acc, Int}
 use Rattle.model.specs.Tree.{Crossing, portOf, parentOf, parentPortOf, homeOf, homePortOf, above, path, waitingOf}
-use Rattle.model.proofs.Sound.{Sound, Kept, above-root, above-step}
-use Rattle.model.proofs.Beneath.{On, here, there, Below, lane, on?, path-bounds, path-up, path-root, path-next, path-holds}
-use Rattle.machine.specs.Turns.{turnPort}
-use Rattle.machine.proofs.Choice.{Turned, Unturned}
+use Rattle.rules.proofs.Sound.{Sound, Kept, above-root, above-step}
+use Rattle.rules.proofs.Beneath.{On, here, there, Below, lane, on?, path-bounds, path-up, path-root, path-next, path-holds}
+use Rattle.turns.specs.Turns.{turnPort}
+use Rattle.turns.proofs.Descent.{Turned, Unturned}
 use Rattle.bounds.specs.Bounds.{othersAt, shareAlong, shareOf}
 use Rattle.guarantee.proofs.Ahead.{aheadOf, ahead-same, ahead-most, ahead-turn, layer, layer-most, layer-least, layer-own, layer-other}
 

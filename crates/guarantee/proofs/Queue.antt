@@ -17,7 +17,7 @@ use Rattle.model.specs.declared.Tree.{Tree}
 use Rattle.model.specs.declared.State.{State}
 use Rattle.model.specs.Fold.{pick}
 use Rattle.model.specs.Tree.{path, waitingOf}
-use Rattle.model.specs.Rules.{keeps}
+use Rattle.rules.specs.Rules.{keeps}
 use Rattle.model.proofs.Folds.{picked, passed}
 use Rattle.machine.specs.Machine.{Answer, admitted, served}
 use Rattle.machine.specs.Calls.{Call, offer, slot}

@@ -13,7 +13,7 @@ use Rattle.model.specs.declared.Tree.{Tree}
 use Rattle.model.specs.declared.State.{State}
 use Rattle.model.specs.Fold.{pick}
 use Rattle.model.specs.Tree.{waitingOf}
-use Rattle.model.specs.Rules.{keeps}
+use Rattle.rules.specs.Rules.{keeps}
 use Rattle.model.proofs.Folds.{picked}
 use Rattle.machine.specs.Machine.{admitted, served, idle, refused}
 use Rattle.machine.specs.Calls.{Call, offer, slot, step, stateAfter}

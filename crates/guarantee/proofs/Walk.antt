@@ -13,11 +13,11 @@ use lib.ListN.{getD}
 use Rattle.model.specs.declared.Tree.{Tree}
 use Rattle.model.specs.declared.State.{State}
 use Rattle.model.specs.Tree.{path, waitingOf, admittedOf}
-use Rattle.model.specs.Rules.{keeps}
-use Rattle.model.proofs.Beneath.{On, only, only-same, only-other}
+use Rattle.rules.specs.Rules.{keeps}
+use Rattle.rules.proofs.Beneath.{On, only, only-same, only-other}
 use Rattle.machine.specs.Machine.{Answer, Outcome, admitted, served, idle, refused, offered, slotted, chosen}
 use Rattle.machine.specs.Calls.{Call, offer, slot, step, stateAfter}
-use Rattle.machine.proofs.Choice.{Turned, Unturned}
+use Rattle.turns.proofs.Descent.{Turned, Unturned}
 use Rattle.machine.proofs.Cases.{Offered, offer-cases, Slotted, slot-cases}
 use Rattle.machine.proofs.Laws.{offer-keeps, offer-admits, offer-others, Served, Ticked, slot-keeps, slot-only-last, slot-serves, slot-on-path, slot-off-path, slot-idle-turns, slot-windows}
 use Rattle.guarantee.specs.Guarantee.{Event, eventsOf}

@@ -41,7 +41,7 @@ use Rattle.model.specs.declared.Tree.{Tree}
 use Rattle.model.specs.declared.State.{State}
 use Rattle.model.specs.Fold.{pick}
 use Rattle.model.specs.Tree.{windowOf, budgetOf, waitingOf, admittedOf}
-use Rattle.model.specs.Rules.{keeps}
+use Rattle.rules.specs.Rules.{keeps}
 use Rattle.machine.specs.Machine.{Answer, admitted, served, idle, refused}
 use Rattle.machine.specs.Calls.{Call, offer, slot, step, stateAfter}
 use Rattle.bounds.specs.Bounds.{shareOf}

@@ -25,7 +25,7 @@ use Rattle.model.specs.declared.Tree.{Tree}
 use Rattle.model.specs.declared.State.{State}
 use Rattle.model.specs.declared.Port.the-variants.{Empty, Acc, Int}
 use Rattle.model.specs.Tree.{budgetOf}
-use Rattle.model.specs.Rules.{keeps}
+use Rattle.rules.specs.Rules.{keeps}
 use Rattle.machine.specs.Machine.{served, refused, freshState}
 use Rattle.machine.specs.Calls.{Call, offer, slot, step, stateAfter}
 use Rattle.bounds.specs.Bounds.{shareOf}

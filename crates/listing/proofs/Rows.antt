@@ -9,17 +9,19 @@ use native.Mathlib.Omega.{arith}
 use Rattle.model.specs.declared.Tree.{Tree}
 use Rattle.model.specs.declared.Refusal.{Refusal}
 use Rattle.model.specs.Fold.{all}
-use Rattle.model.specs.Rules.{treeKeeps}
+use Rattle.rules.specs.Rules.{treeKeeps}
 use Rattle.model.proofs.Folds.{picked, passed}
-use Rattle.model.proofs.Sound.{sound}
+use Rattle.rules.proofs.Sound.{sound}
 use Rattle.bounds.specs.declared.BoundAnswer.{BoundAnswer}
 use Rattle.bounds.specs.declared.BoundAnswer.the-variants.{Refused, Bound}
 use Rattle.bounds.specs.declared.Figures.{Figures}
 use Rattle.bounds.specs.Bounds.{Row, given, rowOf, meaningOf, boundOf}
 use Rattle.bounds.proofs.Answers.{bound-given}
-use Rattle.listing.specs.Listing.{headLine, joined, rowText, allLine, refusalText, reportText}
-use Rattle.listing.specs.Put.{Put, rowMade}
-use Rattle.listing.proofs.Puts.{put-then, put-as, put-most}
+use Rattle.listing.specs.Listing.{headLine, rowText, allLine, refusalText, reportText}
+use Rattle.put.specs.Page.{joined}
+use Rattle.put.specs.Put.{Put}
+use Rattle.listing.specs.Listing.{rowMade}
+use Rattle.put.proofs.Puts.{put-then, put-as, put-most}
 
 given-same : (x y : Row) → given x ≡ given y → x ≡ y
 given-same x y e = cc

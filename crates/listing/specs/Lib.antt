@@ -1,3 +1,1 @@
-pub mod Decimal
 pub mod Listing
-pub mod Put

@@ -11,10 +11,10 @@ use Rattle.model.specs.declared.State.{State}
 use Rattle.model.specs.Fold.{pick}
 use Rattle.model.specs.Tree.{limitOf, budgetOf, waitingOf, admittedOf}
 use Rattle.model.specs.Beneath.{inside}
-use Rattle.model.specs.Rules.{treeKeeps, stateKeeps, keeps}
+use Rattle.rules.specs.Rules.{treeKeeps, stateKeeps, keeps}
 use Rattle.model.proofs.Folds.{both, joined, all-at, at-all}
-use Rattle.model.proofs.Sound.{Sound, sound, Kept, kept, keeping}
-use Rattle.model.proofs.Beneath.{root-zero}
+use Rattle.rules.proofs.Sound.{Sound, sound, Kept, kept, keeping}
+use Rattle.rules.proofs.Beneath.{root-zero}
 use Rattle.machine.specs.Machine.{admitted, served, idle, refused, Outcome, outcome, admit, offered, noneWaits, lastSlot, tick, chosen, serve, slotted}
 
 pub sound-of : (t : Tree) (s : State) → keeps t s ≡ true → Sound t

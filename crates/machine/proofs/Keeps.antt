@@ -13,11 +13,11 @@ use Rattle.model.specs.declared.State.{State}
 use Rattle.model.specs.Fold.{pick}
 use Rattle.model.specs.Tree.{granularityOf, limitOf, budgetOf, path, waitingOf, admittedOf, lastOf, allowanceOf, portOf}
 use Rattle.model.specs.Beneath.{weightUnder, waitsUnder}
-use Rattle.model.proofs.Sound.{Sound, Kept}
-use Rattle.model.proofs.Beneath.{On, on?, only, only-same, only-other, under-sum, weight-on, weight-off, path-bounds}
-use Rattle.machine.specs.Turns.{turnPort}
+use Rattle.rules.proofs.Sound.{Sound, Kept}
+use Rattle.rules.proofs.Beneath.{On, on?, only, only-same, only-other, under-sum, weight-on, weight-off, path-bounds}
+use Rattle.turns.specs.Turns.{turnPort}
 use Rattle.machine.specs.Machine.{freshState, admit, opens, tick, takeOne}
-use Rattle.machine.proofs.Choice.{Turned, Unturned, Choice}
+use Rattle.turns.proofs.Descent.{Turned, Unturned, Choice}
 
 -- a count stored at place a: what relates it to the count before, by one there and by nothing elsewhere
 stored : (Q : ℕ → ℕ → ℕ → Type 0) (l : List ℕ) (a x : ℕ) → a < length l → Q x (getD l a 0) 1 → ((y : ℕ) → Q y y 0)

@@ -13,13 +13,13 @@ use Rattle.model.specs.declared.State.{State}
 use Rattle.model.specs.Fold.{pick}
 use Rattle.model.specs.Tree.{granularityOf, limitOf, budgetOf, windowOf, path, waitingOf, admittedOf, lastOf, allowanceOf}
 use Rattle.model.specs.Beneath.{waitsUnder}
-use Rattle.model.specs.Rules.{treeKeeps, keeps}
+use Rattle.rules.specs.Rules.{treeKeeps, keeps}
 use Rattle.model.proofs.Folds.{joined, picked, passed}
-use Rattle.model.proofs.Sound.{Sound, sound, Kept, keeping}
-use Rattle.model.proofs.Beneath.{On, only, only-same, only-other, root-zero}
-use Rattle.machine.specs.Turns.{turnPort, after}
+use Rattle.rules.proofs.Sound.{Sound, sound, Kept, keeping}
+use Rattle.rules.proofs.Beneath.{On, only, only-same, only-other, root-zero}
+use Rattle.turns.specs.Turns.{turnPort, after}
 use Rattle.machine.specs.Machine.{Answer, admitted, served, idle, refused, Outcome, outcome, freshState, admit, offered, opens, lastSlot, tick, chosen, takeOne, slotted}
-use Rattle.machine.proofs.Choice.{Turned, Unturned, Choice, choice}
+use Rattle.turns.proofs.Descent.{Turned, Unturned, Choice, choice}
 use Rattle.machine.proofs.Cases.{sound-of, kept-of, keeps-of, Offered, refuses, admits, offer-cases, Stops, stopped, Slotted, stops, idles, serves, slot-cases}
 use Rattle.machine.proofs.Keeps.{zeros, fresh-kept, tick-kept, admit-waiting, admit-admitted, admit-kept, take-waiting, take-kept}
 use Rattle.machine.proofs.Windows.{window-opens}

@@ -1,4 +1,3 @@
-pub mod Turns
 pub mod Machine
 pub mod Calls
 pub mod Answers

@@ -30,8 +30,8 @@ use Rattle.model.specs.declared.Tree.{Tree}
 use Rattle.model.specs.declared.State.{State}
 use Rattle.model.specs.Fold.{pick, all}
 use Rattle.model.specs.Tree.{limitOf, budgetOf, windowOf, waitingOf, outstandingOf, admittedOf}
-use Rattle.model.specs.Rules.{treeKeeps, keeps}
-use Rattle.machine.specs.Turns.{who, after}
+use Rattle.rules.specs.Rules.{treeKeeps, keeps}
+use Rattle.turns.specs.Turns.{who, after}
 
 pub data Answer : Type 0 where
   admitted : Answer

@@ -1,8 +1,5 @@
 // The machine of document 01: the fresh state, the offer of one transaction, and one slot of service. Each call takes the
 // configuration and a state by value and returns its answer with the next state; a refusal returns the state it was handed.
-mod table;
-pub mod turns;
-
 use model::Port;
 use model::Refusal;
 use model::State;
@@ -10,8 +7,8 @@ use model::Tree;
 use model::access::accelerator_at;
 use model::access::admitted_of;
 use model::access::waiting_of;
-use model::rules::both_keep;
-use model::rules::tree_keeps;
+use rules::both_keep;
+use rules::tree_keeps;
 use turns::choose;
 use turns::less_one;
 ghost use mathlib.Core.Path.{_≡_};

@@ -11,8 +11,6 @@ use lib.ListN.{length}
 use borrow.Author.Tests.{eq-eqb, ne-eqb}
 use Rattle.model.proofs.Lists.{and-cong}
 use Rattle.model.specs.declared.Tree.{Tree}
-use Rattle.model.specs.declared.State.{State}
-use Rattle.model.specs.Rules.{sized}
 use Rattle.model.specs.Fold.{sum, all}
 use Rattle.model.specs.Tree.{portOf, parentOf, above}
 use Rattle.model.specs.Beneath.{under, inside}
@@ -88,8 +86,3 @@ all-turn p f a b e d = and-cong e d ∙ sym (all-more p f)
 
 pub all-end : (p n : ℕ) (f : ℕ → Bool) (a : Bool) → a ≡ all p f → p ≤ n → n ≤ p → a ≡ all n f
 all-end p n f a e h k = e ∙ ap (λ (m : ℕ). all m f) (le-antisymm h k)
-
--- every state that a program holds has arrays of their lengths
-pub sized-yes : (s : State) → length (s .waiting) ≡ 32 → length (s .admitted) ≡ 32 → length (s .last) ≡ 15 → length (s .allowance) ≡ 15 → sized s ≡ true
-unfolding sized
-sized-yes s w a l o = simp (eq-eqb _ _ w, eq-eqb _ _ a, eq-eqb _ _ l, eq-eqb _ _ o)

@@ -1,5 +1,4 @@
 pub mod Fold
 pub mod Tree
 pub mod Beneath
-pub mod Rules
 pub mod Answer

@@ -1,9 +1,8 @@
-// The configuration and the state of document 01, and the check of their rules.
+// The configuration and the state of document 01, and how they are read.
 //
 // Everything here goes by value. Each accessor answers zero, or an empty port, past the end of its array, so that each
 // check answers on any value whatever.
 pub mod access;
-pub mod rules;
 
 ghost use mathlib.Core.Path.{_≡_};
 ghost use Rattle.model.specs.Answer.{numberOf};

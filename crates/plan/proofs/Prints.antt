@@ -8,7 +8,7 @@ use mathlib.Core.List.{List}
 use mathlib.Core.Path.{_≡_, ap, sym, subst, _∙_}
 use Rattle.reader.specs.declared.FileAnswer.{FileAnswer}
 use Rattle.reader.specs.declared.TreeRead.{TreeRead}
-use Rattle.listing.specs.Listing.{Written}
+use Rattle.put.specs.Page.{Written}
 use Rattle.plan.specs.Plan.{printed, numberGiven, lineGiven, Printing}
 
 pub prints : (R Q : TreeRead) → R ≡ Q → (x : FileAnswer) → R .answer ≡ x → {d e : List ℕ} {n : ℕ} (k l : ℕ)

@@ -12,7 +12,8 @@ use Rattle.model.specs.Answer.{numberOf}
 use Rattle.reader.specs.declared.FileAnswer.{FileAnswer}
 use Rattle.reader.specs.declared.FileAnswer.the-variants.{Accepted, Refused, Broken}
 use Rattle.reader.specs.declared.TreeRead.{TreeRead}
-use Rattle.listing.specs.Listing.{reportText, refusalText, Written}
+use Rattle.put.specs.Page.{Written}
+use Rattle.listing.specs.Listing.{reportText, refusalText}
 
 abbrev pub printed : FileAnswer → Tree → List ℕ
 printed Accepted t = reportText t

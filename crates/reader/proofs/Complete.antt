@@ -14,9 +14,9 @@ use Rattle.text.specs.Write.{fieldsText, lineText, fileText}
 use Rattle.text.proofs.Written.{Clean, clean-none, clean-more, clean-append, AllClean, all-none, all-more, lines-read, number-length}
 use Rattle.model.specs.declared.Tree.{Tree}
 use Rattle.model.specs.Tree.{granularityOf, parentOf, parentPortOf, acceleratorOf, limitOf}
-use Rattle.model.specs.Rules.{busKeeps, treeKeeps}
+use Rattle.rules.specs.Rules.{busKeeps, treeKeeps}
 use Rattle.model.proofs.Folds.{picked, passed, tests, joined, at-all}
-use Rattle.model.proofs.Sound.{Sound, sound}
+use Rattle.rules.proofs.Sound.{Sound, sound}
 use Rattle.reader.specs.declared.TreeRead.{TreeRead}
 use Rattle.reader.specs.Lines.{lineOf}
 use Rattle.reader.specs.TreeFile.{emptyTree, given, withBus, withAcc, complete, finish, treeLine, onward, readLines, readTree}

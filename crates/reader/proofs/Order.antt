@@ -22,7 +22,7 @@ use Rattle.model.specs.declared.Refusal.{Refusal}
 use Rattle.model.specs.declared.Refusal.the-variants.{Shape, Limit, Order, Taken}
 use Rattle.model.specs.Fold.{pick}
 use Rattle.model.specs.Tree.{noInterconnect, acceleratorOf, portOf, limitOf}
-use Rattle.model.specs.Rules.{isEmpty}
+use Rattle.rules.specs.Rules.{isEmpty}
 use Rattle.model.proofs.Folds.{picked, passed}
 use Rattle.reader.specs.declared.FileAnswer.{FileAnswer}
 use Rattle.reader.specs.declared.FileAnswer.the-variants.{Accepted, Refused, Broken}

@@ -16,9 +16,9 @@ use Rattle.model.specs.declared.Tree.{Tree}
 use Rattle.model.specs.declared.Refusal.{Refusal}
 use Rattle.model.specs.declared.Refusal.the-variants.{Shape, Limit}
 use Rattle.model.specs.Fold.{pick}
-use Rattle.model.specs.Rules.{treeKeeps}
+use Rattle.rules.specs.Rules.{treeKeeps}
 use Rattle.model.proofs.Folds.{picked, passed, joined}
-use Rattle.model.proofs.Sound.{sound}
+use Rattle.rules.proofs.Sound.{sound}
 use Rattle.reader.specs.declared.Kind.the-variants.{OfferLine}
 use Rattle.reader.specs.declared.Line.{Line}
 use Rattle.reader.specs.declared.Request.{Request}

@@ -18,9 +18,9 @@ use Rattle.model.specs.declared.Port.{Port}
 use Rattle.model.specs.declared.Port.the-variants.{Empty, Acc, Int}
 use Rattle.model.specs.Fold.{pick, all, within}
 use Rattle.model.specs.Tree.{emptyCell, noInterconnect, noAccelerator, interconnectOf, acceleratorOf, portOf, granularityOf, parentOf, parentPortOf, homeOf, homePortOf, limitOf, budgetOf, levelOf}
-use Rattle.model.specs.Rules.{isEmpty, busKeeps, interconnectKeeps, usedInterconnect, rootPlaced, unusedInterconnect, usedAccelerator, unusedAccelerator, acceleratorKeeps, treeKeeps}
+use Rattle.rules.specs.Rules.{isEmpty, busKeeps, interconnectKeeps, usedInterconnect, rootPlaced, unusedInterconnect, usedAccelerator, unusedAccelerator, acceleratorKeeps, treeKeeps}
 use Rattle.model.proofs.Folds.{picked, passed, tests, joined}
-use Rattle.model.proofs.Sound.{Sound, sound, level-step}
+use Rattle.rules.proofs.Sound.{Sound, sound, level-step}
 use Rattle.reader.specs.declared.Kind.the-variants.{BusLine, IntLine, AccLine}
 use Rattle.reader.specs.Lines.{limitsKept, shaped}
 use Rattle.reader.specs.TreeFile.{emptyTree, given, withBus, busLine, withRoot, withChild, withAcc, intInOrder, treeLine}

@@ -12,7 +12,7 @@ use Rattle.model.specs.declared.Accelerator.{Accelerator}
 use Rattle.model.specs.declared.Port.the-variants.{Acc}
 use Rattle.model.specs.declared.Refusal.the-variants.{Shape, Limit, Order, Taken, Level}
 use Rattle.model.specs.Tree.{portOf, limitOf, levelOf}
-use Rattle.model.specs.Rules.{isEmpty}
+use Rattle.rules.specs.Rules.{isEmpty}
 use Rattle.model.proofs.Folds.{picked, passed, all-at, both}
 use Rattle.reader.specs.declared.Kind.{Kind}
 use Rattle.reader.specs.declared.Line.{Line}

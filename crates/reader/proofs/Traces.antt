@@ -13,7 +13,7 @@ use Rattle.model.specs.declared.Tree.{Tree}
 use Rattle.model.specs.declared.Refusal.{Refusal}
 use Rattle.model.specs.declared.Refusal.the-variants.{Shape, Limit, Falling, Unknown}
 use Rattle.model.specs.Fold.{pick}
-use Rattle.model.specs.Rules.{treeKeeps}
+use Rattle.rules.specs.Rules.{treeKeeps}
 use Rattle.model.proofs.Folds.{picked, passed, both}
 use Rattle.reader.specs.declared.Kind.the-variants.{OfferLine}
 use Rattle.reader.specs.declared.Line.{Line}

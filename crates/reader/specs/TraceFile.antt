@@ -26,7 +26,7 @@ use lib.Dec.{leb, ltb, eqb}
 use Rattle.model.specs.declared.Tree.{Tree}
 use Rattle.model.specs.declared.Refusal.the-variants.{Shape, Limit, Falling, Unknown}
 use Rattle.model.specs.Fold.{pick, within}
-use Rattle.model.specs.Rules.{treeKeeps}
+use Rattle.rules.specs.Rules.{treeKeeps}
 use Rattle.text.specs.Text.{partLength, lines, unended}
 use Rattle.reader.specs.declared.Kind.the-variants.{OfferLine}
 use Rattle.reader.specs.declared.Line.{Line}

@@ -11,7 +11,7 @@ use crate::lines::read_line;
 use crate::lines::shape_kept;
 use model::Refusal;
 use model::Tree;
-use model::rules::tree_keeps;
+use rules::tree_keeps;
 use text::part_end;
 ghost use mathlib.Core.Path.{_≡_};
 ghost use mathlib.Core.Bool.{true};

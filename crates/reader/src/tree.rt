@@ -23,7 +23,7 @@ ghost use mathlib.Core.Bool.{true};
 ghost use Prim.Native.Nat.{_<_, max};
 ghost use lib.Dec.{ltb};
 ghost use Rattle.model.specs.Fold.{all};
-ghost use Rattle.model.specs.Rules.{isEmpty};
+ghost use Rattle.rules.specs.Rules.{isEmpty};
 ghost use Rattle.model.specs.Tree.{portOf, limitOf};
 ghost use Rattle.reader.specs.Lines.{limitsKept, inTree};
 ghost use Rattle.reader.specs.TreeFile.{emptyTree, refusedAt, given, busOf, busLine, intInOrder, rootRule, withPort, withInterconnect, childLine, intLine, accOf, withAcc, accLine, complete, finish, treeLine, readTree};

@@ -13,7 +13,7 @@ fn main() {
     let bytes = done.bytes;
     io::write_all(STDOUT_FILENO, &out[..bytes]);
     if done.number != 0 {
-        let m = listing::reason_text(done.number, done.line, &mut out);
+        let m = journal::reason_text(done.number, done.line, &mut out);
         io::write_all(STDERR_FILENO, &out[..m]);
     }
 }

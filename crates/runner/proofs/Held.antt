@@ -12,7 +12,7 @@ use lib.ListN.{length}
 use lib.Seq.{getD-set-same, getD-set-other, set-out}
 use Rattle.model.specs.declared.Tree.{Tree}
 use Rattle.model.specs.declared.State.{State}
-use Rattle.model.specs.Rules.{keeps}
+use Rattle.rules.specs.Rules.{keeps}
 use Rattle.machine.specs.Machine.{Answer, admitted, served, idle, refused, Outcome, outcome, offeredWithin, offered}
 use Rattle.machine.proofs.Steps.{offer-passed}
 use Rattle.machine.proofs.Laws.{offer-keeps}

@@ -12,7 +12,7 @@ use lib.ListN.{length, length-set}
 use borrow.Author.Tests.{lt-ltb, le-ltb, le-leb, lt-leb}
 use Rattle.model.specs.declared.Tree.{Tree}
 use Rattle.model.specs.Fold.{pick}
-use Rattle.model.specs.Rules.{treeKeeps, keeps}
+use Rattle.rules.specs.Rules.{treeKeeps, keeps}
 use Rattle.model.proofs.Folds.{picked, passed}
 use Rattle.reader.specs.declared.Request.{Request}
 use Rattle.machine.specs.Machine.{refused, offered, lastSlot, slotted}

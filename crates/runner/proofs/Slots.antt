@@ -11,7 +11,7 @@ use lib.Seq.{length-take-le, take-suc-set, drop-set-lt, drop-drop}
 use Rattle.model.specs.declared.Tree.{Tree}
 use Rattle.model.specs.declared.State.{State}
 use Rattle.model.specs.Fold.{pick}
-use Rattle.model.specs.Rules.{treeKeeps, keeps}
+use Rattle.rules.specs.Rules.{treeKeeps, keeps}
 use Rattle.model.proofs.Folds.{picked, passed}
 use Rattle.reader.specs.declared.Request.{Request}
 use Rattle.machine.specs.Machine.{Answer, Outcome, outcome, freshState, slottedWithin, slotted}

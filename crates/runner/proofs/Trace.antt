@@ -11,7 +11,7 @@ use lib.Seq.{getD-set-same, getD-set-other}
 use borrow.Author.Tests.{le-leb, lt-leb, eq-eqb, ne-eqb}
 use Rattle.model.specs.declared.Tree.{Tree}
 use Rattle.model.proofs.Folds.{picked, passed}
-use Rattle.model.proofs.Sound.{sound}
+use Rattle.rules.proofs.Sound.{sound}
 use Rattle.reader.specs.declared.Request.{Request}
 use Rattle.reader.specs.declared.NextRequest.the-variants.{Done, Due}
 use Rattle.reader.specs.declared.FileAnswer.the-variants.{Accepted}

@@ -13,7 +13,7 @@ use mathlib.Core.List.{List}
 use mathlib.Core.Path.{_≡_}
 use lib.ListN.{length, drop}
 use Rattle.model.specs.declared.Tree.{Tree}
-use Rattle.model.specs.Rules.{keeps}
+use Rattle.rules.specs.Rules.{keeps}
 use Rattle.text.specs.Text.{lines, unended}
 use Rattle.reader.specs.declared.Request.{Request}
 use Rattle.reader.specs.declared.FileAnswer.the-variants.{Accepted}

@@ -16,7 +16,7 @@ ghost use mathlib.Core.Path.{_≡_};
 ghost use mathlib.Core.Bool.{true};
 ghost use Prim.Native.Nat.{_≤_};
 ghost use lib.ListN.{length};
-ghost use Rattle.model.specs.Rules.{treeKeeps};
+ghost use Rattle.rules.specs.Rules.{treeKeeps};
 ghost use Rattle.machine.specs.Machine.{freshState};
 ghost use Rattle.runner.specs.Run.{runFor, endOf, over, ranOf, bufferAfter};
 ghost use Rattle.runner.specs.Answers.{runMeans};

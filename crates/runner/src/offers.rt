@@ -6,7 +6,7 @@ use model::Tree;
 ghost use mathlib.Core.Path.{_≡_};
 ghost use mathlib.Core.Bool.{true};
 ghost use Prim.Native.Nat.{_<_};
-ghost use Rattle.model.specs.Rules.{keeps};
+ghost use Rattle.rules.specs.Rules.{keeps};
 ghost use Rattle.runner.specs.Offers.{offerAll, offerEach};
 
 // Accelerator a offers its held transactions until one is refused, which stays held, or none is left.

@@ -13,9 +13,9 @@ use borrow.Author.Tests.{not-false, ltb-false}
 use Rattle.model.specs.declared.Tree.{Tree}
 use Rattle.model.specs.declared.State.{State}
 use Rattle.model.specs.Fold.{pick}
-use Rattle.model.specs.Rules.{treeKeeps}
+use Rattle.rules.specs.Rules.{treeKeeps}
 use Rattle.model.proofs.Folds.{passed}
-use Rattle.model.proofs.Sound.{sound}
+use Rattle.rules.proofs.Sound.{sound}
 use Rattle.text.specs.Text.{lines}
 use Rattle.reader.specs.declared.Request.{Request}
 use Rattle.reader.specs.declared.FileAnswer.{FileAnswer}

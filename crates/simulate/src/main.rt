@@ -87,7 +87,7 @@ fn refuse(i: usize, number: u8, line: u32) {
     let k = os::arg(i, &mut name);
     io::write_all(STDERR_FILENO, &name[..k]);
     io::write_all(STDERR_FILENO, b": ");
-    let m = listing::reason_text(number, line, &mut page);
+    let m = journal::reason_text(number, line, &mut page);
     write_page(STDERR_FILENO, &page, m);
 }
 
@@ -97,7 +97,7 @@ fn show_page(served: &[u8], first: usize) -> usize
     ensures { λ r. ⌜ (first < r) × (r ≤ length (now (served .entry))) ⌝ }
 {
     let mut page = [0u8; 65536];
-    let f = listing::slots_text(served, first, &mut page);
+    let f = journal::slots_text(served, first, &mut page);
     write_page(STDOUT_FILENO, &page, f.bytes);
     first + f.slots
 }
@@ -109,7 +109,7 @@ fn show(served: &[u8], done: bool) {
         first = show_page(served, first);
     }
     let mut page = [0u8; 65536];
-    let n = listing::end_text(done, slots_of(served.len()), &mut page);
+    let n = journal::end_text(done, slots_of(served.len()), &mut page);
     write_page(STDOUT_FILENO, &page, n);
 }
 

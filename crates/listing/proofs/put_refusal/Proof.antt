@@ -1,7 +1,7 @@
 -- `put_refusal` meets its contract: the parts of the line are stored one after the other.
 use borrow.Author.Needs.{needs}
 use Rattle.listing.specs.Listing.{refusalText}
-use Rattle.listing.proofs.Puts.{put-then}
+use Rattle.put.proofs.Puts.{put-then}
 use Rattle.listing.proofs.put_refusal.Statement.{statement}
 use Rattle.listing.proofs.put_refusal.Tie as tie
 

@@ -7,12 +7,13 @@ use lib.ListN.{length}
 use borrow.Author.Needs.{needs}
 use Rattle.model.specs.Fold.{all}
 use Rattle.model.proofs.Sums.{all-none, all-turn}
-use Rattle.model.proofs.Sound.{sound}
+use Rattle.rules.proofs.Sound.{sound}
 use Rattle.bounds.specs.Bounds.{Row, rowOf}
-use Rattle.listing.specs.Listing.{joined, rowText}
-use Rattle.listing.specs.Put.{Put}
-use Rattle.listing.proofs.Puts.{put-none, put-as}
-use Rattle.listing.proofs.Lines.{lines-none, lines-turn}
+use Rattle.put.specs.Page.{joined}
+use Rattle.listing.specs.Listing.{rowText}
+use Rattle.put.specs.Put.{Put}
+use Rattle.put.proofs.Puts.{put-none, put-as}
+use Rattle.put.proofs.Lines.{lines-none, lines-turn}
 use Rattle.listing.proofs.Rows.{row-made, never-refused, report-end}
 use Rattle.listing.proofs.put_report.Statement.{statement}
 use Rattle.listing.proofs.put_report.Tie as tie
@@ -36,10 +37,6 @@ returns : tie.Need-returns Inv-loop μ-loop
 returns c =
     absurd (never-refused _ _ _ (c .before .before .before .before .before .before .before .before .before .before .before .pre) (c .before .before .before .if1 .taken) (c .before .before .bound .ensures) _ (c .enum-told .given .1))
 
-put-row-requires : tie.Need-put-row-requires Inv-loop μ-loop
-put-row-requires c κs =
-    omega (arith, c .before .before .before .before .before .before .before .before .before .before .put-head .ensures, c .before .before .before .before .before .before .before .loop .inv .0, sound _ (c .before .before .before .before .before .before .before .before .before .before .before .before .before .pre) .most-accs, c .before .before .before .before .before .if1 .taken)
-
 add-a : tie.Need-add-a Inv-loop μ-loop
 add-a c =
     omega (arith, sound _ (c .before .before .before .before .before .before .before .before .before .before .before .before .before .before .before .before .before .pre) .most-accs, c .before .before .before .before .before .before .before .before .before .if1 .taken)
@@ -59,10 +56,6 @@ loop-again c =
       c .before .before .before .put-row .kept .0 ∙ l .inv .3,
     )
 
-put-all-requires : tie.Need-put-all-requires Inv-loop μ-loop
-put-all-requires c κs =
-    omega (arith, c .before .before .before .before .before .before .put-head .ensures, c .before .before .before .loop .inv .0, c .before .before .before .loop .inv .1, sound _ (c .before .before .before .before .before .before .before .before .before .pre) .most-accs)
-
 same-length-2 : tie.Need-same-length-2 Inv-loop μ-loop
 same-length-2 c =
     c .before .before .put-all .kept .0 ∙ c .before .before .before .before .before .before .loop .inv .3 ∙ c .before .before .before .before .before .before .before .before .before .put-head .kept .0
@@ -73,4 +66,4 @@ returns-2 c =
     report-end _ _ _ (c .before .before .before .before .before .before .before .before .before .before .before .before .pre) (l .inv .1) (c .before .before .before .before .if1 .left) (l .inv .2) (c .before .before .before .before .before .before .before .before .before .put-head .ensures) (l .inv .0) (c .before .before .put-all .ensures)
 
 pub put-report-spec : {M : Type 1} → statement M
-put-report-spec = tie.close (tie.spec Inv-loop μ-loop (λ c κs. search needs) loop-holds (λ c κs. search needs) (λ c. search needs) (λ c. search needs) same-length returns put-row-requires add-a loop-less loop-again put-all-requires same-length-2 returns-2)
+put-report-spec = tie.close (tie.spec Inv-loop μ-loop (λ c κs. search needs) loop-holds (λ c κs. search needs) (λ c. search needs) (λ c. search needs) same-length returns (λ c κs. search needs) add-a loop-less loop-again (λ c κs. search needs) same-length-2 returns-2)

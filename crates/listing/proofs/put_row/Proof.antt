@@ -1,49 +1,10 @@
 -- `put_row` meets its contract: the fields of the line are stored one after the other.
 use mathlib.Core.Path.{_∙_}
-use native.Mathlib.Omega.{arith}
 use borrow.Author.Needs.{needs}
 use Rattle.listing.specs.Listing.{rowText}
-use Rattle.listing.proofs.Puts.{put-then}
+use Rattle.put.proofs.Puts.{put-then}
 use Rattle.listing.proofs.put_row.Statement.{statement}
 use Rattle.listing.proofs.put_row.Tie as tie
-
-put-field-requires-5 : tie.Need-put-field-requires-5
-put-field-requires-5 c κs =
-    let f4 = c .before .before .before in
-    let f3 = f4 .before .before .before .before in
-    let f2 = f3 .before .before .before .before in
-    let f1 = f2 .before .before .before .before .before in
-    omega (arith, f4 .put-field4 .ensures, f3 .put-field3 .ensures, f2 .put-field2 .ensures, f1 .put-field .ensures, f1 .before .before .before .before .before .before .before .pre)
-
-put-field-requires-6 : tie.Need-put-field-requires-6
-put-field-requires-6 c κs =
-    let f5 = c .before .before .before in
-    let f4 = f5 .before .before .before .before in
-    let f3 = f4 .before .before .before .before in
-    let f2 = f3 .before .before .before .before in
-    let f1 = f2 .before .before .before .before .before in
-    omega (arith, f5 .put-field5 .ensures, f4 .put-field4 .ensures, f3 .put-field3 .ensures, f2 .put-field2 .ensures, f1 .put-field .ensures, f1 .before .before .before .before .before .before .before .pre)
-
-put-field-requires-7 : tie.Need-put-field-requires-7
-put-field-requires-7 c κs =
-    let f6 = c .before .before .before in
-    let f5 = f6 .before .before .before .before in
-    let f4 = f5 .before .before .before .before in
-    let f3 = f4 .before .before .before .before in
-    let f2 = f3 .before .before .before .before in
-    let f1 = f2 .before .before .before .before .before in
-    omega (arith, f6 .put-field6 .ensures, f5 .put-field5 .ensures, f4 .put-field4 .ensures, f3 .put-field3 .ensures, f2 .put-field2 .ensures, f1 .put-field .ensures, f1 .before .before .before .before .before .before .before .pre)
-
-put-verdict-requires : tie.Need-put-verdict-requires
-put-verdict-requires c κs =
-    let f7 = c .before .before .before in
-    let f6 = f7 .before .before .before .before in
-    let f5 = f6 .before .before .before .before in
-    let f4 = f5 .before .before .before .before in
-    let f3 = f4 .before .before .before .before in
-    let f2 = f3 .before .before .before .before in
-    let f1 = f2 .before .before .before .before .before in
-    omega (arith, f7 .put-field7 .ensures, f6 .put-field6 .ensures, f5 .put-field5 .ensures, f4 .put-field4 .ensures, f3 .put-field3 .ensures, f2 .put-field2 .ensures, f1 .put-field .ensures, f1 .before .before .before .before .before .before .before .pre)
 
 same-length : tie.Need-same-length
 same-length c =
@@ -76,4 +37,4 @@ returns c =
     put-then (put-then (put-then (put-then (put-then (put-then (put-then (f1 .put-field .ensures) (f2 .put-field2 .ensures)) (f3 .put-field3 .ensures)) (f4 .put-field4 .ensures)) (f5 .put-field5 .ensures)) (f6 .put-field6 .ensures)) (f7 .put-field7 .ensures)) (c .before .before .put-verdict .ensures)
 
 pub put-row-spec : {M : Type 1} → statement M
-put-row-spec = tie.close (tie.spec (λ c κs. search needs) (λ c. search needs) (λ c κs. search needs) (λ c κs. search needs) (λ c κs. search needs) put-field-requires-5 put-field-requires-6 put-field-requires-7 put-verdict-requires same-length returns)
+put-row-spec = tie.close (tie.spec (λ c κs. search needs) (λ c. search needs) (λ c κs. search needs) (λ c κs. search needs) (λ c κs. search needs) (λ c κs. search needs) (λ c κs. search needs) (λ c κs. search needs) (λ c κs. search needs) same-length returns)

@@ -2,9 +2,9 @@
 use mathlib.Core.Path.{ap, sym}
 use native.Mathlib.Omega.{arith}
 use borrow.Author.Needs.{needs}
-use Rattle.listing.specs.Listing.{ended}
+use Rattle.put.specs.Page.{ended}
 use Rattle.model.proofs.Folds.{picked, passed}
-use Rattle.listing.proofs.Puts.{put-most, put-as}
+use Rattle.put.proofs.Puts.{put-most, put-as}
 use Rattle.listing.proofs.put_verdict.Statement.{statement}
 use Rattle.listing.proofs.put_verdict.Tie as tie
 

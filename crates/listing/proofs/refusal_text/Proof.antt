@@ -1,7 +1,7 @@
 -- `refusal_text` meets its contract: the text is stored from the start on, and the page has room for it.
 use native.Mathlib.Omega.{arith}
 use borrow.Author.Needs.{needs}
-use Rattle.listing.proofs.Puts.{put-laid}
+use Rattle.put.proofs.Puts.{put-laid}
 use Rattle.listing.proofs.refusal_text.Statement.{statement}
 use Rattle.listing.proofs.refusal_text.Tie as tie
 

@@ -2,7 +2,7 @@
 use mathlib.Core.Path.{sym, _∙_}
 use native.Mathlib.Omega.{arith}
 use borrow.Author.Needs.{needs}
-use Rattle.listing.proofs.Puts.{put-as, put-laid}
+use Rattle.put.proofs.Puts.{put-as, put-laid}
 use Rattle.listing.proofs.Rows.{report-broken}
 use Rattle.listing.proofs.report_text.Statement.{statement}
 use Rattle.listing.proofs.report_text.Tie as tie

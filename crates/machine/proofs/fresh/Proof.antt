@@ -2,7 +2,7 @@
 use mathlib.Core.Path.{ap, sym, _∙_}
 use borrow.Author.Tests.{not-true, not-false}
 use borrow.Author.Needs.{needs}
-use Rattle.model.proofs.Sound.{sound}
+use Rattle.rules.proofs.Sound.{sound}
 use Rattle.machine.specs.Machine.{beginning, started, notStarted}
 use Rattle.machine.proofs.Steps.{fresh-11, fresh-started}
 use Rattle.machine.proofs.fresh.Statement.{statement}

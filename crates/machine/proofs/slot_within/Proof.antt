@@ -5,7 +5,8 @@ use native.Mathlib.Omega.{arith}
 use borrow.Author.Needs.{needs}
 use Rattle.model.specs.declared.State.{State}
 use Rattle.machine.specs.Machine.{outcome, served, idle, tick, takeOne}
-use Rattle.machine.proofs.Steps.{slot-10, slot-idle, slot-serves, choice-slot}
+use Rattle.turns.proofs.Steps.{choice-slot}
+use Rattle.machine.proofs.Steps.{slot-10, slot-idle, slot-serves}
 use Rattle.machine.proofs.slot_within.Statement.{statement}
 use Rattle.machine.proofs.slot_within.Tie as tie
 

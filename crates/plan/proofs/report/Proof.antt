@@ -3,7 +3,8 @@ use mathlib.Core.Path.{refl, subst}
 use Prim.Native.Nat.{ℕ}
 use borrow.Author.Needs.{needs}
 use denote.Ref.{now}
-use Rattle.listing.specs.Listing.{refusalText, Written}
+use Rattle.put.specs.Page.{Written}
+use Rattle.listing.specs.Listing.{refusalText}
 use Rattle.plan.proofs.Prints.{prints}
 use Rattle.plan.proofs.report.Statement.{statement}
 use Rattle.plan.proofs.report.Tie as tie

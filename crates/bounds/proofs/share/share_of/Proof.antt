@@ -8,7 +8,7 @@ use borrow.Author.Needs.{needs}
 use native.Mathlib.Nat.{mul-le-mul}
 use Rattle.model.specs.declared.Accelerator.{Accelerator}
 use Rattle.model.specs.Tree.{homeOf, above}
-use Rattle.model.proofs.Sound.{sound}
+use Rattle.rules.proofs.Sound.{sound}
 use Rattle.bounds.specs.Bounds.{othersAt, shareAlong}
 use Rattle.bounds.proofs.Shares.{above-enough}
 use Rattle.bounds.proofs.share.share_of.Statement.{statement}

@@ -7,7 +7,7 @@ use lib.ListN.{length}
 use borrow.Author.Needs.{needs}
 use Rattle.reader.specs.declared.OfferRead.{OfferRead}
 use Rattle.reader.specs.TraceFile.{noTotals, offerLine, afterOffer, added}
-use Rattle.model.proofs.Sound.{sound}
+use Rattle.rules.proofs.Sound.{sound}
 use Rattle.reader.proofs.Traces.{traceFrom, trace-broken, trace-size, trace-start, trace-end, trace-unended, trace-line, offer-says}
 use Rattle.text.proofs.Parts.{part-fits}
 use Rattle.reader.proofs.trace.read_trace.Statement.{statement}

@@ -1,7 +1,7 @@
 -- `is_free` meets its contract: in each arm the port is the one that the arm names.
 use mathlib.Core.Path.{ap, sym, _∙_}
 use borrow.Author.Needs.{needs}
-use Rattle.model.specs.Rules.{isEmpty}
+use Rattle.rules.specs.Rules.{isEmpty}
 use Rattle.reader.proofs.tree.is_free.Statement.{statement}
 use Rattle.reader.proofs.tree.is_free.Tie as tie
 

@@ -4,7 +4,7 @@ use mathlib.Core.Bool.{true}
 use Prim.Native.Nat.{ℕ, _≤_, _-_}
 use native.Mathlib.Omega.{arith}
 use borrow.Author.Needs.{needs}
-use Rattle.model.specs.Rules.{keeps}
+use Rattle.rules.specs.Rules.{keeps}
 use Rattle.machine.proofs.Cases.{sound-of}
 use Rattle.runner.specs.declared.Offering.{Offering}
 use Rattle.runner.specs.Offers.{offerEach}

@@ -5,7 +5,7 @@ use Prim.Native.Nat.{_<_, _-_}
 use native.Mathlib.Omega.{arith}
 use lib.ListN.{length, length-set}
 use borrow.Author.Needs.{needs}
-use Rattle.model.specs.Rules.{keeps}
+use Rattle.rules.specs.Rules.{keeps}
 use Rattle.machine.specs.Answers.{offerMeans}
 use Rattle.runner.specs.Offers.{heldOf, offering, offerHeld}
 use Rattle.runner.proofs.Held.{release-own, held-stop, offer-kept, held-turn, held-none}

@@ -1,0 +1,30 @@
+-- `records_keep` meets its contract: the loop has tested each number below the next one.
+use mathlib.Core.Path.{_≡_, sym}
+use Prim.Native.Nat.{_≤_, _-_}
+use native.Mathlib.Omega.{arith}
+use borrow.Author.Needs.{needs}
+use Rattle.model.specs.Fold.{all}
+use Rattle.rules.specs.Rules.{recordKeeps}
+use Rattle.model.proofs.Sums.{all-none, all-turn, all-end}
+use Rattle.rules.proofs.records_keep.Statement.{statement}
+use Rattle.rules.proofs.records_keep.Tie as tie
+
+abbrev Inv-loop : tie.InvT-loop
+Inv-loop t s ok₀ a₀ ok a = (a ≤ 32) × (ok ≡ all a (recordKeeps t s))
+
+abbrev μ-loop : tie.MeasureT-loop
+μ-loop t s ok₀ a₀ ok a = 32 - a
+
+loop-holds : tie.Need-loop-holds Inv-loop μ-loop
+loop-holds c = (search needs, sym (all-none _))
+
+loop-again : tie.Need-loop-again Inv-loop μ-loop
+loop-again c =
+    (omega arith, all-turn _ (recordKeeps (c .before .before .before .args .t) (c .before .before .before .args .s)) _ _ (c .before .before .loop .inv .1) (c .record-keeps .ensures))
+
+returns : tie.Need-returns Inv-loop μ-loop
+returns c =
+    all-end _ 32 (recordKeeps (c .before .before .args .t) (c .before .before .args .s)) _ (c .before .loop .inv .1) (c .before .loop .inv .0) (c .loop-test .left)
+
+pub records-keep-spec : {M : Type 1} → statement M
+records-keep-spec = tie.close (tie.spec Inv-loop μ-loop loop-holds (λ c κs. search needs) (λ c. search needs) (λ c. search needs) loop-again returns)
