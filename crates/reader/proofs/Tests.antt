@@ -1,41 +1,23 @@
--- What passed tests say of a line, and the answer of each chain of tests at each return, over any values: the same order of
--- tests in code and definition.
+-- The answer of each chain of tests at each return, over any values: the same order of tests in code and definition.
 use Prim.Native.Nat.{ℕ, max, _+_, _≤_, _<_}
 use mathlib.Core.Bool.{Bool, true, false, _&&_, not}
 use mathlib.Core.List.{List}
 use mathlib.Core.Path.{_≡_, _∙_, ap, ap₂}
-use lib.Dec.{ltb, leb, eqb}
+use lib.Dec.{ltb, eqb}
 use lib.ListN.{getD, set}
-use borrow.Author.Tests.{lt-ltb, le-ltb, le-leb, lt-leb, leb-true, eq-eqb, ne-eqb, eqb-true}
+use borrow.Author.Tests.{lt-ltb, le-ltb, le-leb, lt-leb, eq-eqb, ne-eqb, eqb-true}
 use Rattle.model.specs.declared.Tree.{Tree}
 use Rattle.model.specs.declared.Accelerator.{Accelerator}
 use Rattle.model.specs.declared.Port.the-variants.{Acc}
 use Rattle.model.specs.declared.Refusal.the-variants.{Shape, Limit, Order, Taken, Level}
 use Rattle.model.specs.Tree.{portOf, limitOf, levelOf}
 use Rattle.model.specs.Rules.{isEmpty}
-use Rattle.model.proofs.Folds.{picked, passed, all-at, both}
-use Rattle.reader.specs.declared.Kind.{Kind}
-use Rattle.reader.specs.declared.Line.{Line}
-use Rattle.reader.specs.Lines.{formOf, limitKept, limitsKept, valueAt, shaped, inTree}
+use Rattle.model.proofs.Folds.{picked, passed, both}
+use Rattle.lines.specs.declared.Kind.{Kind}
+use Rattle.lines.specs.declared.Line.{Line}
+use Rattle.lines.specs.Lines.{limitsKept, valueAt, shaped, inTree}
+use Rattle.lines.proofs.Limits.{yes-not, no-not}
 use Rattle.reader.specs.TreeFile.{refusedAt, given, intInOrder, rootRule, withRoot, withPort, accOf, withChild, childLine, intLine, withAcc, accLine, recordLine, treeLine}
-
--- each field is in its limits
-module _ (k : Kind) (v : List ℕ) (e : limitsKept k v ≡ true) (i : ℕ) (h : i < formOf k .count) where
-  in-limits : (leb (getD (formOf k .lows) i 0) (getD v i 0) ≡ true) × (leb (getD v i 0) (getD (formOf k .highs) i 0) ≡ true)
-  in-limits = both _ _ (all-at (formOf k .count) (limitKept (formOf k) v) e i h)
-
-  pub least : getD (formOf k .lows) i 0 ≤ getD v i 0
-  least = leb-true _ _ (in-limits .0)
-
-  pub most : getD v i 0 ≤ getD (formOf k .highs) i 0
-  most = leb-true _ _ (in-limits .1)
-
--- the test of what is not so
-pub yes-not : (b : Bool) → b ≡ false → not b ≡ true
-yes-not b e = ap not e
-
-pub no-not : (b : Bool) → b ≡ true → not b ≡ false
-no-not b e = ap not e
 
 module _ (n : ℕ) (t : Tree) (v : List ℕ) where
   pub child-taken : isEmpty (portOf t (getD v 1 0) (getD v 2 0)) ≡ false → childLine n t v ≡ refusedAt Taken n

@@ -45,13 +45,13 @@ use Rattle.model.specs.Fold.{pick, all}
 use Rattle.model.specs.Tree.{emptyCell, noInterconnect, noAccelerator, interconnectOf, portOf, limitOf, levelOf}
 use Rattle.model.specs.Rules.{isEmpty}
 use Rattle.text.specs.Text.{lines, unended}
-use Rattle.reader.specs.declared.Kind.{Kind}
-use Rattle.reader.specs.declared.Kind.the-variants.{NoRecord, BusLine, IntLine, AccLine, OfferLine}
-use Rattle.reader.specs.declared.Line.{Line}
+use Rattle.lines.specs.declared.Kind.{Kind}
+use Rattle.lines.specs.declared.Kind.the-variants.{NoRecord, BusLine, IntLine, AccLine, OfferLine}
+use Rattle.lines.specs.declared.Line.{Line}
 use Rattle.reader.specs.declared.FileAnswer.{FileAnswer}
 use Rattle.reader.specs.declared.FileAnswer.the-variants.{Accepted, Refused, Broken}
 use Rattle.reader.specs.declared.TreeRead.{TreeRead}
-use Rattle.reader.specs.Lines.{lineOf, valueAt, dashAt, shaped, limitsKept, inTree}
+use Rattle.lines.specs.Lines.{lineOf, valueAt, dashAt, shaped, limitsKept, inTree}
 
 abbrev pub noBus : Bus
 noBus = record { window = 0; ta = 0; da = 0; dd = 0; db = 0; pr = 0; pw = 0; td = 0; tb = 0; burst = 0 }

@@ -1,12 +1,12 @@
 // The reader of a tree file. What is read so far is held as a tree: before the bus line its window is 0, and an accelerator
 // whose line is not read yet has phi 0.
 use crate::FileAnswer;
-use crate::Kind;
-use crate::Line;
 use crate::TreeRead;
-use crate::lines::limits_kept;
-use crate::lines::read_line;
-use crate::lines::shape_kept;
+use lines::Kind;
+use lines::Line;
+use lines::limits_kept;
+use lines::read_line;
+use lines::shape_kept;
 use model::Accelerator;
 use model::Bus;
 use model::Interconnect;
@@ -25,7 +25,7 @@ ghost use lib.Dec.{ltb};
 ghost use Rattle.model.specs.Fold.{all};
 ghost use Rattle.model.specs.Rules.{isEmpty};
 ghost use Rattle.model.specs.Tree.{portOf, limitOf};
-ghost use Rattle.reader.specs.Lines.{limitsKept, inTree};
+ghost use Rattle.lines.specs.Lines.{limitsKept, inTree};
 ghost use Rattle.reader.specs.TreeFile.{emptyTree, refusedAt, given, busOf, busLine, intInOrder, rootRule, withPort, withInterconnect, childLine, intLine, accOf, withAcc, accLine, complete, finish, treeLine, readTree};
 
 fn empty_tree() -> Tree

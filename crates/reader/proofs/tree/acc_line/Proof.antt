@@ -5,10 +5,11 @@ use native.Mathlib.Omega.{arith}
 use borrow.Author.Tests.{not-true, not-false}
 use lib.Dec.{lit<}
 use borrow.Author.Needs.{needs}
-use Rattle.reader.specs.declared.Kind.the-variants.{AccLine}
+use Rattle.lines.specs.declared.Kind.the-variants.{AccLine}
 use Rattle.model.specs.declared.Accelerator.{Accelerator}
 use Rattle.reader.specs.TreeFile.{given}
-use Rattle.reader.proofs.Tests.{most, acc-unknown, acc-twice, acc-taken, acc-given}
+use Rattle.lines.proofs.Limits.{most}
+use Rattle.reader.proofs.Tests.{acc-unknown, acc-twice, acc-taken, acc-given}
 use Rattle.reader.proofs.tree.acc_line.Statement.{statement}
 use Rattle.reader.proofs.tree.acc_line.Tie as tie
 

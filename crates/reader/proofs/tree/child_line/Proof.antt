@@ -6,10 +6,11 @@ use borrow.Author.Tests.{not-true, not-false}
 use lib.ListN.{getD}
 use lib.Dec.{lit<}
 use borrow.Author.Needs.{needs}
-use Rattle.reader.specs.declared.Kind.the-variants.{IntLine}
+use Rattle.lines.specs.declared.Kind.the-variants.{IntLine}
 use Rattle.model.specs.declared.Tree.{Tree}
 use Rattle.reader.specs.TreeFile.{given, withInterconnect}
-use Rattle.reader.proofs.Tests.{most, child-taken, child-level, child-given}
+use Rattle.lines.proofs.Limits.{most}
+use Rattle.reader.proofs.Tests.{child-taken, child-level, child-given}
 use Rattle.reader.proofs.tree.child_line.Statement.{statement}
 use Rattle.reader.proofs.tree.child_line.Tie as tie
 

@@ -3,7 +3,7 @@ use mathlib.Core.Path.{ap}
 use mathlib.Core.Bool.{Bool, _&&_}
 use lib.Dec.{ltb, eqb}
 use borrow.Author.Needs.{needs}
-use Rattle.reader.specs.Lines.{valueAt}
+use Rattle.lines.specs.Lines.{valueAt}
 use Rattle.reader.proofs.tree.int_in_order.Statement.{statement}
 use Rattle.reader.proofs.tree.int_in_order.Tie as tie
 

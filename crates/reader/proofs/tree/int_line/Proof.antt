@@ -4,9 +4,10 @@ use native.Mathlib.Omega.{arith}
 use borrow.Author.Tests.{not-true, not-false}
 use lib.Dec.{lit<}
 use borrow.Author.Needs.{needs}
-use Rattle.reader.specs.declared.Kind.the-variants.{IntLine}
+use Rattle.lines.specs.declared.Kind.the-variants.{IntLine}
 use Rattle.reader.specs.TreeFile.{given}
-use Rattle.reader.proofs.Tests.{most, int-order, int-root, int-child, next-number}
+use Rattle.lines.proofs.Limits.{most}
+use Rattle.reader.proofs.Tests.{int-order, int-root, int-child, next-number}
 use Rattle.reader.proofs.tree.int_line.Statement.{statement}
 use Rattle.reader.proofs.tree.int_line.Tie as tie
 

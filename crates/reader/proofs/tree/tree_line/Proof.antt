@@ -3,9 +3,9 @@ use mathlib.Core.Path.{_≡_, ap₂, sym, _∙_, subst}
 use mathlib.Core.Bool.{Bool, true, _&&_}
 use borrow.Author.Tests.{not-true, not-false}
 use borrow.Author.Needs.{needs}
-use Rattle.reader.specs.declared.Kind.{Kind}
-use Rattle.reader.specs.declared.Kind.the-variants.{NoRecord, BusLine, IntLine, AccLine, OfferLine}
-use Rattle.reader.specs.Lines.{limitsKept}
+use Rattle.lines.specs.declared.Kind.{Kind}
+use Rattle.lines.specs.declared.Kind.the-variants.{NoRecord, BusLine, IntLine, AccLine, OfferLine}
+use Rattle.lines.specs.Lines.{limitsKept}
 use Rattle.reader.proofs.Tests.{line-shape, line-limit, line-record}
 use Rattle.reader.proofs.tree.tree_line.Statement.{statement}
 use Rattle.reader.proofs.tree.tree_line.Tie as tie

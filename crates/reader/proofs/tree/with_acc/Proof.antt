@@ -2,8 +2,9 @@
 use native.Mathlib.Omega.{arith}
 use lib.Dec.{lit<}
 use borrow.Author.Needs.{needs}
-use Rattle.reader.specs.declared.Kind.the-variants.{AccLine}
-use Rattle.reader.proofs.Tests.{most, acc-stored}
+use Rattle.lines.specs.declared.Kind.the-variants.{AccLine}
+use Rattle.lines.proofs.Limits.{most}
+use Rattle.reader.proofs.Tests.{acc-stored}
 use Rattle.reader.proofs.tree.with_acc.Statement.{statement}
 use Rattle.reader.proofs.tree.with_acc.Tie as tie
 
