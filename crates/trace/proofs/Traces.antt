@@ -4,15 +4,17 @@ use Prim.Native.Nat.{ℕ, _+_, _-_, _≤_, _<_}
 use mathlib.Core.Bool.{Bool, true, false, _&&_}
 use mathlib.Core.List.{List}
 use mathlib.Core.Path.{_≡_, refl, sym, _∙_, ap, ap₂, subst}
+use native.Mathlib.Decide.{decLt, ℕ-discrete}
 use native.Mathlib.Omega.{arith}
+use lib.Dec.{ltb}
 use lib.ListN.{length, take, drop}
 use borrow.Author.Tests.{lt-ltb, le-ltb, le-leb, lt-leb, ne-eqb, leb-false, ltb-false, ltb-true, not-false}
-use Rattle.text.specs.Text.{partLength, lines, unended}
+use Rattle.text.specs.Text.{partLength, lines, unended, lineAt}
 use Rattle.text.proofs.Parts.{lines-none, lines-unended, lines-next, part-fits}
 use Rattle.model.specs.declared.Tree.{Tree}
 use Rattle.model.specs.declared.Refusal.{Refusal}
 use Rattle.model.specs.declared.Refusal.the-variants.{Shape, Limit, Falling, Unknown}
-use Rattle.model.specs.Fold.{pick}
+use Rattle.model.specs.Fold.{pick, all}
 use Rattle.model.specs.Rules.{treeKeeps}
 use Rattle.model.proofs.Folds.{picked, passed, both}
 use Rattle.lines.specs.declared.Kind.the-variants.{OfferLine}
@@ -20,11 +22,15 @@ use Rattle.lines.specs.declared.Line.{Line}
 use Rattle.trace.specs.declared.Request.{Request}
 use Rattle.trace.specs.declared.OfferRead.{OfferRead}
 use Rattle.trace.specs.declared.OfferRead.the-variants.{NoOffer, Offer}
-use Rattle.trace.specs.declared.NextRequest.the-variants.{Done}
+use Rattle.trace.specs.declared.NextRequest.{NextRequest}
+use Rattle.trace.specs.declared.NextRequest.the-variants.{Done, Due}
+use Rattle.trace.specs.declared.OfferText.the-variants.{Unshaped}
 use Rattle.reader.specs.declared.FileAnswer.{FileAnswer}
 use Rattle.reader.specs.declared.FileAnswer.the-variants.{Accepted, Refused, Broken}
 use Rattle.lines.specs.Lines.{lineOf, valueAt, shaped, limitsKept, inTrace}
-use Rattle.trace.specs.TraceFile.{requestOf, totalOf, added, offerLine, afterOffer, readOffers, noTotals, readTrace, isOffer, requestOn, requestAt}
+use Rattle.trace.specs.TraceFile.{requestOf, totalOf, added, offerLine, afterOffer, readOffers, noTotals, readTrace, requestOn, requestAt}
+use Rattle.trace.specs.OfferText.{offerText, offerOf}
+use Rattle.trace.proofs.Offers.{endAt, isOfferLine, Read, text-not, offer-shaped, offer-limits-same}
 use Rattle.lines.proofs.Limits.{yes-not, no-not, nonempty}
 
 module _ (accs last : ℕ) (totals : List ℕ) (l : Line) where
@@ -143,8 +149,76 @@ module _ (s : List ℕ) (at e : ℕ) (q : e ≡ at + partLength 10 (drop at s)) 
   unfolding requestAt
   request-line h = passed _ _ _ (lt-leb (length s) (at + partLength 10 (drop at s)) (omega arith)) ∙ ap₂ requestOn (ap lineOf (sym same-part)) (sym q)
 
--- what an o line says
-pub offer-limits : (l : Line) → isOffer l ≡ true → (limitsKept OfferLine (l .values) ≡ true) × (valueAt l 1 < 32)
-offer-limits l e =
-    let a = both (inTrace (l .kind) && shaped l && limitsKept OfferLine (l .values)) _ e in
-    (both (inTrace (l .kind) && shaped l) _ (a .0) .1, ltb-true _ _ (a .1))
+-- the answers by what the code has read of the line
+same-offers : (accs last : ℕ) (totals : List ℕ) (l : Line) → isOfferLine l ≡ true → offerLine accs last totals l ≡ offerLine accs last totals (offerOf (valueAt l 0) (valueAt l 1) (valueAt l 2))
+unfolding offerLine all
+same-offers accs last totals l e = passed _ _ _ (no-not _ e) ∙ sym (passed _ _ _ (no-not _ (offer-shaped (valueAt l 0) (valueAt l 1) (valueAt l 2))))
+
+module _ (s : List ℕ) (at : ℕ) where
+  abbrev line : Line
+  line = lineOf (lineAt s at)
+
+  abbrev lineHere : Line
+  lineHere = lineOf (take (endAt s at - at) (drop at s))
+
+  same-line : lineHere ≡ line
+  same-line = ap lineOf (same-part s at (endAt s at) refl)
+
+  module _ (n accs last : ℕ) (totals : List ℕ) (h : at < length s) where
+    pub trace-unshaped : offerText s at ≡ Unshaped → traceFrom n accs last totals s at ≡ Refused Shape n
+    trace-unshaped r = elim (ℕ-discrete (endAt s at) (length s)) [
+      | yes q ↦ trace-unended n accs last totals s at (endAt s at) h refl q
+      | no d ↦
+          let w = part-fits 10 s at (omega arith) in
+          trace-line n accs last totals s at (endAt s at) h refl d (NoOffer Shape) (sym (ap (offerLine accs last totals) same-line ∙ offer-shape accs last totals line (text-not s at r (omega arith))))
+    ]
+
+    trace-read : (x y z next : ℕ) → Read s at x y z next → (o : OfferRead) → o ≡ offerLine accs last totals (offerOf x y z) → traceFrom n accs last totals s at ≡ afterOffer n o (λ r. traceFrom (n + 1) accs (r .slot) (added totals r) s next)
+    trace-read x y z next R o q =
+        trace-line n accs last totals s at (endAt s at) h refl (λ e. omega (arith, R .within)) o
+        (q
+        ∙ sym (ap (offerLine accs last totals) same-line ∙ same-offers accs last totals line (R .offer)
+        ∙ ap (offerLine accs last totals) (ap (λ k. offerOf k (valueAt line 1) (valueAt line 2)) (R .slot) ∙ ap₂ (offerOf x) (R .accelerator) (R .count))))
+        ∙ ap (λ k. afterOffer n o (λ r. traceFrom (n + 1) accs (r .slot) (added totals r) s k)) (sym (R .place))
+
+    module _ (x y z next : ℕ) (R : Read s at x y z next) (o : OfferRead) (q : o ≡ offerLine accs last totals (offerOf x y z)) where
+      pub trace-refused : (f : Refusal) → o ≡ NoOffer f → traceFrom n accs last totals s at ≡ Refused f n
+      trace-refused f e = trace-read x y z next R (NoOffer f) (sym e ∙ q)
+
+      pub trace-taken : (r : Request) → o ≡ Offer r → traceFrom n accs last totals s at ≡ traceFrom (n + 1) accs (r .slot) (added totals r) s next
+      trace-taken r e = trace-read x y z next R (Offer r) (sym e ∙ q)
+
+  pub request-unshaped : offerText s at ≡ Unshaped → requestAt s at ≡ Done
+  request-unshaped r = elim (decLt (endAt s at) (length s)) [
+    | no h ↦ request-done s at (endAt s at) refl (omega arith)
+    | yes h ↦
+        request-line s at (endAt s at) refl h
+        ∙ ap (λ (l : Line). requestOn l (endAt s at)) same-line
+        ∙ passed _ _ _ (ap (λ b. b && limitsKept OfferLine (line .values) && ltb (valueAt line 1) 32) (text-not s at r h))
+  ]
+
+  request-read : (x y z next : ℕ) → Read s at x y z next → requestAt s at ≡ pick (limitsKept OfferLine (offerOf x y z .values) && ltb y 32) (Due (requestOf (offerOf x y z .values)) next) Done
+  request-read x y z next R =
+      request-line s at (endAt s at) refl (R .within)
+      ∙ ap (λ (l : Line). requestOn l (endAt s at)) same-line
+      ∙ ap (λ b. pick (b && limitsKept OfferLine (line .values) && ltb (valueAt line 1) 32) (Due (requestOf (line .values)) (endAt s at + 1)) Done) (R .offer)
+      ∙ ap (λ b. pick (b && ltb (valueAt line 1) 32) (Due (requestOf (line .values)) (endAt s at + 1)) Done) (offer-limits-same line)
+      ∙ ap (λ k. answer k (valueAt line 1) (valueAt line 2) (endAt s at + 1)) (R .slot)
+      ∙ ap₂ (λ k m. answer x k m (endAt s at + 1)) (R .accelerator) (R .count)
+      ∙ ap (answer x y z) (sym (R .place))
+    where
+      answer : ℕ → ℕ → ℕ → ℕ → NextRequest
+      answer x y z next = pick (limitsKept OfferLine (offerOf x y z .values) && ltb y 32) (Due (requestOf (offerOf x y z .values)) next) Done
+
+  module _ (x y z next : ℕ) (R : Read s at x y z next) (k : Bool) (q : k ≡ limitsKept OfferLine (offerOf x y z .values)) where
+    same-test : limitsKept OfferLine (offerOf x y z .values) && ltb y 32 ≡ k && ltb y 32
+    same-test = ap (λ b. b && ltb y 32) (sym q)
+
+    pub request-none : k && ltb y 32 ≡ false → requestAt s at ≡ Done
+    request-none e = request-read x y z next R ∙ passed _ _ _ (same-test ∙ e)
+
+    pub request-due : k && ltb y 32 ≡ true → (r : Request) → r ≡ requestOf (offerOf x y z .values) → Due r next ≡ requestAt s at
+    request-due e r f = ap (λ (p : Request). Due p next) f ∙ sym (request-read x y z next R ∙ picked _ _ _ (same-test ∙ e))
+
+    pub request-limits : k && ltb y 32 ≡ true → (limitsKept OfferLine (offerOf x y z .values) ≡ true) × (y < 32)
+    request-limits e = let b = both k (ltb y 32) e in (sym q ∙ b .0, ltb-true _ _ (b .1))

@@ -1,22 +1,23 @@
 // The reader of a trace file. The requests stay in the file's bytes: a trace is read once as a whole, to accept or refuse
 // it, and then walked line by line from the bytes.
 use lines::Kind;
-use lines::Line;
 use lines::limits_kept;
-use lines::read_line;
-use lines::shape_kept;
 use model::Refusal;
 use model::Tree;
 use model::rules::tree_keeps;
 use reader::FileAnswer;
-use text::part_end;
+use text::Field;
+use text::field_end;
+use text::read_field;
+use text::same_bytes;
 ghost use mathlib.Core.Path.{_≡_};
 ghost use mathlib.Core.Bool.{true};
 ghost use Prim.Native.Nat.{_+_, _<_, _≤_};
 ghost use lib.Dec.{ltb};
 ghost use lib.ListN.{getD};
-ghost use Rattle.lines.specs.Lines.{limitsKept, inTrace};
-ghost use Rattle.trace.specs.TraceFile.{requestOf, offerLine, readTrace, isOffer, requestAt};
+ghost use Rattle.lines.specs.Lines.{limitsKept};
+ghost use Rattle.trace.specs.OfferText.{numberAt, offerText, offerOf};
+ghost use Rattle.trace.specs.TraceFile.{requestOf, offerLine, readTrace, requestAt};
 
 // An o line of a trace: so many transactions of an accelerator are requested at a slot.
 pub struct Request {
@@ -37,16 +38,66 @@ pub enum NextRequest {
     Due(Request, usize),
 }
 
-fn in_trace(kind: Kind) -> bool
-    ensures { λ r. ⌜ r ≡ inTrace kind ⌝ }
+// What a field of a trace says, where it begins at a place of the file and a certain byte ends it: a number and the place after
+// that byte, or no number.
+pub enum NumberAt {
+    NoNumber,
+    NumberTo(u64, usize),
+}
+
+// What a line of a trace says, where it begins at a place of the file: slot, accelerator and count, and the place after its LF;
+// or it fails test 1 of a line.
+pub enum OfferText {
+    Unshaped,
+    Shaped(u64, u64, u64, usize),
+}
+
+// The field is a part of the file.
+fn number_at(s: &[u8], at: usize, sep: u8) -> NumberAt
+    ensures { λ r. ⌜ r ≡ numberAt (now (s .entry)) at sep ⌝ }
 {
-    match kind {
-        Kind::NoRecord => false,
-        Kind::BusLine => false,
-        Kind::IntLine => false,
-        Kind::AccLine => false,
-        Kind::OfferLine => true,
+    let end = field_end(s, at);
+    if s.len() <= end {
+        return NumberAt::NoNumber;
     }
+    if s[end] != sep {
+        return NumberAt::NoNumber;
+    }
+    let f = read_field(&s[at..end]);
+    match f {
+        Field::Malformed => NumberAt::NoNumber,
+        Field::Dash => NumberAt::NoNumber,
+        Field::Number(x) => NumberAt::NumberTo(x, end + 1),
+    }
+}
+
+// The line is read in one pass, with no search for its LF before.
+fn offer_at(s: &[u8], at: usize) -> OfferText
+    ensures { λ r. ⌜ r ≡ offerText (now (s .entry)) at ⌝ }
+{
+    let end = field_end(s, at);
+    if s.len() <= end {
+        return OfferText::Unshaped;
+    }
+    if s[end] != 9 {
+        return OfferText::Unshaped;
+    }
+    if !same_bytes(&s[at..end], b"o") {
+        return OfferText::Unshaped;
+    }
+    let x = number_at(s, end + 1, 9);
+    let NumberAt::NumberTo(slot, second) = x else {
+        return OfferText::Unshaped;
+    };
+    let y = number_at(s, second, 9);
+    let NumberAt::NumberTo(accelerator, third) = y else {
+        return OfferText::Unshaped;
+    };
+    let z = number_at(s, third, 10);
+    let NumberAt::NumberTo(count, next) = z else {
+        return OfferText::Unshaped;
+    };
+    OfferText::Shaped(slot, accelerator, count, next)
 }
 
 fn request_of(v: [u64; 10]) -> Request
@@ -66,20 +117,23 @@ fn over_total(total: u32, count: u8) -> bool
     65535 < total as u64 + count as u64
 }
 
-// One line of a trace, after lines that end with slot `last` and add up to `totals`.
-fn offer_line(accs: u8, last: u32, totals: &[u32; 32], l: Line) -> OfferRead
+// The tests after test 1 of one line of a trace, after lines that end with slot `last` and add up to `totals`.
+fn offer_line(
+    accs: u8,
+    last: u32,
+    totals: &[u32; 32],
+    slot: u64,
+    accelerator: u64,
+    count: u64,
+) -> OfferRead
     requires { ⌜ accs ≤ 32 ⌝ }
-    ensures { λ r. ⌜ r ≡ offerLine accs last (now (totals .entry)) l ⌝ }
+    ensures { λ r. ⌜ r ≡ offerLine accs last (now (totals .entry)) (offerOf slot accelerator count) ⌝ }
 {
-    let kind = l.kind;
-    let v = l.values;
-    if !(in_trace(kind) & shape_kept(l)) {
-        return OfferRead::NoOffer(Refusal::Shape);
-    }
+    let v = [slot, accelerator, count, 0, 0, 0, 0, 0, 0, 0];
     if !limits_kept(Kind::OfferLine, v) {
         return OfferRead::NoOffer(Refusal::Limit);
     }
-    if accs as u64 <= v[1] {
+    if accs as u64 <= accelerator {
         return OfferRead::NoOffer(Refusal::Unknown);
     }
     let r = request_of(v);
@@ -109,11 +163,11 @@ pub fn read_trace(t: Tree, s: &[u8]) -> FileAnswer
     let mut at = 0;
     let mut n: u32 = 1;
     while at < s.len() {
-        let end = part_end(s, at, 10);
-        if end == s.len() {
+        let l = offer_at(s, at);
+        let OfferText::Shaped(slot, accelerator, count, next) = l else {
             return FileAnswer::Refused(Refusal::Shape, n);
-        }
-        let x = offer_line(accs, last, &totals, read_line(&s[at..end]));
+        };
+        let x = offer_line(accs, last, &totals, slot, accelerator, count);
         match x {
             OfferRead::NoOffer(y) => {
                 return FileAnswer::Refused(y, n);
@@ -124,32 +178,23 @@ pub fn read_trace(t: Tree, s: &[u8]) -> FileAnswer
                 last = r.slot;
             }
         }
-        at = end + 1;
+        at = next;
         n += 1;
     }
     FileAnswer::Accepted
-}
-
-fn is_offer(l: Line) -> bool
-    ensures { λ r. ⌜ r ≡ isOffer l ⌝ }
-{
-    let kind = l.kind;
-    let v = l.values;
-    in_trace(kind) & shape_kept(l) & limits_kept(Kind::OfferLine, v) & (v[1] < 32)
 }
 
 // The request on the line that begins at `at`, and the place after the line; the end where no such line is there.
 pub fn request_at(s: &[u8], at: usize) -> NextRequest
     ensures { λ r. ⌜ r ≡ requestAt (now (s .entry)) at ⌝ }
 {
-    let end = part_end(s, at, 10);
-    if s.len() <= end {
+    let l = offer_at(s, at);
+    let OfferText::Shaped(slot, accelerator, count, next) = l else {
+        return NextRequest::Done;
+    };
+    let v = [slot, accelerator, count, 0, 0, 0, 0, 0, 0, 0];
+    if !(limits_kept(Kind::OfferLine, v) & (accelerator < 32)) {
         return NextRequest::Done;
     }
-    let l = read_line(&s[at..end]);
-    let v = l.values;
-    if !is_offer(l) {
-        return NextRequest::Done;
-    }
-    NextRequest::Due(request_of(v), end + 1)
+    NextRequest::Due(request_of(v), next)
 }

@@ -1,15 +1,14 @@
 -- `read_trace` meets its contract: the answer for the file is the answer for what is left of it.
-use mathlib.Core.Path.{_≡_, refl, ap, sym, _∙_}
+use mathlib.Core.Path.{_≡_, refl, sym, _∙_}
 use Prim.Native.Nat.{_≤_, _-_, _+_}
 use native.Mathlib.Omega.{arith}
 use borrow.Author.Tests.{not-true, not-false}
 use lib.ListN.{length}
 use borrow.Author.Needs.{needs}
-use Rattle.trace.specs.declared.OfferRead.{OfferRead}
-use Rattle.trace.specs.TraceFile.{noTotals, offerLine, afterOffer, added}
+use Rattle.trace.specs.TraceFile.{noTotals}
 use Rattle.model.proofs.Sound.{sound}
-use Rattle.trace.proofs.Traces.{traceFrom, trace-broken, trace-size, trace-start, trace-end, trace-unended, trace-line, offer-says}
-use Rattle.text.proofs.Parts.{part-fits}
+use Rattle.trace.proofs.Offers.{text-read}
+use Rattle.trace.proofs.Traces.{traceFrom, trace-broken, trace-size, trace-start, trace-end, trace-unshaped, trace-refused, trace-taken, offer-says}
 use Rattle.trace.proofs.read_trace.Statement.{statement}
 use Rattle.trace.proofs.read_trace.Tie as tie
 
@@ -34,63 +33,44 @@ loop-holds c =
 
 returns-3 : tie.Need-returns-3 Inv-loop μ-loop
 returns-3 c =
-    sym (trace-start _ (c .before .before .before .before .before .before .before .before .args .s .now) (sym (c .before .before .before .before .before .before .tree-keeps .ensures) ∙ not-false _ (c .before .before .before .before .before .if1 .left)) (c .before .before .before .before .if2 .left) ∙ c .before .before .before .loop .inv .4 ∙ trace-unended _ _ _ _ (c .before .before .before .before .before .before .before .before .args .s .now) _ _ (c .before .before .loop-test .taken) (c .before .part-end .ensures) (c .if3 .taken))
-
-part-read-line-end : tie.Need-part-read-line-end Inv-loop μ-loop
-part-read-line-end c =
-    let q = part-fits 10 (c .before .before .before .before .before .before .before .before .before .args .s .now) (c .before .before .before .before .loop .at) (omega arith) in let e = c .before .before .part-end .ensures in omega arith
+    sym (trace-start _ (c .before .before .before .before .before .before .before .before .before .args .s .now) (sym (c .before .before .before .before .before .before .before .tree-keeps .ensures) ∙ not-false _ (c .before .before .before .before .before .before .if1 .left)) (c .before .before .before .before .before .if2 .left) ∙ c .before .before .before .before .loop .inv .4 ∙ trace-unshaped (c .before .before .before .before .before .before .before .before .before .args .s .now) _ _ _ _ _ (c .before .before .before .loop-test .taken) (sym (c .before .before .offer-at .ensures) ∙ c .enum-told .given .1))
 
 offer-line-requires : tie.Need-offer-line-requires Inv-loop μ-loop
 offer-line-requires c κs = c .before .before .before .before .before .before .loop .inv .3
 
 returns-4 : tie.Need-returns-4 Inv-loop μ-loop
 returns-4 c =
-    sym (trace-start _ (c .before .before .before .before .before .before .before .before .before .before .before .before .before .before .before .args .s .now) (sym (c .before .before .before .before .before .before .before .before .before .before .before .before .before .tree-keeps .ensures) ∙ not-false _ (c .before .before .before .before .before .before .before .before .before .before .before .before .if1 .left)) (c .before .before .before .before .before .before .before .before .before .before .before .if2 .left) ∙ c .before .before .before .before .before .before .before .before .before .before .loop .inv .4 ∙ trace-line _ _ _ _ (c .before .before .before .before .before .before .before .before .before .before .before .before .before .before .before .args .s .now) _ _ (c .before .before .before .before .before .before .before .before .before .loop-test .taken) (c .before .before .before .before .before .before .before .before .part-end .ensures) (c .before .before .before .before .before .before .before .if3 .left) _ (c .before .before .before .offer-line .ensures ∙ ap (offerLine (c .before .before .before .before .before .before .before .before .before .before .before .before .before .before .before .args .t .accs) (c .before .before .before .before .before .before .before .before .before .before .loop .last) (c .before .before .before .before .before .before .before .before .before .before .loop .totals)) (c .before .before .before .before .read-line .ensures)) ∙ ap (λ (x : OfferRead). afterOffer (c .before .before .before .before .before .before .before .before .before .before .loop .n) x (λ r. traceFrom (c .before .before .before .before .before .before .before .before .before .before .loop .n + 1) (c .before .before .before .before .before .before .before .before .before .before .before .before .before .before .before .args .t .accs) (r .slot) (added (c .before .before .before .before .before .before .before .before .before .before .loop .totals) r) (c .before .before .before .before .before .before .before .before .before .before .before .before .before .before .before .args .s .now) (c .before .before .before .before .before .before .before .before .part-end .result + 1))) (c .before .x .given .1))
+    sym (trace-start _ (c .before .before .before .before .before .before .before .before .before .before .before .before .before .before .before .args .s .now) (sym (c .before .before .before .before .before .before .before .before .before .before .before .before .before .tree-keeps .ensures) ∙ not-false _ (c .before .before .before .before .before .before .before .before .before .before .before .before .if1 .left)) (c .before .before .before .before .before .before .before .before .before .before .before .if2 .left) ∙ c .before .before .before .before .before .before .before .before .before .before .loop .inv .4 ∙ trace-refused (c .before .before .before .before .before .before .before .before .before .before .before .before .before .before .before .args .s .now) _ _ _ _ _ (c .before .before .before .before .before .before .before .before .before .loop-test .taken) _ _ _ _ (text-read (c .before .before .before .before .before .before .before .before .before .before .before .before .before .before .before .args .s .now) (c .before .before .before .before .before .before .before .before .before .before .loop .at) _ _ _ _ (sym (c .before .before .before .before .before .before .before .before .offer-at .ensures) ∙ c .before .before .before .before .before .before .l .given .1)) _ (c .before .before .before .offer-line .ensures) _ (c .before .x .given .1))
 
 mul-totals : tie.Need-mul-totals Inv-loop μ-loop
-mul-totals c =
-    let g = offer-says (c .before .before .before .before .before .before .before .before .before .before .before .before .before .before .before .before .args .t .accs) _ (c .before .before .before .before .before .before .before .before .before .before .before .loop .totals) _ _ (sym (c .before .before .before .before .offer-line .ensures) ∙ c .before .before .x2 .given .1) in omega (arith, g .known, c .before .before .before .before .before .before .before .before .before .before .before .loop .inv .3)
+mul-totals c = let g = offer-says (c .before .before .before .before .before .before .before .before .before .before .before .before .before .before .before .before .args .t .accs) _ (c .before .before .before .before .before .before .before .before .before .before .before .loop .totals) _ _ (sym (c .before .before .before .before .offer-line .ensures) ∙ c .before .before .x2 .given .1) in omega (arith, g .known, c .before .before .before .before .before .before .before .before .before .before .before .loop .inv .3)
 
 array-read-totals : tie.Need-array-read-totals Inv-loop μ-loop
-array-read-totals c =
-    let g = offer-says (c .before .before .before .before .before .before .before .before .before .before .before .before .before .before .before .before .args .t .accs) _ (c .before .before .before .before .before .before .before .before .before .before .before .loop .totals) _ _ (sym (c .before .before .before .before .offer-line .ensures) ∙ c .before .before .x2 .given .1) in omega (arith, g .known, c .before .before .before .before .before .before .before .before .before .before .before .loop .inv .3)
+array-read-totals c = let g = offer-says (c .before .before .before .before .before .before .before .before .before .before .before .before .before .before .before .before .args .t .accs) _ (c .before .before .before .before .before .before .before .before .before .before .before .loop .totals) _ _ (sym (c .before .before .before .before .offer-line .ensures) ∙ c .before .before .x2 .given .1) in omega (arith, g .known, c .before .before .before .before .before .before .before .before .before .before .before .loop .inv .3)
 
 add-totals : tie.Need-add-totals Inv-loop μ-loop
-add-totals c =
-    let g = offer-says (c .before .before .before .before .before .before .before .before .before .before .before .before .before .before .before .before .before .args .t .accs) _ (c .before .before .before .before .before .before .before .before .before .before .before .before .loop .totals) _ _ (sym (c .before .before .before .before .before .offer-line .ensures) ∙ c .before .before .before .x2 .given .1) in omega (arith, g .total)
+add-totals c = let g = offer-says (c .before .before .before .before .before .before .before .before .before .before .before .before .before .before .before .before .before .args .t .accs) _ (c .before .before .before .before .before .before .before .before .before .before .before .before .loop .totals) _ _ (sym (c .before .before .before .before .before .offer-line .ensures) ∙ c .before .before .before .x2 .given .1) in omega (arith, g .total)
 
 mul-totals-2 : tie.Need-mul-totals-2 Inv-loop μ-loop
-mul-totals-2 c =
-    let g = offer-says (c .before .before .before .before .before .before .before .before .before .before .before .before .before .before .before .before .before .args .t .accs) _ (c .before .before .before .before .before .before .before .before .before .before .before .before .loop .totals) _ _ (sym (c .before .before .before .before .before .offer-line .ensures) ∙ c .before .before .before .x2 .given .1) in omega (arith, g .known, c .before .before .before .before .before .before .before .before .before .before .before .before .loop .inv .3)
+mul-totals-2 c = let g = offer-says (c .before .before .before .before .before .before .before .before .before .before .before .before .before .before .before .before .before .args .t .accs) _ (c .before .before .before .before .before .before .before .before .before .before .before .before .loop .totals) _ _ (sym (c .before .before .before .before .before .offer-line .ensures) ∙ c .before .before .before .x2 .given .1) in omega (arith, g .known, c .before .before .before .before .before .before .before .before .before .before .before .before .loop .inv .3)
 
 array-write-totals : tie.Need-array-write-totals Inv-loop μ-loop
-array-write-totals c =
-    let g = offer-says (c .before .before .before .before .before .before .before .before .before .before .before .before .before .before .before .before .before .args .t .accs) _ (c .before .before .before .before .before .before .before .before .before .before .before .before .loop .totals) _ _ (sym (c .before .before .before .before .before .offer-line .ensures) ∙ c .before .before .before .x2 .given .1) in omega (arith, g .known, c .before .before .before .before .before .before .before .before .before .before .before .before .loop .inv .3)
-
-add-at : tie.Need-add-at Inv-loop μ-loop
-add-at c =
-    let q = part-fits 10 (c .before .before .before .before .before .before .before .before .before .before .before .before .before .before .before .before .before .args .s .now) (c .before .before .before .before .before .before .before .before .before .before .before .before .loop .at) (omega arith) in let e = c .before .before .before .before .before .before .before .before .before .before .part-end .ensures in omega arith
+array-write-totals c = let g = offer-says (c .before .before .before .before .before .before .before .before .before .before .before .before .before .before .before .before .before .args .t .accs) _ (c .before .before .before .before .before .before .before .before .before .before .before .before .loop .totals) _ _ (sym (c .before .before .before .before .before .offer-line .ensures) ∙ c .before .before .before .x2 .given .1) in omega (arith, g .known, c .before .before .before .before .before .before .before .before .before .before .before .before .loop .inv .3)
 
 add-n : tie.Need-add-n Inv-loop μ-loop
-add-n c =
-    let q = part-fits 10 (c .before .before .before .before .before .before .before .before .before .before .before .before .before .before .before .before .before .args .s .now) (c .before .before .before .before .before .before .before .before .before .before .before .before .loop .at) (omega arith) in let e = c .before .before .before .before .before .before .before .before .before .before .part-end .ensures in omega arith
+add-n c = let r = (text-read (c .before .before .before .before .before .before .before .before .before .before .before .before .before .before .before .before .before .args .s .now) (c .before .before .before .before .before .before .before .before .before .before .before .before .loop .at) _ _ _ _ (sym (c .before .before .before .before .before .before .before .before .before .before .offer-at .ensures) ∙ c .before .before .before .before .before .before .before .before .l .given .1)) in omega arith
 
 loop-less : tie.Need-loop-less Inv-loop μ-loop
-loop-less c =
-    let q = part-fits 10 (c .before .before .before .before .before .before .before .before .before .before .before .before .before .before .before .before .before .args .s .now) (c .before .before .before .before .before .before .before .before .before .before .before .before .loop .at) (omega arith) in let e = c .before .before .before .before .before .before .before .before .before .before .part-end .ensures in omega arith
+loop-less c = let r = (text-read (c .before .before .before .before .before .before .before .before .before .before .before .before .before .before .before .before .before .args .s .now) (c .before .before .before .before .before .before .before .before .before .before .before .before .loop .at) _ _ _ _ (sym (c .before .before .before .before .before .before .before .before .before .before .offer-at .ensures) ∙ c .before .before .before .before .before .before .before .before .l .given .1)) in omega (arith, r .place, r .within)
 
 loop-again : tie.Need-loop-again Inv-loop μ-loop
 loop-again c =
-    let q = part-fits 10 (c .before .before .before .before .before .before .before .before .before .before .before .before .before .before .before .before .before .args .s .now) (c .before .before .before .before .before .before .before .before .before .before .before .before .loop .at) (omega arith) in
-    let e = c .before .before .before .before .before .before .before .before .before .before .part-end .ensures in
-    let u = c .before .before .before .before .before .before .before .before .before .if3 .left in (
-      omega arith,
-      omega arith,
-      omega arith,
+    let r = (text-read (c .before .before .before .before .before .before .before .before .before .before .before .before .before .before .before .before .before .args .s .now) (c .before .before .before .before .before .before .before .before .before .before .before .before .loop .at) _ _ _ _ (sym (c .before .before .before .before .before .before .before .before .before .before .offer-at .ensures) ∙ c .before .before .before .before .before .before .before .before .l .given .1)) in (
+      omega (arith, r .place, r .within),
+      c .before .before .before .before .before .before .before .before .before .before .before .before .loop .inv .1,
+      omega (arith, r .place),
       c .before .before .before .before .before .before .before .before .before .before .before .before .loop .inv .3,
-      c .before .before .before .before .before .before .before .before .before .before .before .before .loop .inv .4
-          ∙ trace-line _ _ _ _ (c .before .before .before .before .before .before .before .before .before .before .before .before .before .before .before .before .before .args .s .now) _ _ (c .before .before .before .before .before .before .before .before .before .before .before .loop-test .taken) (c .before .before .before .before .before .before .before .before .before .before .part-end .ensures) (c .before .before .before .before .before .before .before .before .before .if3 .left) _ (c .before .before .before .before .before .offer-line .ensures ∙ ap (offerLine (c .before .before .before .before .before .before .before .before .before .before .before .before .before .before .before .before .before .args .t .accs) (c .before .before .before .before .before .before .before .before .before .before .before .before .loop .last) (c .before .before .before .before .before .before .before .before .before .before .before .before .loop .totals)) (c .before .before .before .before .before .before .read-line .ensures))
-          ∙ ap (λ (x : OfferRead). afterOffer (c .before .before .before .before .before .before .before .before .before .before .before .before .loop .n) x (λ r. traceFrom (c .before .before .before .before .before .before .before .before .before .before .before .before .loop .n + 1) (c .before .before .before .before .before .before .before .before .before .before .before .before .before .before .before .before .before .args .t .accs) (r .slot) (added (c .before .before .before .before .before .before .before .before .before .before .before .before .loop .totals) r) (c .before .before .before .before .before .before .before .before .before .before .before .before .before .before .before .before .before .args .s .now) (c .before .before .before .before .before .before .before .before .before .before .part-end .result + 1))) (c .before .before .before .x2 .given .1),
+      c .before .before .before .before .before .before .before .before .before .before .before .before .loop .inv .4 ∙ trace-taken (c .before .before .before .before .before .before .before .before .before .before .before .before .before .before .before .before .before .args .s .now) _ _ _ _ _ (c .before .before .before .before .before .before .before .before .before .before .before .loop-test .taken) _ _ _ _ r _ (c .before .before .before .before .before .offer-line .ensures) _ (c .before .before .before .x2 .given .1),
     )
 
 returns-5 : tie.Need-returns-5 Inv-loop μ-loop
@@ -98,4 +78,4 @@ returns-5 c =
     sym (trace-start _ (c .before .before .before .before .before .before .args .s .now) (sym (c .before .before .before .before .tree-keeps .ensures) ∙ not-false _ (c .before .before .before .if1 .left)) (c .before .before .if2 .left) ∙ c .before .loop .inv .4 ∙ trace-end _ _ _ _ (c .before .before .before .before .before .before .args .s .now) _ (c .loop-test .left))
 
 pub read-trace-spec : {M : Type 1} → statement M
-read-trace-spec = tie.close (tie.spec Inv-loop μ-loop (λ c κs. search needs) returns returns-2 loop-holds (λ c κs. search needs) returns-3 (λ c. search needs) (λ c. search needs) part-read-line-end (λ c κs. search needs) offer-line-requires (λ c. search needs) returns-4 (λ c. search needs) (λ c. search needs) mul-totals array-read-totals (λ c. search needs) add-totals mul-totals-2 array-write-totals add-at add-n loop-less loop-again returns-5)
+read-trace-spec = tie.close (tie.spec Inv-loop μ-loop (λ c κs. search needs) returns returns-2 loop-holds (λ c κs. search needs) (λ c. search needs) (λ c. search needs) returns-3 offer-line-requires (λ c. search needs) returns-4 (λ c. search needs) (λ c. search needs) mul-totals array-read-totals (λ c. search needs) add-totals mul-totals-2 array-write-totals add-n loop-less loop-again returns-5)
