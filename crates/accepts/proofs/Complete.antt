@@ -17,9 +17,10 @@ use Rattle.model.specs.Tree.{granularityOf, parentOf, parentPortOf, accelerator
 use Rattle.model.specs.Rules.{busKeeps, treeKeeps}
 use Rattle.model.proofs.Folds.{picked, passed, tests, joined, at-all}
 use Rattle.model.proofs.Sound.{Sound, sound}
-use Rattle.reader.specs.declared.TreeRead.{TreeRead}
+use Rattle.placing.specs.declared.TreeRead.{TreeRead}
 use Rattle.lines.specs.Lines.{lineOf}
-use Rattle.reader.specs.TreeFile.{emptyTree, given, withBus, withAcc, complete, finish, treeLine, onward, readLines, readTree}
+use Rattle.placing.specs.Placing.{emptyTree, given, withBus, withAcc, complete, finish, treeLine}
+use Rattle.reader.specs.TreeFile.{onward, readLines, readTree}
 use Rattle.accepts.specs.TreeText.{numbers, busValues, accValues, busText, intText, accText, rows, treeLines, treeText}
 use mathlib.Core.Logic.{_↔_}
 use Rattle.reader.proofs.Files.{tree-start}

@@ -24,14 +24,15 @@ use Rattle.model.specs.Fold.{pick, all}
 use Rattle.model.specs.Tree.{emptyCell, noInterconnect, noAccelerator, interconnectOf, acceleratorOf, portOf, granularityOf, parentOf, parentPortOf, homeOf, homePortOf, limitOf, budgetOf, above, levelOf}
 use Rattle.model.specs.Rules.{busKeeps, isEmpty, isAcc, isInt, carries, rootPlaced, childPlaced, isPlaced, usedInterconnect, unusedInterconnect, interconnectKeeps, usedAccelerator, unusedAccelerator, acceleratorKeeps, treeKeeps}
 use Rattle.model.proofs.Folds.{picked, passed, tests, both, all-at}
-use Rattle.reader.specs.declared.FileAnswer.{FileAnswer}
-use Rattle.reader.specs.declared.FileAnswer.the-variants.{Accepted, Refused, Broken}
-use Rattle.reader.specs.declared.TreeRead.{TreeRead}
+use Rattle.lines.specs.declared.FileAnswer.{FileAnswer}
+use Rattle.lines.specs.declared.FileAnswer.the-variants.{Accepted, Refused, Broken}
+use Rattle.placing.specs.declared.TreeRead.{TreeRead}
 use Rattle.lines.specs.declared.Kind.{Kind}
 use Rattle.lines.specs.declared.Kind.the-variants.{NoRecord, BusLine, IntLine, AccLine, OfferLine}
 use Rattle.lines.specs.declared.Line.{Line}
 use Rattle.lines.specs.Lines.{lineOf, valueAt, dashAt, inTree, shaped, limitsKept}
-use Rattle.reader.specs.TreeFile.{emptyTree, refusedAt, given, busOf, withBus, busLine, intInOrder, rootRule, carrying, withPort, withInterconnect, withRoot, withChild, childLine, intLine, accOf, withAcc, accLine, complete, finish, recordLine, treeLine, onward, readLines, readTree}
+use Rattle.placing.specs.Placing.{emptyTree, refusedAt, given, busOf, withBus, busLine, intInOrder, rootRule, carrying, withPort, withInterconnect, withRoot, withChild, childLine, intLine, accOf, withAcc, accLine, complete, finish, recordLine, treeLine}
+use Rattle.reader.specs.TreeFile.{onward, readLines, readTree}
 use Rattle.lines.proofs.Limits.{least, most}
 
 -- the limits of an accelerator's fields, and that its place is right

@@ -24,16 +24,17 @@ use Rattle.model.specs.Fold.{pick}
 use Rattle.model.specs.Tree.{noInterconnect, acceleratorOf, portOf, limitOf}
 use Rattle.model.specs.Rules.{isEmpty}
 use Rattle.model.proofs.Folds.{picked, passed}
-use Rattle.reader.specs.declared.FileAnswer.{FileAnswer}
-use Rattle.reader.specs.declared.FileAnswer.the-variants.{Accepted, Refused, Broken}
-use Rattle.reader.specs.declared.TreeRead.{TreeRead}
+use Rattle.lines.specs.declared.FileAnswer.{FileAnswer}
+use Rattle.lines.specs.declared.FileAnswer.the-variants.{Accepted, Refused, Broken}
+use Rattle.placing.specs.declared.TreeRead.{TreeRead}
 use Rattle.lines.specs.declared.Kind.{Kind}
 use Rattle.lines.specs.declared.Kind.the-variants.{AccLine}
 use Rattle.lines.specs.declared.Line.{Line}
 use Rattle.lines.specs.Lines.{lineOf, inTree, shaped, limitsKept}
-use Rattle.reader.specs.TreeFile.{emptyTree, refusedAt, given, carrying, accOf, withAcc, accLine, recordLine, treeLine, onward, readLines, readTree}
+use Rattle.placing.specs.Placing.{emptyTree, refusedAt, given, carrying, accOf, withAcc, accLine, recordLine, treeLine}
+use Rattle.reader.specs.TreeFile.{onward, readLines, readTree}
 use Rattle.lines.proofs.Limits.{least}
-use Rattle.reader.proofs.Tests.{acc-given, line-record}
+use Rattle.placing.proofs.Tests.{acc-given, line-record}
 use Rattle.accepts.proofs.Kept.{Partial, fine-line, acc-new, acc-old, acc-at, stored-apart, home-size, is-empty, not-acc, never-refused, never-broken, partial-empty}
 
 -- a test whose failure is a refusal has passed where the answer is accepted

@@ -1,12 +1,15 @@
-// A line of a file read into a struct, and tested against the form of its record.
+// A line of a file read into a struct, and tested against the form of its record; what a reader of files answers.
 //
 // Shape and limits of all records stand in one table. A line is placed only after both are tested.
+use model::Refusal;
+use model::number;
 use text::Field;
 use text::part_end;
 use text::read_field;
 use text::same_bytes;
 ghost use mathlib.Core.Path.{_≡_};
 ghost use Prim.Native.Nat.{_<_};
+ghost use Rattle.lines.specs.Answer.{answerNumber, answerLine};
 ghost use Rattle.lines.specs.Lines.{kindOf, named, push, lineOf, formOf, dashesKept, limitsKept, shaped};
 
 // What a line's record name says.
@@ -197,4 +200,34 @@ pub fn limits_kept(kind: Kind, values: [u64; 10]) -> bool
         i += 1;
     }
     ok
+}
+
+// What a reader answers: accepted; refused, with the line; or refused because the configuration breaks its rules, which
+// has no line.
+pub enum FileAnswer {
+    Accepted,
+    Refused(Refusal, u32),
+    Broken,
+}
+
+// The number of a refusal in document 01's table; 0 where the file is accepted.
+pub fn answer_number(a: FileAnswer) -> u8
+    ensures { λ r. ⌜ r ≡ answerNumber a ⌝ }
+{
+    match a {
+        FileAnswer::Accepted => 0,
+        FileAnswer::Refused(r, _) => number(r),
+        FileAnswer::Broken => 11,
+    }
+}
+
+// The line of a refusal; 0 where it has none.
+pub fn answer_line(a: FileAnswer) -> u32
+    ensures { λ r. ⌜ r ≡ answerLine a ⌝ }
+{
+    match a {
+        FileAnswer::Accepted => 0,
+        FileAnswer::Refused(_, n) => n,
+        FileAnswer::Broken => 0,
+    }
 }

@@ -5,9 +5,9 @@
 // bytes the file has. A trace is read on the first tree of document 01's report. Files near the size limit are made here.
 use libc::STDIN_FILENO;
 use libc::STDOUT_FILENO;
+use lines::FileAnswer;
 use model::Tree;
-use reader::FileAnswer;
-use reader::tree::read_tree;
+use reader::read_tree;
 use text::Field;
 use text::part_end;
 use text::read_field;

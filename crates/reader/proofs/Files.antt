@@ -11,12 +11,13 @@ use Rattle.text.proofs.Parts.{lines-none, lines-unended, lines-next, part-fits}
 use Rattle.model.specs.declared.Tree.{Tree}
 use Rattle.model.specs.declared.Refusal.the-variants.{Shape, Limit}
 use Rattle.model.proofs.Folds.{picked, passed}
-use Rattle.reader.specs.declared.FileAnswer.{FileAnswer}
-use Rattle.reader.specs.declared.FileAnswer.the-variants.{Accepted, Refused, Broken}
-use Rattle.reader.specs.declared.TreeRead.{TreeRead}
+use Rattle.lines.specs.declared.FileAnswer.{FileAnswer}
+use Rattle.lines.specs.declared.FileAnswer.the-variants.{Accepted, Refused, Broken}
+use Rattle.placing.specs.declared.TreeRead.{TreeRead}
 use Rattle.lines.specs.Lines.{lineOf}
 use Rattle.lines.proofs.Limits.{nonempty}
-use Rattle.reader.specs.TreeFile.{emptyTree, refusedAt, finish, treeLine, onward, readLines, readTree}
+use Rattle.placing.specs.Placing.{emptyTree, refusedAt, finish, treeLine}
+use Rattle.reader.specs.TreeFile.{onward, readLines, readTree}
 
 pub tree-size : (s : List ℕ) → 65536 < length s → readTree s ≡ refusedAt Limit 0
 unfolding readTree

@@ -14,7 +14,7 @@ use Rattle.model.proofs.Folds.{picked, passed}
 use Rattle.model.proofs.Sound.{sound}
 use Rattle.trace.specs.declared.Request.{Request}
 use Rattle.trace.specs.declared.NextRequest.the-variants.{Done, Due}
-use Rattle.reader.specs.declared.FileAnswer.the-variants.{Accepted}
+use Rattle.lines.specs.declared.FileAnswer.the-variants.{Accepted}
 use Rattle.trace.specs.TraceFile.{added, noTotals, readTrace, requestAt}
 use Rattle.trace.proofs.Traces.{trace-start}
 use Rattle.trace.proofs.Requests.{accepted-trace, Step, walk-step, walk-end}

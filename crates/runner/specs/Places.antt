@@ -16,7 +16,7 @@ use Rattle.model.specs.declared.Tree.{Tree}
 use Rattle.model.specs.Rules.{keeps}
 use Rattle.text.specs.Text.{lines, unended}
 use Rattle.trace.specs.declared.Request.{Request}
-use Rattle.reader.specs.declared.FileAnswer.the-variants.{Accepted}
+use Rattle.lines.specs.declared.FileAnswer.the-variants.{Accepted}
 use Rattle.trace.specs.TraceFile.{readOffers, requests}
 use Rattle.runner.specs.declared.Due.{Due}
 use Rattle.runner.specs.declared.Place.{Place}

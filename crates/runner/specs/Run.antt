@@ -35,8 +35,8 @@ use Rattle.model.specs.Rules.{treeKeeps}
 use Rattle.model.specs.Answer.{numberOf}
 use Rattle.text.specs.Text.{lines}
 use Rattle.trace.specs.declared.Request.{Request}
-use Rattle.reader.specs.declared.FileAnswer.{FileAnswer}
-use Rattle.reader.specs.declared.FileAnswer.the-variants.{Accepted, Refused, Broken}
+use Rattle.lines.specs.declared.FileAnswer.{FileAnswer}
+use Rattle.lines.specs.declared.FileAnswer.the-variants.{Accepted, Refused, Broken}
 use Rattle.trace.specs.TraceFile.{readTrace, requests}
 use Rattle.machine.specs.Machine.{Answer, admitted, served, idle, refused, freshState, noneWaits, slotted}
 use Rattle.runner.specs.declared.Offering.{Offering}

@@ -3,12 +3,12 @@
 mod offers;
 mod steps;
 
+use lines::FileAnswer;
 use machine::FreshAnswer;
 use machine::fresh;
 use model::Refusal;
 use model::State;
 use model::Tree;
-use reader::FileAnswer;
 use steps::is_done;
 use steps::one_slot;
 use trace::read_trace;

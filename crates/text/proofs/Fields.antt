@@ -1,7 +1,6 @@
 -- Laws of a field read in the whole file: it ends at the next tab or LF, and then it is the first part of the line there. By
 -- the clauses of the definitions, read at a position, and by induction on the bytes.
 use Prim.Native.Nat.{ℕ, zero, suc, _+_, _-_, _≤_, _<_}
-use mathlib.Core.Bool.{Bool, true, false, cond}
 use mathlib.Core.List.{List, [], _∷_}
 use mathlib.Core.Path.{_≡_, refl, sym, _∙_, ap, ap₂}
 use native.Mathlib.Decide.{ℕ-discrete}

@@ -1,9 +1,8 @@
 // Bytes read as parts, fields and decimal numbers. Nothing here knows of trees or traces.
 ghost use mathlib.Core.Path.{_≡_};
-ghost use mathlib.Core.Bool.{cond};
 ghost use Prim.Native.Nat.{_+_, _≤_};
 ghost use lib.ListN.{length, drop};
-ghost use Rattle.text.specs.Text.{partLength, fieldLength, same, allDigits, decimal, digitsOf, fieldOf};
+ghost use Rattle.text.specs.Text.{partLength, fieldLength, same, decimal, digitsOf, fieldOf};
 
 // What a field says: "-", a number, or neither.
 pub enum Field {

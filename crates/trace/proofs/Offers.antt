@@ -22,9 +22,7 @@ use Rattle.lines.specs.declared.Kind.the-variants.{NoRecord, BusLine, IntLine, 
 use Rattle.lines.specs.declared.Line.{Line}
 use Rattle.lines.specs.Lines.{kindOf, named, push, pushed, lineFrom, lineOf, formOf, valueAt, shaped, limitsKept, inTrace}
 use Rattle.lines.proofs.Fields.{push-count}
-use Rattle.trace.specs.declared.NumberAt.{NumberAt}
 use Rattle.trace.specs.declared.NumberAt.the-variants.{NoNumber, NumberTo}
-use Rattle.trace.specs.declared.OfferText.{OfferText}
 use Rattle.trace.specs.declared.OfferText.the-variants.{Unshaped, Shaped}
 use Rattle.trace.specs.OfferText.{numberIn, numberAt, shapedText, offerText, offerOf}
 

@@ -25,8 +25,8 @@ use Rattle.trace.specs.declared.Request.{Request}
 use Rattle.trace.specs.declared.OfferRead.{OfferRead}
 use Rattle.trace.specs.declared.OfferRead.the-variants.{NoOffer, Offer}
 use Rattle.trace.specs.declared.NextRequest.the-variants.{Done, Due}
-use Rattle.reader.specs.declared.FileAnswer.{FileAnswer}
-use Rattle.reader.specs.declared.FileAnswer.the-variants.{Accepted, Refused}
+use Rattle.lines.specs.declared.FileAnswer.{FileAnswer}
+use Rattle.lines.specs.declared.FileAnswer.the-variants.{Accepted, Refused}
 use Rattle.lines.specs.Lines.{lineOf, valueAt}
 use Rattle.trace.specs.TraceFile.{totalOf, added, offerLine, afterOffer, readOffers, noTotals, readTrace, requests, rising, inRange, allInRange, totalFor, isOffer, requestAt}
 use Rattle.lines.proofs.Limits.{most, least}

@@ -25,8 +25,8 @@ use Rattle.trace.specs.declared.OfferRead.the-variants.{NoOffer, Offer}
 use Rattle.trace.specs.declared.NextRequest.{NextRequest}
 use Rattle.trace.specs.declared.NextRequest.the-variants.{Done, Due}
 use Rattle.trace.specs.declared.OfferText.the-variants.{Unshaped}
-use Rattle.reader.specs.declared.FileAnswer.{FileAnswer}
-use Rattle.reader.specs.declared.FileAnswer.the-variants.{Accepted, Refused, Broken}
+use Rattle.lines.specs.declared.FileAnswer.{FileAnswer}
+use Rattle.lines.specs.declared.FileAnswer.the-variants.{Accepted, Refused, Broken}
 use Rattle.lines.specs.Lines.{lineOf, valueAt, shaped, limitsKept, inTrace}
 use Rattle.trace.specs.TraceFile.{requestOf, totalOf, added, offerLine, afterOffer, readOffers, noTotals, readTrace, requestOn, requestAt}
 use Rattle.trace.specs.OfferText.{offerText, offerOf}

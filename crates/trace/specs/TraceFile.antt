@@ -35,8 +35,8 @@ use Rattle.trace.specs.declared.OfferRead.{OfferRead}
 use Rattle.trace.specs.declared.OfferRead.the-variants.{NoOffer, Offer}
 use Rattle.trace.specs.declared.NextRequest.{NextRequest}
 use Rattle.trace.specs.declared.NextRequest.the-variants.{Done, Due}
-use Rattle.reader.specs.declared.FileAnswer.{FileAnswer}
-use Rattle.reader.specs.declared.FileAnswer.the-variants.{Accepted, Refused, Broken}
+use Rattle.lines.specs.declared.FileAnswer.{FileAnswer}
+use Rattle.lines.specs.declared.FileAnswer.the-variants.{Accepted, Refused, Broken}
 use Rattle.lines.specs.Lines.{lineOf, valueAt, shaped, limitsKept, inTrace}
 
 abbrev pub requestOf : List ℕ → Request

@@ -1,11 +1,11 @@
 // The reader of a trace file. The requests stay in the file's bytes: a trace is read once as a whole, to accept or refuse
 // it, and then walked line by line from the bytes.
+use lines::FileAnswer;
 use lines::Kind;
 use lines::limits_kept;
 use model::Refusal;
 use model::Tree;
 use model::rules::tree_keeps;
-use reader::FileAnswer;
 use text::Field;
 use text::field_end;
 use text::read_field;
