@@ -1,4 +1,5 @@
--- What the tests of a line say once they are passed: a field is in its limits. By the fold over the fields.
+-- What passed tests say of a line: each field is in its limits. By the fold over the fields. And two facts of tests and parts that
+-- the readers of files share.
 use Prim.Native.Nat.{ℕ, _-_, _≤_, _<_}
 use mathlib.Core.Bool.{Bool, true, false, not}
 use mathlib.Core.List.{List}
