@@ -30,8 +30,8 @@ use Rattle.turns.specs.Turns.{who, after, turnPort, turnAllowance, seek, bitsBe
 use Rattle.machine.specs.Machine.{Answer, admitted, served, idle, refused, freshState, offered, slotted, tick}
 use Rattle.machine.specs.Calls.{Call, offer, slot, answersOf}
 use Rattle.text.specs.Text.{parts, butLast, final, same, allDigits, decimal, fieldOf}
-use Rattle.reader.specs.Lines.{kindOf, pushed, lineOf, shaped}
-use Rattle.reader.specs.TraceFile.{offerLine, readOffers, readTrace, requests}
+use Rattle.lines.specs.Lines.{kindOf, pushed, lineOf, shaped}
+use Rattle.trace.specs.TraceFile.{offerLine, readOffers, readTrace, requests}
 use Rattle.runner.specs.Offers.{offerHeld, offerEach}
 use Rattle.runner.specs.Run.{Ending, done, heldWith, leftAfter, next, trail, ranOf, bufferAfter}
 use Rattle.bounds.specs.Bounds.{Answer as Bound, given, aloneRead, aloneWrite, slotRead, slotWrite, othersAt, shareAlong, shareOf, boundOf}

@@ -6,8 +6,8 @@ use lib.ListN.{length, take, length-append}
 use lib.Seq.{length-take-le}
 use mathlib.Core.List.{List}
 use mathlib.Core.Path.{_≡_, ap, sym, subst, _∙_}
-use Rattle.reader.specs.declared.FileAnswer.{FileAnswer}
-use Rattle.reader.specs.declared.TreeRead.{TreeRead}
+use Rattle.lines.specs.declared.FileAnswer.{FileAnswer}
+use Rattle.placing.specs.declared.TreeRead.{TreeRead}
 use Rattle.put.specs.Page.{Written}
 use Rattle.plan.specs.Plan.{printed, numberGiven, lineGiven, Printing}
 

@@ -9,9 +9,9 @@ use mathlib.Core.List.{List}
 use mathlib.Core.Path.{_≡_}
 use Rattle.model.specs.declared.Tree.{Tree}
 use Rattle.model.specs.Answer.{numberOf}
-use Rattle.reader.specs.declared.FileAnswer.{FileAnswer}
-use Rattle.reader.specs.declared.FileAnswer.the-variants.{Accepted, Refused, Broken}
-use Rattle.reader.specs.declared.TreeRead.{TreeRead}
+use Rattle.lines.specs.declared.FileAnswer.{FileAnswer}
+use Rattle.lines.specs.declared.FileAnswer.the-variants.{Accepted, Refused, Broken}
+use Rattle.placing.specs.declared.TreeRead.{TreeRead}
 use Rattle.put.specs.Page.{Written}
 use Rattle.listing.specs.Listing.{reportText, refusalText}
 

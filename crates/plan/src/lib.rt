@@ -1,9 +1,9 @@
 // The report of a tree file: the file read, and the report or the refusal put into a lent buffer.
+use lines::FileAnswer;
 use listing::refusal_text;
 use listing::report_text;
 use model::number;
-use reader::FileAnswer;
-use reader::tree::read_tree;
+use reader::read_tree;
 ghost use Rattle.reader.specs.TreeFile.{readTree};
 ghost use Rattle.plan.specs.Plan.{Printing};
 

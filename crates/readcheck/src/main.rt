@@ -5,15 +5,15 @@
 // bytes the file has. A trace is read on the first tree of document 01's report. Files near the size limit are made here.
 use libc::STDIN_FILENO;
 use libc::STDOUT_FILENO;
+use lines::FileAnswer;
 use model::Tree;
-use reader::FileAnswer;
-use reader::NextRequest;
-use reader::trace::read_trace;
-use reader::trace::request_at;
-use reader::tree::read_tree;
+use reader::read_tree;
 use text::Field;
 use text::part_end;
 use text::read_field;
+use trace::NextRequest;
+use trace::read_trace;
+use trace::request_at;
 ghost use mathlib.Core.Path.{_≡_};
 ghost use lib.ListN.{length};
 

@@ -4,18 +4,20 @@ use Prim.Native.Nat.{ℕ, _+_, _-_, _≤_, _<_}
 use mathlib.Core.List.{List}
 use mathlib.Core.Path.{_≡_, refl, sym, _∙_, ap, ap₂}
 use native.Mathlib.Omega.{arith}
-use lib.ListN.{length, take, drop, length-take, length-drop}
+use lib.ListN.{length, take, drop}
 use borrow.Author.Tests.{lt-ltb, le-ltb, ne-eqb}
 use Rattle.text.specs.Text.{partLength, lines, unended}
 use Rattle.text.proofs.Parts.{lines-none, lines-unended, lines-next, part-fits}
 use Rattle.model.specs.declared.Tree.{Tree}
 use Rattle.model.specs.declared.Refusal.the-variants.{Shape, Limit}
 use Rattle.model.proofs.Folds.{picked, passed}
-use Rattle.reader.specs.declared.FileAnswer.{FileAnswer}
-use Rattle.reader.specs.declared.FileAnswer.the-variants.{Accepted, Refused, Broken}
-use Rattle.reader.specs.declared.TreeRead.{TreeRead}
-use Rattle.reader.specs.Lines.{lineOf}
-use Rattle.reader.specs.TreeFile.{emptyTree, refusedAt, finish, treeLine, onward, readLines, readTree}
+use Rattle.lines.specs.declared.FileAnswer.{FileAnswer}
+use Rattle.lines.specs.declared.FileAnswer.the-variants.{Accepted, Refused, Broken}
+use Rattle.placing.specs.declared.TreeRead.{TreeRead}
+use Rattle.lines.specs.Lines.{lineOf}
+use Rattle.lines.proofs.Limits.{nonempty}
+use Rattle.placing.specs.Placing.{emptyTree, refusedAt, finish, treeLine}
+use Rattle.reader.specs.TreeFile.{onward, readLines, readTree}
 
 pub tree-size : (s : List ℕ) → 65536 < length s → readTree s ≡ refusedAt Limit 0
 unfolding readTree
@@ -32,10 +34,6 @@ tree-start s h = passed _ _ _ (le-ltb _ _ h)
 pub tree-end : (n : ℕ) (t : Tree) (s : List ℕ) (at : ℕ) → length s ≤ at → treeFrom n t s at ≡ finish n t
 unfolding readLines
 tree-end n t s at h = ap₂ (readLines n t) (lines-none s at h .0) (lines-none s at h .1)
-
--- the part of a line that is not empty
-pub nonempty : (s : List ℕ) (at e : ℕ) → at < e → e ≤ length s → length (take (e - at) (drop at s)) ≡ 0 → ⊥
-nonempty s at e h k z = omega (arith, length-take (e - at) (drop at s), length-drop at s)
 
 module _ (n : ℕ) (t : Tree) (s : List ℕ) (at e : ℕ) (h : at < length s) (q : e ≡ at + partLength 10 (drop at s)) where
   pub tree-unended : e ≡ length s → treeFrom n t s at ≡ refusedAt Shape n

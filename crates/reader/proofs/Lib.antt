@@ -1,10 +1,1 @@
-pub mod Fields
-pub mod Tests
 pub mod Files
-pub mod Traces
-pub mod Kept
-pub mod Requests
-pub mod Order
-pub mod Written
-pub mod Stage
-pub mod Complete

@@ -1,5 +1,1 @@
-pub mod Lines
-pub mod Answer
 pub mod TreeFile
-pub mod TraceFile
-pub mod TreeText

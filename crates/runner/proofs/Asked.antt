@@ -11,8 +11,8 @@ use lib.Seq.{getD-set-same, getD-set-other}
 use borrow.Author.Tests.{lt-ltb, le-ltb, eq-eqb, ne-eqb}
 use Rattle.model.specs.Fold.{pick}
 use Rattle.model.proofs.Folds.{picked, passed}
-use Rattle.reader.specs.declared.Request.{Request}
-use Rattle.reader.specs.TraceFile.{totalFor}
+use Rattle.trace.specs.declared.Request.{Request}
+use Rattle.trace.specs.TraceFile.{totalFor}
 use Rattle.runner.specs.Offers.{heldOf}
 use Rattle.runner.specs.Run.{hold, isDue, heldWith}
 use Rattle.runner.specs.Slots.{leftFrom, dueBefore}

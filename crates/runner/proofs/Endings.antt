@@ -12,8 +12,8 @@ use Rattle.model.specs.Fold.{pick}
 use Rattle.rules.specs.Rules.{treeKeeps}
 use Rattle.model.proofs.Folds.{picked, passed}
 use Rattle.text.specs.Text.{lines}
-use Rattle.reader.specs.declared.FileAnswer.{FileAnswer}
-use Rattle.reader.specs.TraceFile.{readTrace, requests}
+use Rattle.lines.specs.declared.FileAnswer.{FileAnswer}
+use Rattle.trace.specs.TraceFile.{readTrace, requests}
 use Rattle.machine.specs.Machine.{Start, started, notStarted, Beginning, beginning, zeroState, freshState, freshened}
 use Rattle.runner.specs.Run.{runFor, refusedAt, broken, answered, overwritten, ranOf, bufferAfter}
 

@@ -14,7 +14,7 @@ use Rattle.model.specs.declared.Tree.{Tree}
 use Rattle.model.specs.Fold.{pick}
 use Rattle.rules.specs.Rules.{treeKeeps, keeps}
 use Rattle.model.proofs.Folds.{picked, passed}
-use Rattle.reader.specs.declared.Request.{Request}
+use Rattle.trace.specs.declared.Request.{Request}
 use Rattle.machine.specs.Machine.{refused, offered, lastSlot, slotted}
 use Rattle.machine.proofs.Laws.{fresh-keeps, offer-others, slot-keeps, slot-only-last, slot-windows}
 use Rattle.runner.specs.declared.Offering.{Offering}

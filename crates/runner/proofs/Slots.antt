@@ -13,7 +13,7 @@ use Rattle.model.specs.declared.State.{State}
 use Rattle.model.specs.Fold.{pick}
 use Rattle.rules.specs.Rules.{treeKeeps, keeps}
 use Rattle.model.proofs.Folds.{picked, passed}
-use Rattle.reader.specs.declared.Request.{Request}
+use Rattle.trace.specs.declared.Request.{Request}
 use Rattle.machine.specs.Machine.{Answer, Outcome, outcome, freshState, slottedWithin, slotted}
 use Rattle.machine.proofs.Steps.{slot-passed}
 use Rattle.machine.proofs.Laws.{slot-keeps, fresh-keeps}

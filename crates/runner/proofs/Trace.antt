@@ -12,12 +12,12 @@ use borrow.Author.Tests.{le-leb, lt-leb, eq-eqb, ne-eqb}
 use Rattle.model.specs.declared.Tree.{Tree}
 use Rattle.model.proofs.Folds.{picked, passed}
 use Rattle.rules.proofs.Sound.{sound}
-use Rattle.reader.specs.declared.Request.{Request}
-use Rattle.reader.specs.declared.NextRequest.the-variants.{Done, Due}
-use Rattle.reader.specs.declared.FileAnswer.the-variants.{Accepted}
-use Rattle.reader.specs.TraceFile.{added, noTotals, readTrace, requestAt}
-use Rattle.reader.proofs.Traces.{trace-start}
-use Rattle.reader.proofs.Requests.{accepted-trace, Step, walk-step, walk-end}
+use Rattle.trace.specs.declared.Request.{Request}
+use Rattle.trace.specs.declared.NextRequest.the-variants.{Done, Due}
+use Rattle.lines.specs.declared.FileAnswer.the-variants.{Accepted}
+use Rattle.trace.specs.TraceFile.{added, noTotals, readTrace, requestAt}
+use Rattle.trace.proofs.Traces.{trace-start}
+use Rattle.trace.proofs.Requests.{accepted-trace, Step, walk-step, walk-end}
 use Rattle.runner.specs.Offers.{heldOf}
 use Rattle.runner.specs.Run.{hold, heldWith, leftAfter}
 use Rattle.runner.specs.Places.{leftAt, Accepts, Room, Taken}

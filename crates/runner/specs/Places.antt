@@ -15,9 +15,9 @@ use lib.ListN.{length, drop}
 use Rattle.model.specs.declared.Tree.{Tree}
 use Rattle.rules.specs.Rules.{keeps}
 use Rattle.text.specs.Text.{lines, unended}
-use Rattle.reader.specs.declared.Request.{Request}
-use Rattle.reader.specs.declared.FileAnswer.the-variants.{Accepted}
-use Rattle.reader.specs.TraceFile.{readOffers, requests}
+use Rattle.trace.specs.declared.Request.{Request}
+use Rattle.lines.specs.declared.FileAnswer.the-variants.{Accepted}
+use Rattle.trace.specs.TraceFile.{readOffers, requests}
 use Rattle.runner.specs.declared.Due.{Due}
 use Rattle.runner.specs.declared.Place.{Place}
 use Rattle.runner.specs.declared.Step.{Step}

@@ -34,10 +34,10 @@ use Rattle.model.specs.Fold.{pick, all}
 use Rattle.rules.specs.Rules.{treeKeeps}
 use Rattle.model.specs.Answer.{numberOf}
 use Rattle.text.specs.Text.{lines}
-use Rattle.reader.specs.declared.Request.{Request}
-use Rattle.reader.specs.declared.FileAnswer.{FileAnswer}
-use Rattle.reader.specs.declared.FileAnswer.the-variants.{Accepted, Refused, Broken}
-use Rattle.reader.specs.TraceFile.{readTrace, requests}
+use Rattle.trace.specs.declared.Request.{Request}
+use Rattle.lines.specs.declared.FileAnswer.{FileAnswer}
+use Rattle.lines.specs.declared.FileAnswer.the-variants.{Accepted, Refused, Broken}
+use Rattle.trace.specs.TraceFile.{readTrace, requests}
 use Rattle.machine.specs.Machine.{Answer, admitted, served, idle, refused, freshState, noneWaits, slotted}
 use Rattle.runner.specs.declared.Offering.{Offering}
 use Rattle.runner.specs.Offers.{heldOf, offering, offerEach}

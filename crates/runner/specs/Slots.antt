@@ -9,7 +9,7 @@ use mathlib.Core.List.{List, [], _∷_, _++_}
 use lib.Dec.{ltb}
 use Rattle.model.specs.declared.Tree.{Tree}
 use Rattle.model.specs.Fold.{pick}
-use Rattle.reader.specs.declared.Request.{Request}
+use Rattle.trace.specs.declared.Request.{Request}
 use Rattle.runner.specs.Run.{Run, lastByte, next}
 
 unfoldable pub standing : ℕ → Tree → Run → Run

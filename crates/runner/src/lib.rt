@@ -3,15 +3,15 @@
 mod offers;
 mod steps;
 
+use lines::FileAnswer;
 use machine::FreshAnswer;
 use machine::fresh;
 use model::Refusal;
 use model::State;
 use model::Tree;
-use reader::FileAnswer;
-use reader::trace::read_trace;
 use steps::is_done;
 use steps::one_slot;
+use trace::read_trace;
 ghost use mathlib.Core.Path.{_≡_};
 ghost use mathlib.Core.Bool.{true};
 ghost use Prim.Native.Nat.{_≤_};

@@ -17,10 +17,10 @@ use Rattle.rules.specs.Rules.{treeKeeps}
 use Rattle.model.proofs.Folds.{passed}
 use Rattle.rules.proofs.Sound.{sound}
 use Rattle.text.specs.Text.{lines}
-use Rattle.reader.specs.declared.Request.{Request}
-use Rattle.reader.specs.declared.FileAnswer.{FileAnswer}
-use Rattle.reader.specs.declared.FileAnswer.the-variants.{Accepted, Refused, Broken}
-use Rattle.reader.specs.TraceFile.{readTrace, requests, totalFor}
+use Rattle.trace.specs.declared.Request.{Request}
+use Rattle.lines.specs.declared.FileAnswer.{FileAnswer}
+use Rattle.lines.specs.declared.FileAnswer.the-variants.{Accepted, Refused, Broken}
+use Rattle.trace.specs.TraceFile.{readTrace, requests, totalFor}
 use Rattle.machine.specs.Machine.{Answer, admitted, served, idle, refused, lastSlot, freshState, slotted}
 use Rattle.machine.specs.Calls.{slot, stateAfter}
 use Rattle.machine.proofs.Keeps.{zeros}

@@ -21,7 +21,7 @@ use mathlib.Core.Logic.{_⊎_}
 use lib.ListN.{length, take}
 use Rattle.model.specs.declared.Tree.{Tree}
 use Rattle.text.specs.Text.{lines}
-use Rattle.reader.specs.TraceFile.{requests, totalFor}
+use Rattle.trace.specs.TraceFile.{requests, totalFor}
 use Rattle.machine.specs.Machine.{Answer, freshState, offered}
 use Rattle.machine.specs.Calls.{Call, offer, slot, stateAfter}
 use Rattle.guarantee.specs.Guarantee.{Event, eventsOf, slotsIn, admitsOne, Guarantee}

@@ -2,10 +2,10 @@
 // whether the run is done or stopped. A refusal is one line on standard output and one line in words on standard error.
 use libc::STDERR_FILENO;
 use libc::STDOUT_FILENO;
+use lines::FileAnswer;
 use model::Tree;
 use model::number;
-use reader::FileAnswer;
-use reader::tree::read_tree;
+use reader::read_tree;
 use runner::RunAnswer;
 use text::Field;
 ghost use Prim.Native.Nat.{_≤_, _<_};

@@ -1,3 +1,4 @@
 pub mod Parts
+pub mod Fields
 pub mod Digits
 pub mod Written

@@ -3,10 +3,12 @@
 -- behind b ps         the parts ps with b in front of the first one
 -- parts sep s         the parts of s between separators: always one part more than there are separators
 -- partLength sep s    how many bytes stand before the first separator of s; all of s where it has none
+-- fieldLength s       how many bytes stand before the first tab or LF of s; all of s where it has neither
 -- butLast ps          the parts but the last; final ps: the last part
 -- lines s             "each line ends in LF": the lines of s, without their LF
 -- unended s           what stands after the last LF: nothing, unless the last LF is missing
 -- fields l            "fields are parted by one tab, and each field is read as the part of the line between two tabs"
+-- lineAt s at         what stands in s from a place to the next LF
 -- same a b            the byte strings a and b are equal
 -- isDigit b           the byte b is a decimal digit
 -- allDigits s         every byte of s is a decimal digit
@@ -18,7 +20,7 @@
 use Prim.Native.Nat.{ℕ, suc, _+_, _-_, _*_, _^_}
 use mathlib.Core.Bool.{Bool, true, false, _&&_, not, cond}
 use mathlib.Core.List.{List, [], _∷_}
-use lib.ListN.{length, getD}
+use lib.ListN.{length, getD, take, drop}
 use lib.Dec.{leb, ltb, eqb}
 use Rattle.text.specs.declared.Field.{Field}
 use Rattle.text.specs.declared.Field.the-variants.{Malformed, Dash, Number}
@@ -35,6 +37,10 @@ parts sep (b ∷ s) = cond (eqb b sep) ([] ∷ parts sep s) (behind b (parts sep
 unfoldable pub partLength : ℕ → List ℕ → ℕ
 partLength sep [] = 0
 partLength sep (b ∷ s) = cond (eqb b sep) 0 (suc (partLength sep s))
+
+unfoldable pub fieldLength : List ℕ → ℕ
+fieldLength [] = 0
+fieldLength (b ∷ s) = cond (eqb b 9) 0 (cond (eqb b 10) 0 (suc (fieldLength s)))
 
 unfoldable pub butLast : List (List ℕ) → List (List ℕ)
 butLast [] = []
@@ -54,6 +60,9 @@ unended s = final (parts 10 s)
 
 abbrev pub fields : List ℕ → List (List ℕ)
 fields l = parts 9 l
+
+abbrev pub lineAt : List ℕ → ℕ → List ℕ
+lineAt s at = take (partLength 10 (drop at s)) (drop at s)
 
 unfoldable pub same : List ℕ → List ℕ → Bool
 same [] [] = true

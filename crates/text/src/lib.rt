@@ -1,9 +1,8 @@
 // Bytes read as parts, fields and decimal numbers. Nothing here knows of trees or traces.
 ghost use mathlib.Core.Path.{_≡_};
-ghost use mathlib.Core.Bool.{cond};
 ghost use Prim.Native.Nat.{_+_, _≤_};
 ghost use lib.ListN.{length, drop};
-ghost use Rattle.text.specs.Text.{partLength, same, allDigits, decimal, digitsOf, fieldOf};
+ghost use Rattle.text.specs.Text.{partLength, fieldLength, same, decimal, digitsOf, fieldOf};
 
 // What a field says: "-", a number, or neither.
 pub enum Field {
@@ -19,6 +18,23 @@ pub fn part_end(s: &[u8], at: usize, sep: u8) -> usize
     let mut end = at;
     while end < s.len() {
         if s[end] == sep {
+            return end;
+        }
+        end += 1;
+    }
+    end
+}
+
+// Where the field that begins at `at` ends: at the next tab or LF, or at the end of the bytes.
+pub fn field_end(s: &[u8], at: usize) -> usize
+    ensures { λ r. ⌜ r ≡ at + fieldLength (drop at (now (s .entry))) ⌝ }
+{
+    let mut end = at;
+    while end < s.len() {
+        if s[end] == 9 {
+            return end;
+        }
+        if s[end] == 10 {
             return end;
         }
         end += 1;

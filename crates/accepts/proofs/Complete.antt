@@ -1,0 +1,201 @@
+-- "A configuration keeps them if a tree file could have given it": the text of a configuration that keeps its rules is read
+-- as that configuration. Its lines have no separator inside and are short, each is accepted in turn, and the end test passes.
+use Prim.Native.Nat.{ℕ, zero, suc, _+_, _*_, _≤_, _<_}
+use mathlib.Core.Bool.{true}
+use mathlib.Core.List.{List, [], _∷_, _++_}
+use mathlib.Core.Path.{_≡_, refl, sym, _∙_, ap, ap₂, subst}
+use native.Mathlib.Decide.{ℕ-discrete}
+use native.Mathlib.Numerals.{add-one}
+use native.Mathlib.Omega.{arith}
+use lib.Dec.{ltb, lit<, lit≤}
+use lib.ListN.{length, length-append}
+use borrow.Author.Tests.{lt-ltb, ne-eqb}
+use Rattle.text.specs.Write.{fieldsText, lineText, fileText}
+use Rattle.text.proofs.Written.{Clean, clean-none, clean-more, clean-append, AllClean, all-none, all-more, lines-read, number-length}
+use Rattle.model.specs.declared.Tree.{Tree}
+use Rattle.model.specs.Tree.{granularityOf, parentOf, parentPortOf, acceleratorOf, limitOf}
+use Rattle.rules.specs.Rules.{busKeeps, treeKeeps}
+use Rattle.model.proofs.Folds.{picked, passed, tests, joined, at-all}
+use Rattle.rules.proofs.Sound.{Sound, sound}
+use Rattle.placing.specs.declared.TreeRead.{TreeRead}
+use Rattle.lines.specs.Lines.{lineOf}
+use Rattle.placing.specs.Placing.{emptyTree, given, withBus, withAcc, complete, finish, treeLine}
+use Rattle.reader.specs.TreeFile.{onward, readLines, readTree}
+use Rattle.accepts.specs.TreeText.{numbers, busValues, accValues, busText, intText, accText, rows, treeLines, treeText}
+use mathlib.Core.Logic.{_↔_}
+use Rattle.reader.proofs.Files.{tree-start}
+use Rattle.accepts.proofs.Kept.{accepted-keeps}
+use Rattle.accepts.proofs.Written.{accEntry, Below, below-none, below-more, numbers-clean, root-clean, clean3, bus-read, acc-read, root-read, child-read}
+use Rattle.accepts.proofs.Stage.{Sized, Agrees, bus-limits, acc-ranges, bus-step, agrees-bus, root-step, agrees-root, child-step, agrees-child, acc-step, agrees-acc, agrees-all}
+
+-- one accepted line
+line-given : (n : ℕ) (u w : Tree) (l : List ℕ) (ls : List (List ℕ)) (r : List ℕ) → treeLine n u (lineOf l) ≡ given w → readLines n u (l ∷ ls) r ≡ readLines (n + 1) w ls r
+unfolding readLines
+line-given n u w l ls r e = ap (λ (x : TreeRead). onward (x .answer) x (readLines (n + 1) (x .tree) ls r)) e
+
+-- lines of at most n bytes
+data Short (n : ℕ) : List (List ℕ) → Type 0 where
+  short-none : Short n []
+  short-more : {l : List ℕ} {ls : List (List ℕ)} → length l ≤ n → Short n ls → Short n (l ∷ ls)
+
+fields-length : {fs : List (List ℕ)} → Short 10 fs → length (fieldsText fs) ≤ 11 * length fs
+unfolding fieldsText
+fields-length short-none = omega arith
+fields-length (short-more {l = f} {ls = fs} h S) = omega (arith, length-append f (fieldsText fs), fields-length S)
+
+file-length : {ls : List (List ℕ)} → Short 113 ls → length (fileText ls) ≤ 114 * length ls
+unfolding fileText
+file-length short-none = omega arith
+file-length (short-more {l = l} {ls = ls} h S) = omega (arith, length-append l (10 ∷ fileText ls), file-length S)
+
+fields-clean : {fs : List (List ℕ)} → AllClean 10 fs → Clean 10 (fieldsText fs)
+unfolding fieldsText
+fields-clean all-none = clean-none
+fields-clean (all-more C A) = clean-more {b = 9} (omega arith) (clean-append C (fields-clean A))
+
+numbers-short : {xs : List ℕ} → Below xs → Short 10 (numbers xs)
+unfolding numbers
+numbers-short below-none = short-none
+numbers-short (below-more {x = x} h B) = short-more (number-length x h) (numbers-short B)
+
+numbers-count : (xs : List ℕ) → length (numbers xs) ≡ length xs
+unfolding numbers
+numbers-count [] = refl
+numbers-count (x ∷ xs) = ap suc (numbers-count xs)
+
+-- a line that has no LF inside and is short
+record Fit (l : List ℕ) : Type 0 where
+  clean : Clean 10 l
+  short : length l ≤ 113
+
+fit-line : (name : List ℕ) (fs : List (List ℕ)) → Clean 10 name → length name ≤ 3 → AllClean 10 fs → Short 10 fs → length fs ≤ 10 → Fit (lineText name fs)
+fit-line name fs C h A S k =
+    record { clean = clean-append C (fields-clean A); short = omega (arith, length-append name (fieldsText fs), fields-length S) }
+
+rows-clean : (c k : ℕ) (f : ℕ → List ℕ) → ((j : ℕ) → j < k + c → Fit (f j)) → (AllClean 10 (rows c k f)) × (Short 113 (rows c k f)) × (length (rows c k f) ≡ c)
+unfolding rows
+rows-clean zero k f h = (all-none, short-none, refl)
+rows-clean (suc c) k f h =
+    let r = rows-clean c (suc k) f (λ j l. h j (omega arith)) in
+    let F = h k (omega arith) in
+    (all-more (F .clean) (r .0), short-more (F .short) (r .1), ap suc (r .2))
+
+both-clean : {ls ms : List (List ℕ)} → AllClean 10 ls → AllClean 10 ms → AllClean 10 (ls ++ ms)
+both-clean all-none B = B
+both-clean (all-more C A) B = all-more C (both-clean A B)
+
+both-short : {n : ℕ} {ls ms : List (List ℕ)} → Short n ls → Short n ms → Short n (ls ++ ms)
+both-short short-none B = B
+both-short (short-more h A) B = short-more h (both-short A B)
+
+module _ (t : Tree) (e : treeKeeps t ≡ true) where
+  S : Sound t
+  S = sound t e
+
+  bus-below : Below (busValues (t .bus))
+  unfolding busKeeps
+  bus-below =
+      let h = simp tests at (bus-limits t e) in
+      below-more {x = t .bus .window} (omega arith) (below-more {x = t .bus .ta} (omega arith) (below-more {x = t .bus .da} (omega arith) (below-more {x = t .bus .dd} (omega arith) (below-more {x = t .bus .db} (omega arith) (below-more {x = t .bus .pr} (omega arith) (below-more {x = t .bus .pw} (omega arith) (below-more {x = t .bus .td} (omega arith) (below-more {x = t .bus .tb} (omega arith) (below-more {x = t .bus .burst} (omega arith) (below-none))))))))))
+
+  child-below : (j : ℕ) → 0 < j → j < t .ints → Below (j ∷ parentOf t j ∷ parentPortOf t j ∷ granularityOf t j ∷ [])
+  child-below j z h =
+      let p = S .parent j z h in
+      let q = S .parent-port j z h in
+      let g = S .granularity j h in
+      let m = S .most-ints in
+      below-more {x = j} (omega arith) (below-more {x = parentOf t j} (omega arith) (below-more {x = parentPortOf t j} (omega arith) (below-more {x = granularityOf t j} (omega (arith, g .1)) (below-none))))
+
+  root-below : granularityOf t 0 < 10000000000
+  root-below = omega (arith, S .granularity 0 (S .some-ints) .1)
+
+  acc-below : (a : ℕ) → a < t .accs → Below (accValues a (acceleratorOf t a))
+  acc-below a h =
+      let r = acc-ranges t e a h in
+      let m = S .most-accs in
+      let i = S .most-ints in
+      let x = S .home a h in
+      let p = S .home-port a h in
+      let f = S .limit a h in
+      let b = S .budget a h in
+      below-more {x = a} (omega arith) (below-more {x = acceleratorOf t a .interconnect} (omega arith) (below-more {x = acceleratorOf t a .port} (omega arith) (below-more {x = acceleratorOf t a .phi} (omega (arith, f .1)) (below-more {x = acceleratorOf t a .budget} (omega (arith, b .1)) (below-more {x = acceleratorOf t a .reads} (omega (arith, r .0)) (below-more {x = acceleratorOf t a .writes} (omega (arith, r .1)) (below-more {x = acceleratorOf t a .computing} (omega (arith, r .2)) (below-more {x = acceleratorOf t a .period} (omega (arith, r .4)) (below-none)))))))))
+
+  -- no line has an LF inside, and each is short
+  bus-fit : Fit (busText t)
+  bus-fit = fit-line _ _ (clean3 98 117 115 10 (omega arith) (omega arith) (omega arith)) (lit≤ tt) (numbers-clean 10 (lit< tt) bus-below) (numbers-short bus-below) (omega (arith, numbers-count (busValues (t .bus))))
+
+  acc-fit : (a : ℕ) → a < t .accs → Fit (accText t a)
+  acc-fit a h = fit-line _ _ (clean3 97 99 99 10 (omega arith) (omega arith) (omega arith)) (lit≤ tt) (numbers-clean 10 (lit< tt) (acc-below a h)) (numbers-short (acc-below a h)) (omega (arith, numbers-count (accValues a (acceleratorOf t a))))
+
+  int-fit : (j : ℕ) → j < t .ints → Fit (intText t j)
+  int-fit j h = elim (ℕ-discrete j 0) [
+    | yes q ↦ subst (λ i. Fit (intText t i)) (sym q)
+        (fit-line _ _ (clean3 105 110 116 10 (omega arith) (omega arith) (omega arith)) (lit≤ tt) (root-clean 10 (lit< tt) t root-below)
+        (short-more (number-length 0 (lit< tt)) (short-more (lit≤ tt) (short-more (lit≤ tt) (short-more (number-length (granularityOf t 0) root-below) short-none)))) (lit≤ tt))
+    | no d ↦ subst (λ fs. Fit (lineText (105 ∷ 110 ∷ 116 ∷ []) fs)) (sym (passed _ _ _ (ne-eqb j 0 d)))
+        (fit-line _ _ (clean3 105 110 116 10 (omega arith) (omega arith) (omega arith)) (lit≤ tt) (numbers-clean 10 (lit< tt) (child-below j (omega arith) h)) (numbers-short (child-below j (omega arith) h)) (omega (arith, numbers-count (j ∷ parentOf t j ∷ parentPortOf t j ∷ granularityOf t j ∷ []))))
+  ]
+
+  -- the int lines, one after the other
+  record Reached (m : ℕ) (r : TreeRead) (ls : List (List ℕ)) : Type 0 where
+    line : ℕ
+    tree : Tree
+    agrees : Agrees t tree (t .ints) m
+    left : r ≡ readLines line tree ls []
+
+  int-next : (k n : ℕ) (u : Tree) → k < t .ints → Agrees t u k 0 → (w : Tree) × (treeLine n u (lineOf (intText t k)) ≡ given w) × Agrees t w (k + 1) 0
+  int-next zero n u h A = (_, ap (treeLine n u) (root-read t root-below) ∙ root-step t e u A n, agrees-root t e u A)
+  int-next (suc j) n u h A =
+      (_, ap (treeLine n u) (child-read t (suc j) (omega arith) (child-below (suc j) (omega arith) h)) ∙ child-step t e (suc j) (omega arith) h u A n, agrees-child t e (suc j) (omega arith) h u A)
+
+  ints-read : (c k n : ℕ) (u : Tree) (ls : List (List ℕ)) → k + c ≡ t .ints → Agrees t u k 0 → Reached 0 (readLines n u (rows c k (intText t) ++ ls) []) ls
+  unfolding rows
+  ints-read zero k n u ls q A = record { line = n; tree = u; agrees = subst (λ i. Agrees t u i 0) (omega arith) A; left = refl }
+  ints-read (suc c) k n u ls q A =
+      let w = int-next k n u (omega arith) A in
+      let a = line-given n u (w .0) (intText t k) (rows c (suc k) (intText t) ++ ls) [] (w .1) in
+      let R = ints-read c (suc k) (n + 1) (w .0) ls (omega arith) (subst (λ i. Agrees t (w .0) i 0) (add-one k) (w .2)) in
+      record { line = R .line; tree = R .tree; agrees = R .agrees; left = a ∙ R .left }
+
+  accs-read : (c m n : ℕ) (u : Tree) → m + c ≡ t .accs → Agrees t u (t .ints) m → Reached (t .accs) (readLines n u (rows c m (accText t)) []) []
+  unfolding rows
+  accs-read zero m n u q A = record { line = n; tree = u; agrees = subst (λ i. Agrees t u (t .ints) i) (omega arith) A; left = refl }
+  accs-read (suc c) m n u q A =
+      let l : m < t .accs = omega arith in
+      let a = line-given n u _ (accText t m) (rows c (suc m) (accText t)) [] (ap (treeLine n u) (acc-read t m (acc-below m l)) ∙ acc-step t e m l u A n) in
+      let R = accs-read c (suc m) (n + 1) (withAcc u (accEntry t m .values)) (omega arith) (subst (λ i. Agrees t (withAcc u (accEntry t m .values)) (t .ints) i) (add-one m) (agrees-acc t e m l u A)) in
+      record { line = R .line; tree = R .tree; agrees = R .agrees; left = a ∙ R .left }
+
+  -- nothing is missing
+  whole : complete t ≡ true
+  whole =
+      joined _ _ (joined _ _ (joined _ _ (lt-ltb 0 (t .bus .window) (S .window)) (lt-ltb 0 (t .ints) (S .some-ints))) (lt-ltb 0 (t .accs) (S .some-accs)))
+      (at-all (t .accs) (λ a. ltb 0 (limitOf t a)) (λ a l. lt-ltb 0 (limitOf t a) (S .limit a l .0)))
+
+  end-read : (n : ℕ) → readLines n t [] [] ≡ given t
+  unfolding readLines finish
+  end-read n = picked _ _ _ whole
+
+  lines-given : Sized t → readLines 1 emptyTree (treeLines t) [] ≡ given t
+  lines-given Z =
+      let a = line-given 1 emptyTree (withBus emptyTree (t .bus)) (busText t) (rows (t .ints) 0 (intText t) ++ rows (t .accs) 0 (accText t)) [] (ap (treeLine 1 emptyTree) (bus-read t bus-below) ∙ bus-step t e 1) in
+      let I = ints-read (t .ints) 0 2 (withBus emptyTree (t .bus)) (rows (t .accs) 0 (accText t)) (omega arith) (agrees-bus t e) in
+      let R = accs-read (t .accs) 0 (I .line) (I .tree) (omega arith) (I .agrees) in
+      a ∙ I .left ∙ R .left ∙ ap (λ (u : Tree). readLines (R .line) u [] []) (agrees-all t e Z (R .tree) (R .agrees)) ∙ end-read (R .line)
+
+  -- every configuration that keeps its rules is read from its text
+  pub text-given : Sized t → readTree (treeText t) ≡ given t
+  text-given Z =
+      let I = rows-clean (t .ints) 0 (intText t) (λ j l. int-fit j (omega arith)) in
+      let A = rows-clean (t .accs) 0 (accText t) (λ a l. acc-fit a (omega arith)) in
+      let n : length (rows (t .ints) 0 (intText t) ++ rows (t .accs) 0 (accText t)) ≡ t .ints + t .accs = length-append (rows (t .ints) 0 (intText t)) (rows (t .accs) 0 (accText t)) ∙ omega (arith, I .2, A .2) in
+      let f : length (treeText t) ≤ 114 * suc (length (rows (t .ints) 0 (intText t) ++ rows (t .accs) 0 (accText t))) = file-length (short-more (bus-fit .short) (both-short (I .1) (A .1))) in
+      let r = lines-read (all-more (bus-fit .clean) (both-clean (I .0) (A .0))) in
+      let b : length (treeText t) ≤ 65536 = omega (arith, f, n, S .most-ints, S .most-accs) in
+      tree-start (treeText t) b
+      ∙ ap₂ (readLines 1 emptyTree) (r .0) (r .1)
+      ∙ lines-given Z
+
+-- a configuration keeps its rules exactly if a tree file could have given it
+pub exactly-given : (t : Tree) → Sized t → (treeKeeps t ≡ true) ↔ ((s : List ℕ) × (readTree s ≡ given t))
+exactly-given t Z = (λ e. (treeText t, text-given t e Z), λ r. subst (λ (x : TreeRead). treeKeeps (x .tree) ≡ true) (r .1) (accepted-keeps (r .0) (ap (λ (x : TreeRead). x .answer) (r .1))))

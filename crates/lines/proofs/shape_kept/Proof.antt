@@ -1,0 +1,18 @@
+-- `shape_kept` meets its contract: the tests are those of the definition, on the form that `form_of` gives.
+use mathlib.Core.Path.{ap}
+use mathlib.Core.Bool.{_&&_, not}
+use lib.Dec.{eqb}
+use borrow.Author.Needs.{needs}
+use Rattle.lines.specs.declared.Form.{Form}
+use Rattle.lines.specs.Lines.{shaped}
+use Rattle.model.proofs.Lists.{and-cong as both}
+use Rattle.lines.proofs.shape_kept.Statement.{statement}
+use Rattle.lines.proofs.shape_kept.Tie as tie
+
+returns : tie.Need-returns
+unfolding shaped
+returns c =
+    both (ap (λ (f : Form). eqb (c .before .before .before .before .before .before .args .l .count) (f .count) && not (c .before .before .before .before .before .before .args .l .malformed)) (c .before .before .before .before .form-of .ensures)) (c .dashes-kept .ensures)
+
+pub shape-kept-spec : {M : Type 1} → statement M
+shape-kept-spec = tie.close (tie.spec (λ c κs. search needs) (λ c κs. search needs) returns)

@@ -1,0 +1,135 @@
+-- A line of a file: its record name, its fields, and the tests 1 and 2 of document 01 ("The tree on paper").
+--
+-- kindOf name          "A line begins with one of the record names bus, int or acc"; in a trace it is o
+-- named k              a line of record k before its fields
+-- push l f             line l with one field more; past the tenth, fields are only counted
+-- pushed l fs          line l with the fields fs; lineFrom ps: the line of the parts ps, the record name first
+-- lineOf s             the line that the bytes s write
+-- valueAt l i          the number in field i of line l, counted from 0; 0 where the field is no number
+-- dashAt l i           field i of line l is "-"
+-- formOf k             the fields of record k: how many, which may be "-" ("in any other field "-" is 1"), and their
+--                      limits, in the order of the paper
+-- noDashes             no field may be "-"
+-- dashKept f d i       field i is "-" only where it may be; dashesKept k d: so are all fields of record k
+-- shaped l             test 1: as many fields as the record has, none malformed, "-" only where it may stand
+-- limitKept f v i      field i is in its limits
+-- limitsKept k v       test 2: the numbers v are in the limits of record k; a "-", held as 0, is in the limits of both
+--                      fields where it may stand
+-- inTree k, inTrace k  record k may stand in a tree file, in a trace file
+use Prim.Native.Nat.{ℕ, _+_}
+use mathlib.Core.Bool.{Bool, true, false, _&&_, _||_, not}
+use mathlib.Core.List.{List, [], _∷_}
+use lib.ListN.{getD, set, replicate}
+use lib.Dec.{eqb}
+use Rattle.text.specs.declared.Field.{Field}
+use Rattle.text.specs.declared.Field.the-variants.{Malformed, Dash, Number}
+use Rattle.text.specs.Text.{fields, same, fieldOf}
+use Rattle.model.specs.Fold.{pick, all, within}
+use Rattle.lines.specs.declared.Kind.{Kind}
+use Rattle.lines.specs.declared.Kind.the-variants.{NoRecord, BusLine, IntLine, AccLine, OfferLine}
+use Rattle.lines.specs.declared.Line.{Line}
+use Rattle.lines.specs.declared.Form.{Form}
+
+-- "bus", "int", "acc", "o"
+unfoldable pub kindOf : List ℕ → Kind
+kindOf name =
+    pick (same name (98 ∷ 117 ∷ 115 ∷ [])) BusLine
+    (pick (same name (105 ∷ 110 ∷ 116 ∷ [])) IntLine
+    (pick (same name (97 ∷ 99 ∷ 99 ∷ [])) AccLine
+    (pick (same name (111 ∷ [])) OfferLine
+    NoRecord)))
+
+abbrev pub named : Kind → Line
+named k = record { kind = k; count = 0; malformed = false; dashes = replicate 10 false; values = replicate 10 0 }
+
+abbrev pub push : Line → Field → Line
+push l Malformed = record { kind = l .kind; count = l .count + 1; malformed = true; dashes = l .dashes; values = l .values }
+push l Dash =
+    record { kind = l .kind; count = l .count + 1; malformed = l .malformed; dashes = set (l .dashes) (l .count) true; values = l .values }
+push l (Number x) =
+    record { kind = l .kind; count = l .count + 1; malformed = l .malformed; dashes = l .dashes; values = set (l .values) (l .count) x }
+
+unfoldable pub pushed : Line → List (List ℕ) → Line
+pushed l [] = l
+pushed l (f ∷ fs) = pushed (push l (fieldOf f)) fs
+
+-- the first part of a line is the record name; a line has always a first part
+abbrev pub lineFrom : List (List ℕ) → Line
+lineFrom [] = named NoRecord
+lineFrom (name ∷ fs) = pushed (named (kindOf name)) fs
+
+unfoldable pub lineOf : List ℕ → Line
+lineOf s = lineFrom (fields s)
+
+abbrev pub valueAt : Line → ℕ → ℕ
+valueAt l i = getD (l .values) i 0
+
+abbrev pub dashAt : Line → ℕ → Bool
+dashAt l i = getD (l .dashes) i false
+
+abbrev pub noDashes : List Bool
+noDashes = replicate 10 false
+
+-- bus: P, tA, dA, dD, dB, pR, pW, tD, tB, B
+-- int: number, parent, port on the parent, granularity g
+-- acc: number, interconnect, port, phi, budget, Nr, Nw, C, T
+-- o:   slot, accelerator ("no limit of its own": the greatest of ten digits), count
+abbrev pub formOf : Kind → Form
+formOf NoRecord = record { count = 0; dashes = noDashes; lows = replicate 10 0; highs = replicate 10 0 }
+formOf BusLine =
+    record {
+      count = 10;
+      dashes = noDashes;
+      lows = 1 ∷ 1 ∷ 0 ∷ 0 ∷ 0 ∷ 0 ∷ 0 ∷ 1 ∷ 1 ∷ 1 ∷ [];
+      highs = 65535 ∷ 255 ∷ 255 ∷ 255 ∷ 255 ∷ 4095 ∷ 4095 ∷ 255 ∷ 255 ∷ 256 ∷ [];
+    }
+formOf IntLine =
+    record {
+      count = 4;
+      dashes = false ∷ true ∷ true ∷ false ∷ false ∷ false ∷ false ∷ false ∷ false ∷ false ∷ [];
+      lows = 0 ∷ 0 ∷ 0 ∷ 1 ∷ 0 ∷ 0 ∷ 0 ∷ 0 ∷ 0 ∷ 0 ∷ [];
+      highs = 14 ∷ 14 ∷ 7 ∷ 16 ∷ 0 ∷ 0 ∷ 0 ∷ 0 ∷ 0 ∷ 0 ∷ [];
+    }
+formOf AccLine =
+    record {
+      count = 9;
+      dashes = noDashes;
+      lows = 0 ∷ 0 ∷ 0 ∷ 1 ∷ 1 ∷ 0 ∷ 0 ∷ 0 ∷ 1 ∷ 0 ∷ [];
+      highs = 31 ∷ 14 ∷ 7 ∷ 16 ∷ 1024 ∷ 65535 ∷ 65535 ∷ 4294967295 ∷ 4294967295 ∷ 0 ∷ [];
+    }
+formOf OfferLine =
+    record {
+      count = 3;
+      dashes = noDashes;
+      lows = 0 ∷ 0 ∷ 1 ∷ 0 ∷ 0 ∷ 0 ∷ 0 ∷ 0 ∷ 0 ∷ 0 ∷ [];
+      highs = 4294967294 ∷ 9999999999 ∷ 16 ∷ 0 ∷ 0 ∷ 0 ∷ 0 ∷ 0 ∷ 0 ∷ 0 ∷ [];
+    }
+
+abbrev pub dashKept : Form → List Bool → ℕ → Bool
+dashKept f d i = getD (f .dashes) i false || not (getD d i false)
+
+abbrev pub dashesKept : Kind → List Bool → Bool
+dashesKept k d = all (formOf k .count) (dashKept (formOf k) d)
+
+unfoldable pub shaped : Line → Bool
+shaped l = eqb (l .count) (formOf (l .kind) .count) && not (l .malformed) && dashesKept (l .kind) (l .dashes)
+
+abbrev pub limitKept : Form → List ℕ → ℕ → Bool
+limitKept f v i = within (getD (f .lows) i 0) (getD v i 0) (getD (f .highs) i 0)
+
+abbrev pub limitsKept : Kind → List ℕ → Bool
+limitsKept k v = all (formOf k .count) (limitKept (formOf k) v)
+
+abbrev pub inTree : Kind → Bool
+inTree NoRecord = false
+inTree BusLine = true
+inTree IntLine = true
+inTree AccLine = true
+inTree OfferLine = false
+
+abbrev pub inTrace : Kind → Bool
+inTrace NoRecord = false
+inTrace BusLine = false
+inTrace IntLine = false
+inTrace AccLine = false
+inTrace OfferLine = true

@@ -1,0 +1,233 @@
+// A line of a file read into a struct, and tested against the form of its record; what a reader of files answers.
+//
+// Shape and limits of all records stand in one table. A line is placed only after both are tested.
+use model::Refusal;
+use model::number;
+use text::Field;
+use text::part_end;
+use text::read_field;
+use text::same_bytes;
+ghost use mathlib.Core.Path.{_≡_};
+ghost use Prim.Native.Nat.{_<_};
+ghost use Rattle.lines.specs.Answer.{answerNumber, answerLine};
+ghost use Rattle.lines.specs.Lines.{kindOf, named, push, lineOf, formOf, dashesKept, limitsKept, shaped};
+
+// What a line's record name says.
+pub enum Kind {
+    NoRecord,
+    BusLine,
+    IntLine,
+    AccLine,
+    OfferLine,
+}
+
+// A line: its record name, how many fields follow it, whether one of them is malformed, and of the first ten which are "-"
+// and the numbers of the others. A field that is no number is held as 0.
+pub struct Line {
+    pub kind: Kind,
+    pub count: usize,
+    pub malformed: bool,
+    pub dashes: [bool; 10],
+    pub values: [u64; 10],
+}
+
+// The fields of a record: how many, which may be "-", and the limits of each.
+pub struct Form {
+    pub count: usize,
+    pub dashes: [bool; 10],
+    pub lows: [u64; 10],
+    pub highs: [u64; 10],
+}
+
+fn kind_of(name: &[u8]) -> Kind
+    ensures { λ r. ⌜ r ≡ kindOf (now (name .entry)) ⌝ }
+{
+    if same_bytes(name, b"bus") {
+        return Kind::BusLine;
+    }
+    if same_bytes(name, b"int") {
+        return Kind::IntLine;
+    }
+    if same_bytes(name, b"acc") {
+        return Kind::AccLine;
+    }
+    if same_bytes(name, b"o") {
+        return Kind::OfferLine;
+    }
+    Kind::NoRecord
+}
+
+// A line of which only the record name is read.
+fn begun(kind: Kind) -> Line
+    ensures { λ r. ⌜ r ≡ named kind ⌝ }
+{
+    Line {
+        kind: kind,
+        count: 0,
+        malformed: false,
+        dashes: [false; 10],
+        values: [0; 10],
+    }
+}
+
+// The line with one field more. Past the tenth, fields are only counted.
+fn with_field(l: Line, f: Field) -> Line
+    requires { ⌜ l .count < 9223372036854775808 ⌝ }
+    ensures { λ r. ⌜ r ≡ push l f ⌝ }
+{
+    let mut r = l;
+    let i = l.count;
+    r.count = i + 1;
+    match f {
+        Field::Malformed => {
+            r.malformed = true;
+            r
+        }
+        Field::Dash => {
+            if i < 10 {
+                r.dashes[i] = true;
+            }
+            r
+        }
+        Field::Number(x) => {
+            if i < 10 {
+                r.values[i] = x;
+            }
+            r
+        }
+    }
+}
+
+// A line of a file: a part of it, without the LF. Each field is a part of the line.
+pub fn read_line(s: &[u8]) -> Line
+    ensures { λ r. ⌜ r ≡ lineOf (now (s .entry)) ⌝ }
+{
+    let mut end = part_end(s, 0, 9);
+    let mut r = begun(kind_of(&s[0..end]));
+    while end < s.len() {
+        let at = end + 1;
+        end = part_end(s, at, 9);
+        r = with_field(r, read_field(&s[at..end]));
+    }
+    r
+}
+
+// Parent and port of an int line may be "-".
+const ROOT_DASHES: [bool; 10] = [
+    false,
+    true,
+    true,
+    false,
+    false,
+    false,
+    false,
+    false,
+    false,
+    false,
+];
+
+pub fn form_of(kind: Kind) -> Form
+    ensures { λ r. ⌜ r ≡ formOf kind ⌝ }
+{
+    let none = [false; 10];
+    match kind {
+        Kind::NoRecord => Form {
+            count: 0,
+            dashes: none,
+            lows: [0; 10],
+            highs: [0; 10],
+        },
+        Kind::BusLine => Form {
+            count: 10,
+            dashes: none,
+            lows: [1, 1, 0, 0, 0, 0, 0, 1, 1, 1],
+            highs: [65535, 255, 255, 255, 255, 4095, 4095, 255, 255, 256],
+        },
+        Kind::IntLine => Form {
+            count: 4,
+            dashes: ROOT_DASHES,
+            lows: [0, 0, 0, 1, 0, 0, 0, 0, 0, 0],
+            highs: [14, 14, 7, 16, 0, 0, 0, 0, 0, 0],
+        },
+        Kind::AccLine => Form {
+            count: 9,
+            dashes: none,
+            lows: [0, 0, 0, 1, 1, 0, 0, 0, 1, 0],
+            highs: [31, 14, 7, 16, 1024, 65535, 65535, 4294967295, 4294967295, 0],
+        },
+        Kind::OfferLine => Form {
+            count: 3,
+            dashes: none,
+            lows: [0, 0, 1, 0, 0, 0, 0, 0, 0, 0],
+            highs: [4294967294, 9999999999, 16, 0, 0, 0, 0, 0, 0, 0],
+        },
+    }
+}
+
+// Each field that is "-" may be "-".
+fn dashes_kept(kind: Kind, dashes: [bool; 10]) -> bool
+    ensures { λ r. ⌜ r ≡ dashesKept kind dashes ⌝ }
+{
+    let f = form_of(kind);
+    let mut ok = true;
+    let mut i = 0;
+    while i < f.count {
+        ok = ok & (f.dashes[i] | !dashes[i]);
+        i += 1;
+    }
+    ok
+}
+
+// Test 1 of a line.
+pub fn shape_kept(l: Line) -> bool
+    ensures { λ r. ⌜ r ≡ shaped l ⌝ }
+{
+    let kind = l.kind;
+    let dashes = l.dashes;
+    let f = form_of(kind);
+    (l.count == f.count) & !l.malformed & dashes_kept(kind, dashes)
+}
+
+// Test 2 of a line, field by field.
+pub fn limits_kept(kind: Kind, values: [u64; 10]) -> bool
+    ensures { λ r. ⌜ r ≡ limitsKept kind values ⌝ }
+{
+    let f = form_of(kind);
+    let mut ok = true;
+    let mut i = 0;
+    while i < f.count {
+        ok = ok & ((f.lows[i] <= values[i]) & (values[i] <= f.highs[i]));
+        i += 1;
+    }
+    ok
+}
+
+// What a reader answers: accepted; refused, with the line; or refused because the configuration breaks its rules, which
+// has no line.
+pub enum FileAnswer {
+    Accepted,
+    Refused(Refusal, u32),
+    Broken,
+}
+
+// The number of a refusal in document 01's table; 0 where the file is accepted.
+pub fn answer_number(a: FileAnswer) -> u8
+    ensures { λ r. ⌜ r ≡ answerNumber a ⌝ }
+{
+    match a {
+        FileAnswer::Accepted => 0,
+        FileAnswer::Refused(r, _) => number(r),
+        FileAnswer::Broken => 11,
+    }
+}
+
+// The line of a refusal; 0 where it has none.
+pub fn answer_line(a: FileAnswer) -> u32
+    ensures { λ r. ⌜ r ≡ answerLine a ⌝ }
+{
+    match a {
+        FileAnswer::Accepted => 0,
+        FileAnswer::Refused(_, n) => n,
+        FileAnswer::Broken => 0,
+    }
+}

@@ -1,0 +1,2 @@
+pub mod TraceFile
+pub mod OfferText
