@@ -4,10 +4,13 @@ use std::path::Path;
 fn main() {
     let folder = Path::new(env!("CARGO_MANIFEST_DIR")).join("../target/staticlib");
     let archive = folder.join("librazhikum.a");
-    println!("cargo:rerun-if-changed={}", archive.display());
+    println!("cargo::rerun-if-changed={}", archive.display());
     if !archive.exists() {
-        panic!("target/staticlib/librazhikum.a is missing: run `rt staticlib razhikum` in the repository first");
+        println!(
+            "cargo::error=target/staticlib/librazhikum.a is missing: run `rt staticlib razhikum` in the repository first"
+        );
+        return;
     }
-    println!("cargo:rustc-link-search=native={}", folder.display());
-    println!("cargo:rustc-link-lib=static=razhikum");
+    println!("cargo::rustc-link-search=native={}", folder.display());
+    println!("cargo::rustc-link-lib=static=razhikum");
 }

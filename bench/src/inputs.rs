@@ -10,7 +10,7 @@ impl Random {
         Random(seed.wrapping_mul(0x9e37_79b9_7f4a_7c15) | 1)
     }
 
-    pub fn next(&mut self) -> u64 {
+    pub fn number(&mut self) -> u64 {
         self.0 ^= self.0 >> 12;
         self.0 ^= self.0 << 25;
         self.0 ^= self.0 >> 27;
@@ -19,7 +19,7 @@ impl Random {
 
     /// A number below n.
     pub fn below(&mut self, n: u64) -> u64 {
-        self.next() % n
+        self.number() % n
     }
 
     pub fn one_in(&mut self, n: u64) -> bool {
@@ -127,12 +127,43 @@ pub fn random_trace(random: &mut Random, accelerators: u64, lines: u64) -> Lines
 
 /// What stands in a damaged field.
 const FIELDS: [&str; 34] = [
-    "", "-", "--", "+1", "-1", "00", "01", "0", "1", "7", "8", "14", "15", "16", "17", "31", "32", "255", "256", "257",
-    "1024", "1025", "4095", "4096", "65535", "65536", "4294967294", "4294967295", "4294967296", "9999999999",
-    "10000000000", "1 ", "a", "0x1",
+    "",
+    "-",
+    "--",
+    "+1",
+    "-1",
+    "00",
+    "01",
+    "0",
+    "1",
+    "7",
+    "8",
+    "14",
+    "15",
+    "16",
+    "17",
+    "31",
+    "32",
+    "255",
+    "256",
+    "257",
+    "1024",
+    "1025",
+    "4095",
+    "4096",
+    "65535",
+    "65536",
+    "4294967294",
+    "4294967295",
+    "4294967296",
+    "9999999999",
+    "10000000000",
+    "1 ",
+    "a",
+    "0x1",
 ];
 
-/// What stands in the place of a record name or of a line.
+/// What stands in the place of a record name, or as a line.
 const NAMES: [&str; 12] = ["bus", "int", "acc", "o", "", "Bus", "bu", "buss", "ints", "oo", "\0", "-"];
 
 /// Lines with a few faults, of fields or of whole lines.
@@ -143,15 +174,16 @@ pub fn damage_lines(random: &mut Random, lines: &mut Lines) {
         }
         let n = lines.len() as u64;
         let at = random.below(n) as usize;
-        match random.below(10) {
+        match random.below(12) {
             0 => drop(lines.remove(at)),
             1 => lines.insert(at, lines[random.below(n) as usize].clone()),
             2 => lines.swap(at, random.below(n) as usize),
             3 => lines[at][0] = random.pick(&NAMES).to_string(),
             4 => lines.insert(at, vec![random.pick(&NAMES).to_string()]),
             5 => lines[at].push(random.pick(&FIELDS).to_string()),
-            6 => drop(lines[at].pop().filter(|_| n > 0)),
-            7 => copy_field(random, lines, at),
+            6 => drop(lines[at].pop()),
+            7 | 8 => copy_field(random, lines, at),
+            9 => deepen(lines),
             _ => {
                 let k = random.below(lines[at].len() as u64) as usize;
                 lines[at][k] = random.pick(&FIELDS).to_string();
@@ -167,6 +199,16 @@ fn copy_field(random: &mut Random, lines: &mut Lines, at: usize) {
     let k = random.below(lines[at].len() as u64) as usize;
     if let Some(value) = lines[other].get(k).cloned() {
         lines[at][k] = value;
+    }
+}
+
+/// Each interconnect hangs on the one before it, so that the fifth has level 5.
+fn deepen(lines: &mut Lines) {
+    let is_child = |line: &&mut Vec<String>| line.len() == 5 && line[0] == "int" && line[2] != "-";
+    for line in lines.iter_mut().filter(is_child) {
+        if let Ok(number @ 1..) = line[1].parse::<u64>() {
+            line[2] = (number - 1).to_string();
+        }
     }
 }
 
@@ -202,10 +244,7 @@ pub fn tree_of(window: u64, parents: &[(u64, u64)], homes: &[u64]) -> Vec<u8> {
         ports[port] = true;
         let budget = (2 * window).div_ceil(homes.len() as u64).min(1_024);
         let period = 1_000_000 * (a as u64 % 3 + 1);
-        lines.push(fields(
-            "acc",
-            &[a as u64, home, port as u64, 8, budget, 100, 50, 1_000, period],
-        ));
+        lines.push(fields("acc", &[a as u64, home, port as u64, 8, budget, 100, 50, 1_000, period]));
     }
     text(&lines)
 }

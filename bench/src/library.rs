@@ -41,12 +41,8 @@ mod raw {
 
     extern "C" {
         pub fn razhikum_read_tree(tree: *const u8, tree_bytes: usize) -> Reading;
-        pub fn razhikum_read_trace(
-            tree: *const u8,
-            tree_bytes: usize,
-            trace: *const u8,
-            trace_bytes: usize,
-        ) -> Reading;
+        pub fn razhikum_read_trace(tree: *const u8, tree_bytes: usize, trace: *const u8, trace_bytes: usize)
+            -> Reading;
         pub fn razhikum_report(tree: *const u8, tree_bytes: usize, out: *mut [u8; 65_536]) -> Page;
         pub fn razhikum_run(
             tree: *const u8,
@@ -75,13 +71,8 @@ pub fn read_tree(tree: &[u8]) -> Result<(), Refused> {
 
 /// Whether a tree file and, on its tree, a trace file are accepted.
 pub fn read_trace(tree: &[u8], trace: &[u8]) -> Result<(), FileRefused> {
-    let r = unsafe {
-        raw::razhikum_read_trace(tree.as_ptr(), tree.len(), trace.as_ptr(), trace.len())
-    };
-    let why = Refused {
-        number: r.number,
-        line: r.line,
-    };
+    let r = unsafe { raw::razhikum_read_trace(tree.as_ptr(), tree.len(), trace.as_ptr(), trace.len()) };
+    let why = Refused { number: r.number, line: r.line };
     match r.file {
         0 => Ok(()),
         1 => Err(FileRefused::Tree(why)),
@@ -98,19 +89,9 @@ pub fn report(tree: &[u8], page: &mut [u8; PAGE]) -> (usize, Result<(), Refused>
 /// Runs a trace on a tree and writes one byte a slot: the accelerator's number, or 255 for idle.
 pub fn run(tree: &[u8], trace: &[u8], out: &mut [u8]) -> Result<Ending, FileRefused> {
     let r = unsafe {
-        raw::razhikum_run(
-            tree.as_ptr(),
-            tree.len(),
-            trace.as_ptr(),
-            trace.len(),
-            out.as_mut_ptr(),
-            out.len(),
-        )
+        raw::razhikum_run(tree.as_ptr(), tree.len(), trace.as_ptr(), trace.len(), out.as_mut_ptr(), out.len())
     };
-    let why = Refused {
-        number: r.number,
-        line: r.line,
-    };
+    let why = Refused { number: r.number, line: r.line };
     match r.kind {
         0 => Ok(Ending::Done(r.slots)),
         1 => Ok(Ending::Stopped(r.slots)),

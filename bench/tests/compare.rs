@@ -3,7 +3,7 @@
 mod common;
 
 use common::simple::{self, Budget};
-use razhikum_bench::answers::{FileRefused, PAGE};
+use razhikum_bench::answers::{Ending, FileRefused, PAGE};
 use razhikum_bench::inputs::{damage_bytes, damage_lines, random_trace, random_tree, text, Random};
 use razhikum_bench::peer::read::{read_trace, read_tree};
 use razhikum_bench::{library, peer};
@@ -39,9 +39,9 @@ fn check<T: PartialEq + std::fmt::Debug>(what: &str, library: T, peer: T, files:
     panic!("{what}: the library gives {library:?}, the peer {peer:?}");
 }
 
-/// A tree file, one in three sound. A few are too long, or as long as may be.
+/// A tree file, two in six sound. A few are too long, or as long as may be.
 fn tree_file(random: &mut Random) -> Vec<u8> {
-    let (ints, accs) = *random.pick(&[(1, 3), (4, 6), (4, 6), (15, 32)]);
+    let (ints, accs) = *random.pick(&[(1, 3), (4, 6), (8, 8), (15, 32)]);
     let mut lines = random_tree(random, ints, accs);
     let kind = random.below(6);
     if kind >= 4 {
@@ -60,11 +60,7 @@ fn tree_file(random: &mut Random) -> Vec<u8> {
 fn compare_tree(file: &[u8], random: &mut Random, counts: &mut Counts, page: &mut [u8; PAGE]) {
     let read = read_tree(file).map(|_| ());
     check("tree reader", library::read_tree(file), read, &[file]);
-    let a = if random.one_in(4) {
-        random.below(256)
-    } else {
-        random.below(8)
-    } as u8;
+    let a = if random.one_in(4) { random.below(256) } else { random.below(8) } as u8;
     let of_peer = peer::bounds::bound(file, a);
     check("bound", library::bound(file, a), of_peer, &[file]);
 
@@ -125,16 +121,16 @@ fn run_files(random: &mut Random) -> (Vec<u8>, Vec<u8>, usize) {
     (tree, trace, slots as usize)
 }
 
-fn run_answer(answer: &Result<razhikum_bench::answers::Ending, FileRefused>) -> String {
+fn run_answer(answer: &Result<Ending, FileRefused>) -> String {
     match answer {
-        Ok(razhikum_bench::answers::Ending::Done(_)) => "done".into(),
-        Ok(razhikum_bench::answers::Ending::Stopped(_)) => "stopped".into(),
+        Ok(Ending::Done(_)) => "done".into(),
+        Ok(Ending::Stopped(_)) => "stopped".into(),
         Err(FileRefused::Tree(r)) => format!("tree refused {}", r.number),
         Err(FileRefused::Trace(r)) => format!("trace or buffer refused {}", r.number),
     }
 }
 
-/// Answers how many slots were used where the run is not refused, and whether a budget over the whole run would differ.
+/// Answers whether a budget over the whole run would differ.
 fn compare_run(tree: &[u8], trace: &[u8], slots: usize, counts: &mut Counts) -> bool {
     let read = read_tree(tree)
         .map_err(FileRefused::Tree)

@@ -32,9 +32,8 @@ fn edge_files() {
         rest = after;
         let line = expected.next().expect("an answer for each file");
         let peer = if kind == "t" {
-            let figures = |t: razhikum_bench::peer::read::Tree| {
-                (t.interconnects.len() as u64, t.accelerators.len() as u64)
-            };
+            let figures =
+                |t: razhikum_bench::peer::read::Tree| (t.interconnects.len() as u64, t.accelerators.len() as u64);
             assert_eq!(library::read_tree(file), read_tree(file).map(|_| ()), "{name}");
             answer(name, read_tree(file), figures)
         } else {

@@ -63,15 +63,7 @@ fn bound_with(tree: &Tree, beneath: &[u64; 15], a: usize) -> Bound {
         + reads * slot_read
         + accelerator.writes * alone_write
         + writes * slot_write;
-    Bound {
-        level,
-        share,
-        reads,
-        writes,
-        response,
-        period: accelerator.period,
-        meets: response <= accelerator.period,
-    }
+    Bound { level, share, reads, writes, response, period: accelerator.period, meets: response <= accelerator.period }
 }
 
 /// The bounds of all accelerators, rising by number.

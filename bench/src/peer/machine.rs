@@ -66,15 +66,7 @@ impl Machine {
             record.interconnect = from.interconnect;
             record.port = from.port;
         }
-        Machine {
-            turns,
-            records,
-            holding: 0,
-            ready: 0,
-            slot: 0,
-            left: tree.bus.window,
-            window: tree.bus.window,
-        }
+        Machine { turns, records, holding: 0, ready: 0, slot: 0, left: tree.bus.window, window: tree.bus.window }
     }
 
     pub fn slot(&self) -> u32 {
@@ -130,11 +122,7 @@ impl Machine {
 
     /// One slot: the accelerator served, or 255.
     pub fn serve(&mut self) -> u8 {
-        let served = if self.turns[0].live == 0 {
-            IDLE
-        } else {
-            self.descend()
-        };
+        let served = if self.turns[0].live == 0 { IDLE } else { self.descend() };
         self.slot += 1;
         self.left -= 1;
         if self.left == 0 {

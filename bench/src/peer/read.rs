@@ -149,32 +149,13 @@ fn in_limits(values: &[u64], limits: &[(u64, u64)]) -> Result<(), u8> {
 const U32: u64 = 4_294_967_295;
 
 /// P, tA, dA, dD, dB, pR, pW, tD, tB, B
-const BUS: [(u64, u64); 10] = [
-    (1, 65_535),
-    (1, 255),
-    (0, 255),
-    (0, 255),
-    (0, 255),
-    (0, 4_095),
-    (0, 4_095),
-    (1, 255),
-    (1, 255),
-    (1, 256),
-];
+const BUS: [(u64, u64); 10] =
+    [(1, 65_535), (1, 255), (0, 255), (0, 255), (0, 255), (0, 4_095), (0, 4_095), (1, 255), (1, 255), (1, 256)];
 /// number, parent, port, g
 const INT: [(u64, u64); 4] = [(0, 14), (0, 14), (0, 7), (1, 16)];
 /// number, interconnect, port, phi, budget, Nr, Nw, C, T
-const ACC: [(u64, u64); 9] = [
-    (0, 31),
-    (0, 14),
-    (0, 7),
-    (1, 16),
-    (1, 1_024),
-    (0, 65_535),
-    (0, 65_535),
-    (0, U32),
-    (1, U32),
-];
+const ACC: [(u64, u64); 9] =
+    [(0, 31), (0, 14), (0, 7), (1, 16), (1, 1_024), (0, 65_535), (0, 65_535), (0, U32), (1, U32)];
 
 /// A tree file as far as it is read.
 #[derive(Default)]
@@ -204,39 +185,18 @@ impl Reading {
             return Err(ORDER);
         }
         let [window, ta, da, dd, db, pr, pw, td, tb, burst] = v;
-        self.bus = Some(Bus {
-            window: window as u32,
-            ta,
-            da,
-            dd,
-            db,
-            pr,
-            pw,
-            td,
-            tb,
-            burst,
-        });
+        self.bus = Some(Bus { window: window as u32, ta, da, dd, db, pr, pw, td, tb, burst });
         Ok(())
     }
 
-    fn int_line(
-        &mut self,
-        number: u64,
-        parent: Option<u64>,
-        port: Option<u64>,
-        granularity: u64,
-    ) -> Result<(), u8> {
+    fn int_line(&mut self, number: u64, parent: Option<u64>, port: Option<u64>, granularity: u64) -> Result<(), u8> {
         let values = [number, parent.unwrap_or(0), port.unwrap_or(0), granularity];
         in_limits(&values, &INT)?;
         let comes_next = number == self.interconnects.len() as u64;
         if self.bus.is_none() || self.accelerators.iter().any(Option::is_some) || !comes_next {
             return Err(ORDER);
         }
-        let mut new = Interconnect {
-            granularity: granularity as u8,
-            level: 1,
-            ..Default::default()
-        };
+        let mut new = Interconnect { granularity: granularity as u8, level: 1, ..Default::default() };
         match (number, parent, port) {
             (0, None, None) => {}
             (1.., Some(parent), Some(port)) if parent < number => {
@@ -293,11 +253,7 @@ impl Reading {
         if self.interconnects.is_empty() || given == 0 || accelerators.len() < given {
             return None;
         }
-        Some(Tree {
-            bus: self.bus?,
-            interconnects: self.interconnects,
-            accelerators,
-        })
+        Some(Tree { bus: self.bus?, interconnects: self.interconnects, accelerators })
     }
 }
 
@@ -318,18 +274,13 @@ fn int_fields(cursor: &mut Cursor) -> Option<IntFields> {
 
 pub fn read_tree(text: &[u8]) -> Result<Tree, Refused> {
     if text.len() > LIMIT {
-        return Err(Refused {
-            number: VALUE,
-            line: 0,
-        });
+        return Err(Refused { number: VALUE, line: 0 });
     }
     let mut cursor = Cursor { text, at: 0 };
     let mut reading = Reading::default();
     let mut line = 1;
     while !cursor.is_at_end() {
-        reading
-            .line(&mut cursor)
-            .map_err(|number| Refused { number, line })?;
+        reading.line(&mut cursor).map_err(|number| Refused { number, line })?;
         line += 1;
     }
     let number = ORDER;
@@ -339,10 +290,7 @@ pub fn read_tree(text: &[u8]) -> Result<Tree, Refused> {
 /// The requests of a trace on a tree of so many accelerators.
 pub fn read_trace(accelerators: usize, text: &[u8]) -> Result<Vec<Request>, Refused> {
     if text.len() > LIMIT {
-        return Err(Refused {
-            number: VALUE,
-            line: 0,
-        });
+        return Err(Refused { number: VALUE, line: 0 });
     }
     let mut cursor = Cursor { text, at: 0 };
     let mut requests = Vec::with_capacity(text.len() / 8);
@@ -350,8 +298,7 @@ pub fn read_trace(accelerators: usize, text: &[u8]) -> Result<Vec<Request>, Refu
     let mut last = 0;
     let mut line = 1;
     while !cursor.is_at_end() {
-        let request = offer(&mut cursor, accelerators, last, &mut totals)
-            .map_err(|number| Refused { number, line })?;
+        let request = offer(&mut cursor, accelerators, last, &mut totals).map_err(|number| Refused { number, line })?;
         last = request.slot;
         requests.push(request);
         line += 1;
@@ -360,12 +307,7 @@ pub fn read_trace(accelerators: usize, text: &[u8]) -> Result<Vec<Request>, Refu
 }
 
 /// One line of a trace: "1, 2 by field, 7, 6, 2 by total".
-fn offer(
-    cursor: &mut Cursor,
-    accelerators: usize,
-    last: u32,
-    totals: &mut [u32; 32],
-) -> Result<Request, u8> {
+fn offer(cursor: &mut Cursor, accelerators: usize, last: u32, totals: &mut [u32; 32]) -> Result<Request, u8> {
     if !cursor.name(b"o") {
         return Err(SHAPE);
     }
@@ -384,9 +326,5 @@ fn offer(
     if *total > 65_535 {
         return Err(VALUE);
     }
-    Ok(Request {
-        slot: slot as u32,
-        accelerator: accelerator as u8,
-        count: count as u8,
-    })
+    Ok(Request { slot: slot as u32, accelerator: accelerator as u8, count: count as u8 })
 }
