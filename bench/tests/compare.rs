@@ -64,9 +64,9 @@ fn compare_tree(file: &[u8], random: &mut Random, counts: &mut Counts, page: &mu
     let of_peer = peer::bounds::bound(file, a);
     check("bound", library::bound(file, a), of_peer, &[file]);
 
-    // The bytes past the text keep what was there.
+    // The bytes past the text keep what was there: of most pages the next few thousand are compared, of some all.
     let filled = random.below(256) as u8;
-    let room = 4_096;
+    let room = if random.one_in(500) { PAGE } else { 4_096 };
     page[..room].fill(filled);
     let (bytes, answer) = library::report(file, page);
     let mut expected = Vec::new();
