@@ -59,8 +59,8 @@ fn fields(name: &str, numbers: &[u64]) -> Vec<String> {
     line
 }
 
-/// A sound tree of at most so many interconnects and accelerators. Windows and budgets are small, so that budgets are used up.
-pub fn random_tree(random: &mut Random, ints: u64, accs: u64) -> Lines {
+/// A sound bus line. Most windows are short, so that a run sees many.
+fn random_bus(random: &mut Random) -> Vec<String> {
     let window = match random.below(4) {
         0 => random.within(1, 65_535),
         _ => 1 + random.below(12),
@@ -72,43 +72,57 @@ pub fn random_tree(random: &mut Random, ints: u64, accs: u64) -> Lines {
     for (low, high) in [(1, 255), (1, 255), (1, 256)] {
         bus.push(random.within(low, high));
     }
-    let mut lines = vec![fields("bus", &bus)];
-    let mut free: Vec<(u64, u64)> = (0..8).map(|port| (0, port)).collect();
+    fields("bus", &bus)
+}
+
+/// A place for an accelerator or an interconnect: an interconnect and its port.
+type Place = (u64, u64);
+
+/// Takes one of the free places.
+fn take_place(random: &mut Random, free: &mut Vec<Place>) -> Place {
+    let at = random.below(free.len() as u64) as usize;
+    free.swap_remove(at)
+}
+
+/// Sound int lines, at most so many, and the places that are left.
+fn random_ints(random: &mut Random, most: u64, lines: &mut Lines) -> Vec<Place> {
+    let mut free: Vec<Place> = (0..8).map(|port| (0, port)).collect();
     let mut levels = vec![1];
-    lines.push(vec!["int".into(), "0".into(), "-".into(), "-".into()]);
-    lines[1].push(random.within(1, 16).to_string());
-    for number in 1..1 + random.below(ints) {
-        let place = random.below(free.len() as u64) as usize;
-        let (parent, port) = free[place];
+    let granularity = random.within(1, 16).to_string();
+    lines.push(vec!["int".into(), "0".into(), "-".into(), "-".into(), granularity]);
+    for number in 1..1 + random.below(most) {
+        let (parent, port) = take_place(random, &mut free);
         if levels[parent as usize] == 4 {
+            free.push((parent, port));
             break;
         }
-        free.swap_remove(place);
         levels.push(levels[parent as usize] + 1);
         free.extend((0..8).map(|port| (number, port)));
-        let granularity = random.within(1, 16);
-        lines.push(fields("int", &[number, parent, port, granularity]));
+        lines.push(fields("int", &[number, parent, port, random.within(1, 16)]));
     }
+    free
+}
+
+/// A sound tree of at most so many interconnects and accelerators, whose lines come in any order.
+pub fn random_tree(random: &mut Random, ints: u64, accs: u64) -> Lines {
+    let mut lines = vec![random_bus(random)];
+    let mut free = random_ints(random, ints, &mut lines);
     let count = 1 + random.below(accs.min(free.len() as u64));
     let mut numbers: Vec<u64> = (0..count).collect();
-    while let Some(number) = numbers.pop() {
-        let place = random.below(free.len() as u64) as usize;
-        let (interconnect, port) = free.swap_remove(place);
-        let phi = random.within(1, 16);
-        let budget = random.within(1, 1_024);
-        let mut acc = vec![number, interconnect, port, phi, budget];
-        for (low, high) in [(0, 65_535), (0, 65_535), (0, 4_294_967_295), (1, 4_294_967_295)] {
+    while !numbers.is_empty() {
+        let at = random.below(numbers.len() as u64) as usize;
+        let number = numbers.swap_remove(at);
+        let (interconnect, port) = take_place(random, &mut free);
+        let mut acc = vec![number, interconnect, port];
+        for (low, high) in [(1, 16), (1, 1_024), (0, 65_535), (0, 65_535), (0, U32), (1, U32)] {
             acc.push(random.within(low, high));
         }
         lines.push(fields("acc", &acc));
-        if !numbers.is_empty() && random.one_in(2) {
-            let other = random.below(numbers.len() as u64) as usize;
-            let last = numbers.len() - 1;
-            numbers.swap(other, last);
-        }
     }
     lines
 }
+
+const U32: u64 = 4_294_967_295;
 
 /// A sound trace of at most so many lines, with slots close together.
 pub fn random_trace(random: &mut Random, accelerators: u64, lines: u64) -> Lines {

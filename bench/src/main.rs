@@ -184,35 +184,47 @@ fn write_examples() {
     std::fs::write(folder.join("full.tree"), tree).expect("written");
 }
 
-fn main() {
-    if std::env::args().nth(1).as_deref() == Some("examples") {
-        return write_examples();
-    }
-    let (small, middle, full) = (small_tree(), middle_tree(), full_tree());
+/// A ratio that the last lines repeat.
+type Target = (&'static str, f64);
+
+fn time_reading(small: &[u8], middle: &[u8], full: &[u8]) -> Vec<Target> {
     let long_trace = b"o\t0\t0\t1\n".repeat(8_192);
-    println!("Processor time, median of {SAMPLES} samples each. A ratio above 1 says that the library takes longer.");
-
     heading("reading and bounds");
-    reading_row("small tree, read", &small);
-    reading_row("middle tree, read", &middle);
-    let reading = reading_row("full tree, read", &full);
-    let trace = trace_row("trace of 65,536 bytes, 8,192 lines, read", &full, &long_trace);
-    trace_row("trace of the full tree, read", &full, &busy_trace(&full, SLOTS));
-    bounds_row("small tree, bounds of all", &small);
-    bounds_row("middle tree, bounds of all", &middle);
-    let bounds = bounds_row("full tree, bounds of all", &full);
-    report_row("small tree, report", &small);
-    report_row("middle tree, report", &middle);
-    let report = report_row("full tree, report", &full);
+    reading_row("small tree, read", small);
+    reading_row("middle tree, read", middle);
+    let reading = reading_row("full tree, read", full);
+    let trace = trace_row("trace of 65,536 bytes, 8,192 lines, read", full, &long_trace);
+    trace_row("trace of the full tree, read", full, &busy_trace(full, SLOTS));
+    bounds_row("small tree, bounds of all", small);
+    bounds_row("middle tree, bounds of all", middle);
+    let bounds = bounds_row("full tree, bounds of all", full);
+    report_row("small tree, report", small);
+    report_row("middle tree, report", middle);
+    let report = report_row("full tree, report", full);
+    vec![
+        ("full tree, read", reading),
+        ("trace of 65,536 bytes, read", trace),
+        ("full tree, bounds of all", bounds),
+        ("full tree, report", report),
+    ]
+}
 
+fn time_runs(small: &[u8], middle: &[u8], full: &[u8]) -> Vec<Target> {
     heading("65,536 slots");
-    let small_run = run_row("small tree: 1 interconnect, 2 accelerators", &small, SLOTS);
-    let middle_run = run_row("middle tree: 4 and 12, 3 levels", &middle, SLOTS);
-    let full_run = run_row("full tree: 15 and 32, 4 levels", &full, SLOTS);
+    let of_small = run_row("small tree: 1 interconnect, 2 accelerators", small, SLOTS);
+    let of_middle = run_row("middle tree: 4 and 12, 3 levels", middle, SLOTS);
+    let of_full = run_row("full tree: 15 and 32, 4 levels", full, SLOTS);
+    vec![
+        ("small tree, 65,536 slots", of_small),
+        ("middle tree, 65,536 slots", of_middle),
+        ("full tree, 65,536 slots", of_full),
+    ]
+}
 
+fn time_growth(full: &[u8]) {
     heading("growth with slots, full tree");
     for slots in [8_192, 16_384, 32_768, 65_536] {
-        run_row(&format!("{slots} slots"), &full, slots);
+        run_row(&format!("{slots} slots"), full, slots);
     }
     heading("growth with accelerators, 2 levels");
     for n in [4, 8, 16, 32] {
@@ -222,17 +234,24 @@ fn main() {
     for levels in 1..=4 {
         run_row(&format!("level {levels}"), &deep_tree(levels), SLOTS);
     }
+}
+
+fn main() {
+    if std::env::args().nth(1).as_deref() == Some("examples") {
+        return write_examples();
+    }
+    let (small, middle, full) = (small_tree(), middle_tree(), full_tree());
+    println!("Processor time, median of {SAMPLES} samples each. A ratio above 1 says that the library takes longer.");
+    let mut targets = time_reading(&small, &middle, &full);
+    targets.extend(time_runs(&small, &middle, &full));
+    time_growth(&full);
 
     println!("\nprograms, from start to end by the wall clock");
     program_row("report", &[], Some("examples/full.tree"));
     program_row("simulate", &["examples/full.tree", "examples/full.trace"], None);
 
     println!();
-    println!("full tree, read: library/peer {reading:.2}");
-    println!("trace of 65,536 bytes, read: library/peer {trace:.2}");
-    println!("full tree, bounds of all: library/peer {bounds:.2}");
-    println!("full tree, report: library/peer {report:.2}");
-    println!("small tree, 65,536 slots: library/peer {small_run:.2}");
-    println!("middle tree, 65,536 slots: library/peer {middle_run:.2}");
-    println!("full tree, 65,536 slots: library/peer {full_run:.2}");
+    for (what, ratio) in targets {
+        println!("{what}: library/peer {ratio:.2}");
+    }
 }

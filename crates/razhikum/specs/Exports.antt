@@ -8,7 +8,8 @@
 -- refusedBy k n l       an outcome of kind k, refused by number n at line l
 -- outcomeOf x           how a run ended, as numbers: kind 0 done, 1 stopped, 3 refused
 -- treeRefused x         the outcome where the tree's reading answers the refusal x: kind 2
--- outcomeFrom q s d     the outcome of trace s on the tree of reading q over the buffer d; bufferFrom q s d: the buffer after it
+-- outcomeFrom q s d     the outcome of trace s on the tree of reading q over the buffer d
+-- bufferFrom q s d      the buffer d after it: a refused tree leaves it as it was
 -- unbounded n l         no bounds, refused by number n at line l
 -- rowOf x               what a bound answers, as numbers; 7 and 11 have no line
 -- rowFrom q a           the bounds of accelerator a on the tree of reading q
