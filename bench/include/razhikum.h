@@ -1,0 +1,103 @@
+/* The Razhikum planner as a static library, librazhikum.a, for x86-64.
+ *
+ * The rules, and the numbers of refusals, are those of document 01. Every function answers every input: none has a
+ * condition on the values that it is given. What each answers is proved, refusals included.
+ *
+ * What a caller owes is only what C owes any function: a pointer is not null, not even with a length of 0, and has as many
+ * bytes behind it as its length says; nothing else writes them during the call; and an `out` overlaps no other argument.
+ * A file is passed as its bytes and their number. A file of more than 65,536 bytes is refused like any other.
+ *
+ * In every answer `number` is the number of a refusal, or 0 where nothing is refused, and `line` its line, counted from 1,
+ * or 0 where it has none (the size of a file or of a buffer; 7 and 11 of a call).
+ */
+#ifndef RAZHIKUM_H
+#define RAZHIKUM_H
+
+#include <stdbool.h>
+#include <stddef.h>
+#include <stdint.h>
+
+#ifdef __cplusplus
+extern "C" {
+#endif
+
+/* The size of the page that razhikum_report writes on. */
+#define RAZHIKUM_PAGE 65536
+
+/* The most slots of a run: a larger buffer is refused by 2, with line 0. */
+#define RAZHIKUM_SLOTS 65536
+
+/* The byte of an idle slot. */
+#define RAZHIKUM_IDLE 255
+
+/* razhikum_reading.file: which file is refused. */
+enum { RAZHIKUM_FILE_NONE = 0, RAZHIKUM_FILE_TREE = 1, RAZHIKUM_FILE_TRACE = 2 };
+
+/* razhikum_outcome.kind: how a run ended. The last stands for a refused trace and for a buffer that is too large. */
+enum {
+    RAZHIKUM_DONE = 0,
+    RAZHIKUM_STOPPED = 1,
+    RAZHIKUM_TREE_REFUSED = 2,
+    RAZHIKUM_TRACE_REFUSED = 3
+};
+
+/* What a reader answers. */
+typedef struct {
+    uint8_t file;
+    uint8_t number;
+    uint32_t line;
+} razhikum_reading;
+
+/* A text put on a page: how many bytes it has, and the refusal that it tells. */
+typedef struct {
+    size_t bytes;
+    uint8_t number;
+    uint32_t line;
+} razhikum_page;
+
+/* How a run ended. `slots` is the number of slots used, 0 on a refusal. */
+typedef struct {
+    uint8_t kind;
+    uint8_t number;
+    uint32_t line;
+    uint32_t slots;
+} razhikum_outcome;
+
+/* The bounds of an accelerator: its level, whether it meets its period, its share, the interference of its reads and of
+ * its writes in slots, its response and its period in clock cycles. On a refusal all of these are 0. */
+typedef struct {
+    uint8_t number;
+    uint32_t line;
+    uint8_t level;
+    bool meets;
+    uint64_t share;
+    uint64_t reads;
+    uint64_t writes;
+    uint64_t response;
+    uint64_t period;
+} razhikum_row;
+
+/* Reads a tree file: accepted, or refused by 1 to 5. */
+razhikum_reading razhikum_read_tree(const uint8_t *tree, size_t tree_bytes);
+
+/* Reads a tree file and, on its tree, a trace file: accepted, or which of the two is refused. A tree that is refused comes
+ * first. */
+razhikum_reading razhikum_read_trace(const uint8_t *tree, size_t tree_bytes, const uint8_t *trace, size_t trace_bytes);
+
+/* Puts the report of a tree file, or its refusal as one line, at the beginning of `out`, which has RAZHIKUM_PAGE bytes.
+ * The bytes past the text keep their contents. */
+razhikum_page razhikum_report(const uint8_t *tree, size_t tree_bytes, uint8_t *out);
+
+/* Runs a trace on a tree and writes one byte a slot into `out`: the number of the accelerator served, or RAZHIKUM_IDLE. The
+ * bytes past the slots used keep their contents, and on a refusal all do. */
+razhikum_outcome razhikum_run(
+    const uint8_t *tree, size_t tree_bytes, const uint8_t *trace, size_t trace_bytes, uint8_t *out, size_t out_bytes);
+
+/* The bounds of an accelerator of a tree file: refused as the tree is, or by 7 where the tree has no such accelerator. */
+razhikum_row razhikum_bound(const uint8_t *tree, size_t tree_bytes, uint8_t accelerator);
+
+#ifdef __cplusplus
+}
+#endif
+
+#endif

@@ -1,0 +1,313 @@
+//! Random and damaged files for the comparison, and busy trees for the timing. All are made from a seed.
+use crate::peer::machine::Machine;
+use crate::peer::read::{read_tree, Tree};
+
+/// A xorshift generator.
+pub struct Random(u64);
+
+impl Random {
+    pub fn new(seed: u64) -> Random {
+        Random(seed.wrapping_mul(0x9e37_79b9_7f4a_7c15) | 1)
+    }
+
+    pub fn number(&mut self) -> u64 {
+        self.0 ^= self.0 >> 12;
+        self.0 ^= self.0 << 25;
+        self.0 ^= self.0 >> 27;
+        self.0.wrapping_mul(0x2545_f491_4f6c_dd1d) >> 16
+    }
+
+    /// A number below n.
+    pub fn below(&mut self, n: u64) -> u64 {
+        self.number() % n
+    }
+
+    pub fn one_in(&mut self, n: u64) -> bool {
+        self.below(n) == 0
+    }
+
+    pub fn pick<'a, T>(&mut self, from: &'a [T]) -> &'a T {
+        &from[self.below(from.len() as u64) as usize]
+    }
+
+    /// A number of these limits: often an end, often near the lower end, else any.
+    fn within(&mut self, low: u64, high: u64) -> u64 {
+        match self.below(8) {
+            0 => low,
+            1 => high,
+            2..=4 => low + self.below((high - low + 1).min(8)),
+            _ => low + self.below(high - low + 1),
+        }
+    }
+}
+
+/// A file as its lines, each a list of fields.
+pub type Lines = Vec<Vec<String>>;
+
+pub fn text(lines: &Lines) -> Vec<u8> {
+    let mut text = Vec::new();
+    for line in lines {
+        text.extend_from_slice(line.join("\t").as_bytes());
+        text.push(b'\n');
+    }
+    text
+}
+
+fn fields(name: &str, numbers: &[u64]) -> Vec<String> {
+    let mut line = vec![name.to_string()];
+    line.extend(numbers.iter().map(u64::to_string));
+    line
+}
+
+/// A sound bus line. Most windows are short, so that a run sees many.
+fn random_bus(random: &mut Random) -> Vec<String> {
+    let window = match random.below(4) {
+        0 => random.within(1, 65_535),
+        _ => 1 + random.below(12),
+    };
+    let mut bus = vec![window];
+    for (low, high) in [(1, 255), (0, 255), (0, 255), (0, 255), (0, 4_095), (0, 4_095)] {
+        bus.push(random.within(low, high));
+    }
+    for (low, high) in [(1, 255), (1, 255), (1, 256)] {
+        bus.push(random.within(low, high));
+    }
+    fields("bus", &bus)
+}
+
+/// A place for an accelerator or an interconnect: an interconnect and its port.
+type Place = (u64, u64);
+
+/// Takes one of the free places.
+fn take_place(random: &mut Random, free: &mut Vec<Place>) -> Place {
+    let at = random.below(free.len() as u64) as usize;
+    free.swap_remove(at)
+}
+
+/// Sound int lines, at most so many, and the places that are left.
+fn random_ints(random: &mut Random, most: u64, lines: &mut Lines) -> Vec<Place> {
+    let mut free: Vec<Place> = (0..8).map(|port| (0, port)).collect();
+    let mut levels = vec![1];
+    let granularity = random.within(1, 16).to_string();
+    lines.push(vec!["int".into(), "0".into(), "-".into(), "-".into(), granularity]);
+    for number in 1..1 + random.below(most) {
+        let (parent, port) = take_place(random, &mut free);
+        if levels[parent as usize] == 4 {
+            free.push((parent, port));
+            break;
+        }
+        levels.push(levels[parent as usize] + 1);
+        free.extend((0..8).map(|port| (number, port)));
+        lines.push(fields("int", &[number, parent, port, random.within(1, 16)]));
+    }
+    free
+}
+
+/// A sound tree of at most so many interconnects and accelerators, whose lines come in any order.
+pub fn random_tree(random: &mut Random, ints: u64, accs: u64) -> Lines {
+    let mut lines = vec![random_bus(random)];
+    let mut free = random_ints(random, ints, &mut lines);
+    let count = 1 + random.below(accs.min(free.len() as u64));
+    let mut numbers: Vec<u64> = (0..count).collect();
+    while !numbers.is_empty() {
+        let at = random.below(numbers.len() as u64) as usize;
+        let number = numbers.swap_remove(at);
+        let (interconnect, port) = take_place(random, &mut free);
+        let mut acc = vec![number, interconnect, port];
+        for (low, high) in [(1, 16), (1, 1_024), (0, 65_535), (0, 65_535), (0, U32), (1, U32)] {
+            acc.push(random.within(low, high));
+        }
+        lines.push(fields("acc", &acc));
+    }
+    lines
+}
+
+const U32: u64 = 4_294_967_295;
+
+/// A sound trace of at most so many lines, with slots close together.
+pub fn random_trace(random: &mut Random, accelerators: u64, lines: u64) -> Lines {
+    let mut slot = 0;
+    let step = 1 + random.below(6);
+    let most = 1 + random.below(16);
+    (0..random.below(lines + 1))
+        .map(|_| {
+            slot += random.below(step);
+            let a = random.below(accelerators);
+            let count = 1 + random.below(most);
+            fields("o", &[slot, a, count])
+        })
+        .collect()
+}
+
+/// What stands in a damaged field.
+const FIELDS: [&str; 34] = [
+    "",
+    "-",
+    "--",
+    "+1",
+    "-1",
+    "00",
+    "01",
+    "0",
+    "1",
+    "7",
+    "8",
+    "14",
+    "15",
+    "16",
+    "17",
+    "31",
+    "32",
+    "255",
+    "256",
+    "257",
+    "1024",
+    "1025",
+    "4095",
+    "4096",
+    "65535",
+    "65536",
+    "4294967294",
+    "4294967295",
+    "4294967296",
+    "9999999999",
+    "10000000000",
+    "1 ",
+    "a",
+    "0x1",
+];
+
+/// What stands in the place of a record name, or as a line.
+const NAMES: [&str; 12] = ["bus", "int", "acc", "o", "", "Bus", "bu", "buss", "ints", "oo", "\0", "-"];
+
+/// Lines with a few faults, of fields or of whole lines.
+pub fn damage_lines(random: &mut Random, lines: &mut Lines) {
+    for _ in 0..1 + random.below(2) {
+        if lines.is_empty() {
+            return;
+        }
+        let n = lines.len() as u64;
+        let at = random.below(n) as usize;
+        match random.below(12) {
+            0 => drop(lines.remove(at)),
+            1 => lines.insert(at, lines[random.below(n) as usize].clone()),
+            2 => lines.swap(at, random.below(n) as usize),
+            3 => lines[at][0] = random.pick(&NAMES).to_string(),
+            4 => lines.insert(at, vec![random.pick(&NAMES).to_string()]),
+            5 => lines[at].push(random.pick(&FIELDS).to_string()),
+            6 => drop(lines[at].pop()),
+            7 | 8 => copy_field(random, lines, at),
+            9 => deepen(lines),
+            _ => {
+                let k = random.below(lines[at].len() as u64) as usize;
+                lines[at][k] = random.pick(&FIELDS).to_string();
+            }
+        }
+        lines.retain(|line| !line.is_empty());
+    }
+}
+
+/// A field takes the value of the same field of another line, as with a port that is taken.
+fn copy_field(random: &mut Random, lines: &mut Lines, at: usize) {
+    let other = random.below(lines.len() as u64) as usize;
+    let k = random.below(lines[at].len() as u64) as usize;
+    if let Some(value) = lines[other].get(k).cloned() {
+        lines[at][k] = value;
+    }
+}
+
+/// Each interconnect hangs on the one before it, so that the fifth has level 5.
+fn deepen(lines: &mut Lines) {
+    let is_child = |line: &&mut Vec<String>| line.len() == 5 && line[0] == "int" && line[2] != "-";
+    for line in lines.iter_mut().filter(is_child) {
+        if let Ok(number @ 1..) = line[1].parse::<u64>() {
+            line[2] = (number - 1).to_string();
+        }
+    }
+}
+
+/// Bytes with a fault: one changed, put in or taken out, or the end cut off.
+pub fn damage_bytes(random: &mut Random, text: &mut Vec<u8>) {
+    if text.is_empty() {
+        return;
+    }
+    let at = random.below(text.len() as u64) as usize;
+    let byte = *random.pick(b"\t\n\r\0 0123456789-+oabusintc\x80\xff");
+    match random.below(5) {
+        0 => text.insert(at, byte),
+        1 => drop(text.remove(at)),
+        2 => text.truncate(at),
+        3 => drop(text.pop()),
+        _ => text[at] = byte,
+    }
+}
+
+/// A tree for the timing: one bus line, interconnects as (parent, port), and the interconnect of each accelerator, which
+/// takes the next free port there.
+pub fn tree_of(window: u64, parents: &[(u64, u64)], homes: &[u64]) -> Vec<u8> {
+    let mut lines = vec![fields("bus", &[window, 1, 4, 2, 2, 30, 25, 1, 1, 16])];
+    lines.push(vec!["int".into(), "0".into(), "-".into(), "-".into(), "4".into()]);
+    let mut taken = vec![[false; 8]; parents.len() + 1];
+    for (i, &(parent, port)) in parents.iter().enumerate() {
+        taken[parent as usize][port as usize] = true;
+        lines.push(fields("int", &[i as u64 + 1, parent, port, 1 + i as u64 % 4]));
+    }
+    for (a, &home) in homes.iter().enumerate() {
+        let ports = &mut taken[home as usize];
+        let port = ports.iter().position(|p| !p).expect("a free port");
+        ports[port] = true;
+        let budget = (2 * window).div_ceil(homes.len() as u64).min(1_024);
+        let period = 1_000_000 * (a as u64 % 3 + 1);
+        lines.push(fields("acc", &[a as u64, home, port as u64, 8, budget, 100, 50, 1_000, period]));
+    }
+    text(&lines)
+}
+
+/// 1 interconnect, 2 accelerators.
+pub fn small_tree() -> Vec<u8> {
+    tree_of(64, &[], &[0, 0])
+}
+
+/// 4 interconnects on 3 levels, 12 accelerators.
+pub fn middle_tree() -> Vec<u8> {
+    let homes = [0, 0, 0, 1, 1, 1, 2, 2, 2, 3, 3, 3];
+    tree_of(64, &[(0, 1), (0, 5), (1, 2)], &homes)
+}
+
+/// 15 interconnects on 4 levels, a binary tree, 32 accelerators of which most are on the deepest level.
+pub fn full_tree() -> Vec<u8> {
+    let parents: Vec<(u64, u64)> = (1..15).map(|i| ((i - 1) / 2, 3 + i % 2)).collect();
+    let homes: Vec<u64> = (0..32).map(|a| if a < 8 { a } else { 7 + a % 8 }).collect();
+    tree_of(64, &parents, &homes)
+}
+
+/// Two levels and 5 interconnects, with so many accelerators on the lower level.
+pub fn wide_tree(accelerators: u64) -> Vec<u8> {
+    let homes: Vec<u64> = (0..accelerators).map(|a| 1 + a % 4).collect();
+    tree_of(64, &[(0, 0), (0, 2), (0, 4), (0, 6)], &homes)
+}
+
+/// So many interconnects, each beneath the one before, with 8 accelerators on the last.
+pub fn deep_tree(levels: u64) -> Vec<u8> {
+    let parents: Vec<(u64, u64)> = (0..levels - 1).map(|i| (i, 3)).collect();
+    tree_of(64, &parents, &[levels - 1; 8])
+}
+
+/// A trace under which every accelerator holds requests in each of so many slots: it is found by running the machine, with
+/// 16 more requested where less than 24 are pending.
+pub fn busy_trace(tree: &[u8], slots: u32) -> Vec<u8> {
+    let tree: Tree = read_tree(tree).expect("a sound tree");
+    let mut machine = Machine::fresh(&tree);
+    let mut lines = Lines::new();
+    for slot in 0..slots {
+        for a in 0..tree.accelerators.len() {
+            while machine.pending(a) < 24 {
+                machine.hold(a as u8, 16);
+                lines.push(fields("o", &[slot.into(), a as u64, 16]));
+            }
+        }
+        machine.offer();
+        machine.serve();
+    }
+    text(&lines)
+}

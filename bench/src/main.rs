@@ -1,0 +1,257 @@
+//! Times library and peer side by side, and how the times grow.
+use razhikum_bench::answers::PAGE;
+use razhikum_bench::inputs::{busy_trace, deep_tree, full_tree, middle_tree, small_tree, wide_tree};
+use razhikum_bench::{library, peer};
+use std::hint::black_box;
+use std::path::Path;
+use std::process::{Command, Stdio};
+use std::time::{Duration, Instant};
+
+const SAMPLES: usize = 9;
+const SLOTS: u32 = 65_536;
+
+#[repr(C)]
+struct Timespec {
+    seconds: i64,
+    nanoseconds: i64,
+}
+
+extern "C" {
+    fn clock_gettime(clock: i32, time: *mut Timespec) -> i32;
+}
+
+/// The processor time of this thread, which other programs on the machine disturb less than the wall clock.
+fn processor_time() -> Duration {
+    const THREAD_CLOCK: i32 = 3;
+    let mut time = Timespec { seconds: 0, nanoseconds: 0 };
+    let status = unsafe { clock_gettime(THREAD_CLOCK, &mut time) };
+    assert_eq!(status, 0, "the thread's clock");
+    Duration::new(time.seconds as u64, time.nanoseconds as u32)
+}
+
+fn timed(work: &mut dyn FnMut(), times: u32) -> Duration {
+    let start = processor_time();
+    for _ in 0..times {
+        work();
+    }
+    (processor_time() - start) / times
+}
+
+/// So often that a sample takes some milliseconds.
+fn repeats(work: &mut dyn FnMut()) -> u32 {
+    let once = timed(work, 1).max(Duration::from_nanos(50));
+    (Duration::from_millis(5).as_nanos() / once.as_nanos()).clamp(1, 50_000) as u32
+}
+
+fn median(mut samples: Vec<Duration>) -> Duration {
+    samples.sort();
+    samples[samples.len() / 2]
+}
+
+/// The medians of library and peer. The samples take turns, so that a slow moment of the machine meets both.
+fn side_by_side(library: &mut dyn FnMut(), peer: &mut dyn FnMut()) -> (Duration, Duration) {
+    let (m, n) = (repeats(library), repeats(peer));
+    let (mut of_library, mut of_peer) = (Vec::new(), Vec::new());
+    for _ in 0..SAMPLES {
+        of_library.push(timed(library, m));
+        of_peer.push(timed(peer, n));
+    }
+    (median(of_library), median(of_peer))
+}
+
+fn shown(time: Duration) -> String {
+    format!("{:.1} us", time.as_nanos() as f64 / 1_000.0)
+}
+
+/// Prints a row and answers the ratio.
+fn row(what: &str, library: &mut dyn FnMut(), peer: &mut dyn FnMut()) -> f64 {
+    let (l, p) = side_by_side(library, peer);
+    let ratio = l.as_nanos() as f64 / p.as_nanos().max(1) as f64;
+    println!("{what:<44}{:>14}{:>14}{ratio:>10.2}", shown(l), shown(p));
+    ratio
+}
+
+fn reading_row(what: &str, tree: &[u8]) -> f64 {
+    row(
+        what,
+        &mut || {
+            let _ = black_box(library::read_tree(black_box(tree)));
+        },
+        &mut || {
+            let _ = black_box(peer::read::read_tree(black_box(tree)));
+        },
+    )
+}
+
+/// The trace reader. The library reads the tree in the same call, and so does the peer here.
+fn trace_row(what: &str, tree: &[u8], trace: &[u8]) -> f64 {
+    library::read_trace(tree, trace).expect("a sound trace");
+    row(
+        what,
+        &mut || {
+            let _ = black_box(library::read_trace(black_box(tree), black_box(trace)));
+        },
+        &mut || {
+            let read = peer::read::read_tree(black_box(tree)).expect("a sound tree");
+            let requests = peer::read::read_trace(read.accelerators.len(), black_box(trace));
+            let _ = black_box(requests);
+        },
+    )
+}
+
+/// The bounds of every accelerator, one call for each. Each call reads the tree.
+fn bounds_row(what: &str, tree: &[u8]) -> f64 {
+    let n = peer::read::read_tree(tree).expect("a sound tree").accelerators.len() as u8;
+    row(
+        what,
+        &mut || {
+            for a in 0..n {
+                let _ = black_box(library::bound(black_box(tree), a));
+            }
+        },
+        &mut || {
+            for a in 0..n {
+                let _ = black_box(peer::bounds::bound(black_box(tree), a));
+            }
+        },
+    )
+}
+
+fn report_row(what: &str, tree: &[u8]) -> f64 {
+    let mut page = Box::new([0; PAGE]);
+    let mut text = Vec::new();
+    row(
+        what,
+        &mut || {
+            let _ = black_box(library::report(black_box(tree), &mut page));
+        },
+        &mut || {
+            let _ = black_box(peer::report::report(black_box(tree), &mut text));
+        },
+    )
+}
+
+/// A run of so many slots under a trace that keeps every accelerator busy. Both read the tree and the trace in the call.
+fn run_row(what: &str, tree: &[u8], slots: u32) -> f64 {
+    let trace = busy_trace(tree, slots);
+    let (mut ours, mut theirs) = (vec![0; slots as usize], vec![0; slots as usize]);
+    let ending = library::run(tree, &trace, &mut ours).expect("a sound trace");
+    assert_eq!(Ok(ending), peer::run::run(tree, &trace, &mut theirs));
+    assert_eq!(ours, theirs);
+    assert!(!ours.contains(&255), "an idle slot");
+    row(
+        what,
+        &mut || {
+            let _ = black_box(library::run(black_box(tree), black_box(&trace), &mut ours));
+        },
+        &mut || {
+            let _ = black_box(peer::run::run(black_box(tree), black_box(&trace), &mut theirs));
+        },
+    )
+}
+
+fn heading(title: &str) {
+    println!("\n{title:<44}{:>14}{:>14}{:>10}", "library", "peer", "ratio");
+}
+
+/// A program of the repository, timed from its start to its end.
+fn program_row(program: &str, arguments: &[&str], input: Option<&str>) {
+    let root = Path::new(env!("CARGO_MANIFEST_DIR")).join("..");
+    let path = root.join("target/bin").join(program);
+    if !path.exists() {
+        println!("{program}: not there; `rt check {program}` builds it");
+        return;
+    }
+    let samples = (0..SAMPLES).map(|_| {
+        let stdin = input.map_or(Stdio::null(), |name| std::fs::File::open(root.join(name)).expect("the input").into());
+        let mut command = Command::new(&path);
+        command.args(arguments).current_dir(&root).stdin(stdin);
+        let start = Instant::now();
+        let status = command.stdout(Stdio::null()).status().expect("the program runs");
+        assert!(status.success());
+        start.elapsed()
+    });
+    let time = median(samples.collect());
+    let given = input.map_or(arguments.join(" "), |name| format!("< {name}"));
+    println!("{:<58}{:>14}", format!("{program} {given}"), shown(time));
+}
+
+/// `cargo run --release -- examples` writes the full tree and its trace instead.
+fn write_examples() {
+    let folder = Path::new(env!("CARGO_MANIFEST_DIR")).join("../examples");
+    let tree = full_tree();
+    std::fs::write(folder.join("full.trace"), busy_trace(&tree, SLOTS)).expect("written");
+    std::fs::write(folder.join("full.tree"), tree).expect("written");
+}
+
+/// A ratio that the last lines repeat.
+type Target = (&'static str, f64);
+
+fn time_reading(small: &[u8], middle: &[u8], full: &[u8]) -> Vec<Target> {
+    let long_trace = b"o\t0\t0\t1\n".repeat(8_192);
+    heading("reading and bounds");
+    reading_row("small tree, read", small);
+    reading_row("middle tree, read", middle);
+    let reading = reading_row("full tree, read", full);
+    let trace = trace_row("trace of 65,536 bytes, 8,192 lines, read", full, &long_trace);
+    trace_row("trace of the full tree, read", full, &busy_trace(full, SLOTS));
+    bounds_row("small tree, bounds of all", small);
+    bounds_row("middle tree, bounds of all", middle);
+    let bounds = bounds_row("full tree, bounds of all", full);
+    report_row("small tree, report", small);
+    report_row("middle tree, report", middle);
+    let report = report_row("full tree, report", full);
+    vec![
+        ("full tree, read", reading),
+        ("trace of 65,536 bytes, read", trace),
+        ("full tree, bounds of all", bounds),
+        ("full tree, report", report),
+    ]
+}
+
+fn time_runs(small: &[u8], middle: &[u8], full: &[u8]) -> Vec<Target> {
+    heading("65,536 slots");
+    let of_small = run_row("small tree: 1 interconnect, 2 accelerators", small, SLOTS);
+    let of_middle = run_row("middle tree: 4 and 12, 3 levels", middle, SLOTS);
+    let of_full = run_row("full tree: 15 and 32, 4 levels", full, SLOTS);
+    vec![
+        ("small tree, 65,536 slots", of_small),
+        ("middle tree, 65,536 slots", of_middle),
+        ("full tree, 65,536 slots", of_full),
+    ]
+}
+
+fn time_growth(full: &[u8]) {
+    heading("growth with slots, full tree");
+    for slots in [8_192, 16_384, 32_768, 65_536] {
+        run_row(&format!("{slots} slots"), full, slots);
+    }
+    heading("growth with accelerators, 2 levels");
+    for n in [4, 8, 16, 32] {
+        run_row(&format!("{n} accelerators"), &wide_tree(n), SLOTS);
+    }
+    heading("growth with levels, 8 accelerators");
+    for levels in 1..=4 {
+        run_row(&format!("level {levels}"), &deep_tree(levels), SLOTS);
+    }
+}
+
+fn main() {
+    if std::env::args().nth(1).as_deref() == Some("examples") {
+        return write_examples();
+    }
+    let (small, middle, full) = (small_tree(), middle_tree(), full_tree());
+    println!("Processor time, median of {SAMPLES} samples each. A ratio above 1 says that the library takes longer.");
+    let mut targets = time_reading(&small, &middle, &full);
+    targets.extend(time_runs(&small, &middle, &full));
+    time_growth(&full);
+
+    println!("\nprograms, from start to end by the wall clock");
+    program_row("report", &[], Some("examples/full.tree"));
+    program_row("simulate", &["examples/full.tree", "examples/full.trace"], None);
+
+    println!();
+    for (what, ratio) in targets {
+        println!("{what}: library/peer {ratio:.2}");
+    }
+}

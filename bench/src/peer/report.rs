@@ -1,0 +1,61 @@
+//! The text of the report program (the end of "Figures to check by").
+use crate::answers::Refused;
+use crate::peer::bounds::bounds;
+use crate::peer::read::read_tree;
+
+fn put_number(out: &mut Vec<u8>, mut n: u64) {
+    let mut digits = [0; 20];
+    let mut at = digits.len();
+    loop {
+        at -= 1;
+        digits[at] = b'0' + (n % 10) as u8;
+        n /= 10;
+        if n == 0 {
+            break;
+        }
+    }
+    out.extend_from_slice(&digits[at..]);
+}
+
+fn put_numbers(out: &mut Vec<u8>, numbers: &[u64]) {
+    for &n in numbers {
+        put_number(out, n);
+        out.push(b'\t');
+    }
+}
+
+fn verdict(meets: bool) -> &'static [u8] {
+    if meets {
+        b"meets\n"
+    } else {
+        b"late\n"
+    }
+}
+
+/// Writes the report of a tree file, or its refusal as one line, into `out`, in place of what is there.
+pub fn report(text: &[u8], out: &mut Vec<u8>) -> Result<(), Refused> {
+    out.clear();
+    let tree = match read_tree(text) {
+        Ok(tree) => tree,
+        Err(refused) => {
+            out.extend_from_slice(b"refused\t");
+            put_number(out, refused.number.into());
+            out.push(b'\t');
+            put_number(out, refused.line.into());
+            out.push(b'\n');
+            return Err(refused);
+        }
+    };
+    out.extend_from_slice(b"acc\tlevel\tshare\tyr\tyw\tresp\tperiod\tverdict\n");
+    let mut all = true;
+    for (a, b) in bounds(&tree).enumerate() {
+        let level = b.level.into();
+        let row = [a as u64, level, b.share, b.reads, b.writes, b.response, b.period];
+        put_numbers(out, &row);
+        out.extend_from_slice(verdict(b.meets));
+        all &= b.meets;
+    }
+    out.extend_from_slice(b"all\t");
+    out.extend_from_slice(verdict(all));
+    Ok(())
+}

@@ -1,0 +1,39 @@
+//! The runner ("Turns", last paragraph).
+use crate::answers::{Ending, FileRefused, Refused, LIMIT};
+use crate::peer::machine::Machine;
+use crate::peer::read::{read_trace, read_tree, Request, Tree};
+
+/// Runs the requests from the fresh state, one byte a slot.
+pub fn run_requests(tree: &Tree, requests: &[Request], out: &mut [u8]) -> Ending {
+    let mut machine = Machine::fresh(tree);
+    let mut left = requests;
+    for (slot, byte) in out.iter_mut().enumerate() {
+        if left.is_empty() && machine.nothing_pending() {
+            return Ending::Done(slot as u32);
+        }
+        while let Some((request, rest)) = left.split_first() {
+            if request.slot as usize > slot {
+                break;
+            }
+            machine.hold(request.accelerator, request.count);
+            left = rest;
+        }
+        machine.offer();
+        *byte = machine.serve();
+    }
+    if left.is_empty() && machine.nothing_pending() {
+        Ending::Done(out.len() as u32)
+    } else {
+        Ending::Stopped(out.len() as u32)
+    }
+}
+
+/// Runs a trace file on a tree file. "the runner 11, buffer size, trace": a tree that is read keeps its rules.
+pub fn run(tree: &[u8], trace: &[u8], out: &mut [u8]) -> Result<Ending, FileRefused> {
+    let tree = read_tree(tree).map_err(FileRefused::Tree)?;
+    if out.len() > LIMIT {
+        return Err(FileRefused::Trace(Refused { number: 2, line: 0 }));
+    }
+    let requests = read_trace(tree.accelerators.len(), trace).map_err(FileRefused::Trace)?;
+    Ok(run_requests(&tree, &requests, out))
+}

@@ -1,0 +1,76 @@
+//! Figures of document 01 ("Figures to check by") and the limits on sizes, by library and peer alike.
+use razhikum_bench::answers::{Ending, FileRefused, Refused, PAGE};
+use razhikum_bench::{library, peer};
+
+const BUS: &str = "bus 16 1 4 2 2 30 25 1 1 16\nint 0 - - 1\n";
+
+fn file(spaced: &str) -> Vec<u8> {
+    spaced.replace(' ', "\t").into_bytes()
+}
+
+fn shares(tree: &[u8], expected: &[u64]) {
+    for (a, share) in expected.iter().enumerate() {
+        let bound = library::bound(tree, a as u8).expect("a bound");
+        assert_eq!(bound.share, *share);
+        assert_eq!(Ok(bound), peer::bounds::bound(tree, a as u8));
+    }
+}
+
+fn run(tree: &[u8], trace: &[u8], slots: usize) -> (Result<Ending, FileRefused>, Vec<u8>) {
+    let (mut out, mut other) = (vec![99; slots], vec![99; slots]);
+    let ending = library::run(tree, trace, &mut out);
+    assert_eq!(ending, peer::run::run(tree, trace, &mut other));
+    assert_eq!(out, other);
+    (ending, out)
+}
+
+#[test]
+fn cases_1_and_2() {
+    let accs = "acc 0 0 0 4 8 1 1 0 1\nacc 1 1 0 4 8 1 1 0 1\nacc 2 2 0 4 8 1 1 0 1\nacc 3 2 1 4 8 1 1 0 1\n";
+    let tree = file(&format!("{BUS}int 1 0 1 1\nint 2 1 1 1\n{accs}"));
+    shares(&tree, &[2, 4, 8, 8]);
+    let trace = file("o 0 0 4\no 0 1 2\no 0 2 1\no 0 3 1\n");
+    let (ending, out) = run(&tree, &trace, 16);
+    assert_eq!(ending, Ok(Ending::Done(8)));
+    assert_eq!(out[..9], [0, 1, 0, 2, 0, 1, 0, 3, 99]);
+}
+
+#[test]
+fn cases_3_and_4() {
+    let accs = "acc 0 0 0 3 8 1 1 0 1\nacc 1 0 1 1 8 1 1 0 1\n";
+    let tree = file(&format!("{}{accs}", BUS.replace("- - 1", "- - 2")));
+    shares(&tree, &[2, 3]);
+    let (ending, out) = run(&tree, &file("o 0 0 3\no 0 1 1\n"), 16);
+    assert_eq!(ending, Ok(Ending::Done(4)));
+    assert_eq!(out[..5], [0, 0, 1, 0, 99]);
+}
+
+#[test]
+fn the_report() {
+    let tree = file("bus 8 1 4 2 2 30 25 1 1 16\nint 0 - - 1\nacc 0 0 0 4 2 10 5 1000 2000\nacc 1 0 3 4 2 1 0 0 100\n");
+    let expected = file(
+        "acc level share yr yw resp period verdict\n0 1 2 10 5 2460 2000 late\n1 1 2 1 0 100 100 meets\nall late\n",
+    );
+    let mut page = Box::new([0; PAGE]);
+    let (bytes, answer) = library::report(&tree, &mut page);
+    assert_eq!((&page[..bytes], answer), (&expected[..], Ok(())));
+    let mut text = Vec::new();
+    assert_eq!(peer::report::report(&tree, &mut text), Ok(()));
+    assert_eq!(text, expected);
+}
+
+/// 65,536 bytes are read, one more is refused by 2 with line 0; the 65,536th transaction of one accelerator by 2.
+#[test]
+fn sizes_and_totals() {
+    let tree = file(&format!("{BUS}acc 0 0 0 4 8 1 1 0 1\n"));
+    let too_large = Err(FileRefused::Trace(Refused { number: 2, line: 0 }));
+    let full = file("o 0 0 1\n").repeat(8_192);
+    assert_eq!(full.len(), 65_536);
+    assert_eq!(run(&tree, &full, 4).0, Ok(Ending::Stopped(4)));
+    assert_eq!(run(&tree, &[&full[..], b"\n"].concat(), 4).0, too_large);
+    assert_eq!(run(&tree, b"", 65_536).0, Ok(Ending::Done(0)));
+    assert_eq!(run(&tree, b"x", 65_537).0, too_large);
+    let total = file("o 0 0 16\n").repeat(4_096);
+    let over = Refused { number: 2, line: 4_096 };
+    assert_eq!(run(&tree, &total, 4).0, Err(FileRefused::Trace(over)));
+}

@@ -1,0 +1,25 @@
+-- What is told of a tree's reading holds of its definition: the reading equals it, by `read_tree`'s contract, and the test
+-- found which side the definition picks.
+use mathlib.Core.Bool.{Bool, true, false, not}
+use mathlib.Core.Path.{_≡_, refl, ap, sym, _∙_}
+use Rattle.model.specs.Fold.{pick}
+use Rattle.placing.specs.declared.TreeRead.{TreeRead}
+use Rattle.razhikum.specs.Exports.{isAccepted}
+
+abbrev chosen : {A : Type 0} → (TreeRead → A) → (TreeRead → A) → TreeRead → A
+chosen f g q = pick (isAccepted (q .answer)) (f q) (g q)
+
+holds : (b : Bool) → not b ≡ false → b ≡ true
+holds true e = refl
+holds false e = sym e
+
+fails : (b : Bool) → not b ≡ true → b ≡ false
+fails true e = sym e
+fails false e = refl
+
+module _ {A : Type 0} (f g : TreeRead → A) (x q : TreeRead) (e : x ≡ q) (b : Bool) (t : b ≡ isAccepted (x .answer)) where
+  pub of-accepted : not b ≡ false → (r : A) → r ≡ f x → r ≡ chosen f g q
+  of-accepted y r p = p ∙ sym (ap (λ (k : Bool). pick k (f x) (g x)) (sym t ∙ holds b y)) ∙ ap (chosen f g) e
+
+  pub of-refused : not b ≡ true → (r : A) → r ≡ g x → r ≡ chosen f g q
+  of-refused y r p = p ∙ sym (ap (λ (k : Bool). pick k (f x) (g x)) (sym t ∙ fails b y)) ∙ ap (chosen f g) e
