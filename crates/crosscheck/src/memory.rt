@@ -1,24 +1,25 @@
-// Blocks of numbers. Everything that the second implementation keeps stands in such blocks, in parts that begin at fixed
-// places; there are no structs for a tree, a state or their records. A place past the end goes round.
+// One block of numbers, the desk, holds all that the second implementation, the generator and the counts keep, in parts that
+// begin at fixed places; there are no structs for a tree, a state or their records. A place past the end goes round.
 
-pub fn get(m: &[usize; 1024], part: usize, i: usize) -> usize {
-    let at = std::num::wrapping_add_usize(part, i) % 1024;
-    m[at]
+pub fn get(d: &[usize; 16384], part: usize, i: usize) -> usize {
+    let at = std::num::wrapping_add_usize(part, i) % 16384;
+    d[at]
 }
 
-pub fn put(m: &mut [usize; 1024], part: usize, i: usize, x: usize) {
-    let at = std::num::wrapping_add_usize(part, i) % 1024;
-    m[at] = x;
+pub fn put(d: &mut [usize; 16384], part: usize, i: usize, x: usize) {
+    let at = std::num::wrapping_add_usize(part, i) % 16384;
+    d[at] = x;
 }
 
-pub fn add(m: &mut [usize; 1024], part: usize, i: usize, x: usize) {
-    let at = std::num::wrapping_add_usize(part, i) % 1024;
-    m[at] = std::num::wrapping_add_usize(m[at], x);
+pub fn add(d: &mut [usize; 16384], part: usize, i: usize, x: usize) {
+    let at = std::num::wrapping_add_usize(part, i) % 16384;
+    d[at] = std::num::wrapping_add_usize(d[at], x);
 }
 
-pub fn clear(m: &mut [usize; 1024]) {
-    for i in 0..1024 {
-        m[i] = 0;
+// Sets n numbers of a part to 0.
+pub fn clear(d: &mut [usize; 16384], part: usize, n: usize) {
+    for i in 0..n {
+        put(d, part, i, 0);
     }
 }
 

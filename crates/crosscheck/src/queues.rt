@@ -10,6 +10,8 @@ use crate::memory::clear;
 use crate::memory::get;
 use crate::memory::least;
 use crate::memory::put;
+use crate::requests::LINES;
+use crate::requests::LOG;
 use crate::requests::acc_in;
 use crate::requests::count_in;
 use crate::requests::slot_in;
@@ -17,24 +19,24 @@ use crate::scan::Rules;
 
 // For each accelerator how many transactions were requested, admitted and served since the start, and how many were
 // admitted in this window; for each interconnect its last port and its allowance; the slot, and the next line of the log.
-const REQUESTED: usize = 0;
+const REQUESTED: usize = 2048;
 
-const ADMITTED: usize = 32;
+const ADMITTED: usize = 2080;
 
-const SERVED: usize = 64;
+const SERVED: usize = 2112;
 
-const USED: usize = 96;
+const USED: usize = 2144;
 
-const LAST: usize = 128;
+const LAST: usize = 2176;
 
-const ALLOWANCE: usize = 144;
+const ALLOWANCE: usize = 2192;
 
-const SLOT: usize = 160;
+const SLOT: usize = 2208;
 
-const NEXT: usize = 161;
+const NEXT: usize = 2209;
 
 // The queues, sixteen places to each accelerator: a ring of tickets, each the number of its transaction.
-const QUEUE: usize = 512;
+const QUEUE: usize = 2560;
 
 // How a run ends: the number and line of a refusal, or 0; whether it is done; the slots used.
 pub struct Ended {
@@ -45,12 +47,12 @@ pub struct Ended {
 }
 
 // How many tickets are in the queue of accelerator a.
-fn queued(m: &[usize; 1024], a: usize) -> usize {
-    std::num::wrapping_sub_usize(get(m, ADMITTED, a), get(m, SERVED, a))
+fn queued(d: &[usize; 16384], a: usize) -> usize {
+    std::num::wrapping_sub_usize(get(d, ADMITTED, a), get(d, SERVED, a))
 }
 
-fn held(m: &[usize; 1024], a: usize) -> usize {
-    std::num::wrapping_sub_usize(get(m, REQUESTED, a), get(m, ADMITTED, a))
+fn held(d: &[usize; 16384], a: usize) -> usize {
+    std::num::wrapping_sub_usize(get(d, REQUESTED, a), get(d, ADMITTED, a))
 }
 
 fn place_in_queue(a: usize, ticket: usize) -> usize {
@@ -58,28 +60,28 @@ fn place_in_queue(a: usize, ticket: usize) -> usize {
 }
 
 // Puts the next ticket of accelerator a last in its queue.
-fn push(m: &mut [usize; 1024], a: usize) {
-    let ticket = get(m, ADMITTED, a);
-    put(m, QUEUE, place_in_queue(a, ticket), ticket);
-    add(m, ADMITTED, a, 1);
-    add(m, USED, a, 1);
+fn push(d: &mut [usize; 16384], a: usize) {
+    let ticket = get(d, ADMITTED, a);
+    put(d, QUEUE, place_in_queue(a, ticket), ticket);
+    add(d, ADMITTED, a, 1);
+    add(d, USED, a, 1);
 }
 
 // Takes the first ticket of the queue. Is it the oldest that is not served?
-fn pop(m: &mut [usize; 1024], a: usize) -> bool {
-    let oldest = get(m, SERVED, a);
-    let ticket = get(m, QUEUE, place_in_queue(a, oldest));
-    add(m, SERVED, a, 1);
+fn pop(d: &mut [usize; 16384], a: usize) -> bool {
+    let oldest = get(d, SERVED, a);
+    let ticket = get(d, QUEUE, place_in_queue(a, oldest));
+    add(d, SERVED, a, 1);
     ticket == oldest
 }
 
 // Does the way from accelerator a up to the root enter interconnect i by the port p?
-pub fn passes(book: &[usize; 1024], a: usize, i: usize, p: usize) -> bool {
-    let mut row = acc_row(book, a);
+pub fn passes(d: &[usize; 16384], a: usize, i: usize, p: usize) -> bool {
+    let mut row = acc_row(d, a);
     for _ in 0..4usize {
-        let above = cell(book, row, 1);
+        let above = cell(d, row, 1);
         if above == i {
-            return cell(book, row, 2) == p;
+            return cell(d, row, 2) == p;
         }
         if above == 0 {
             return false;
@@ -90,12 +92,12 @@ pub fn passes(book: &[usize; 1024], a: usize, i: usize, p: usize) -> bool {
 }
 
 // How many transactions wait under the port p of interconnect i.
-fn waits(m: &[usize; 1024], book: &[usize; 1024], i: usize, p: usize) -> usize {
+fn waits(d: &[usize; 16384], i: usize, p: usize) -> usize {
     let mut sum = 0;
     for a in 0..32 {
-        let n = queued(m, a);
+        let n = queued(d, a);
         if n != 0 {
-            if passes(book, a, i, p) {
+            if passes(d, a, i, p) {
                 sum = std::num::wrapping_add_usize(sum, n);
             }
         }
@@ -104,11 +106,11 @@ fn waits(m: &[usize; 1024], book: &[usize; 1024], i: usize, p: usize) -> usize {
 }
 
 // The first port after `last`, going round, under which something waits; `last` itself comes last.
-fn seek(m: &[usize; 1024], book: &[usize; 1024], i: usize, last: usize) -> usize {
+fn seek(d: &[usize; 16384], i: usize, last: usize) -> usize {
     let mut p = last % 8;
     for _ in 0..8usize {
         p = (p + 1) % 8;
-        if waits(m, book, i, p) != 0 {
+        if waits(d, i, p) != 0 {
             return p;
         }
     }
@@ -116,46 +118,46 @@ fn seek(m: &[usize; 1024], book: &[usize; 1024], i: usize, last: usize) -> usize
 }
 
 // A new turn at interconnect i, on the port sought. With wrong rules the circle begins at port 0, or the allowance is g.
-fn new_turn(m: &mut [usize; 1024], book: &[usize; 1024], i: usize, rules: Rules) {
-    let mut last = get(m, LAST, i);
+fn new_turn(d: &mut [usize; 16384], i: usize, rules: Rules) {
+    let mut last = get(d, LAST, i);
     if rules.from_zero {
         last = 7;
     }
-    let p = seek(m, book, i, last);
-    let g = cell(book, int_row(i), 3);
-    let mut allowance = least(g, waits(m, book, i, p));
+    let p = seek(d, i, last);
+    let grain = cell(d, int_row(i), 3);
+    let mut allowance = least(grain, waits(d, i, p));
     if rules.growing {
-        allowance = g;
+        allowance = grain;
     }
-    put(m, LAST, i, p);
-    put(m, ALLOWANCE, i, allowance);
-    let below = carried(book, i, p);
+    put(d, LAST, i, p);
+    put(d, ALLOWANCE, i, allowance);
+    let below = carried(d, i, p);
     if rules.lower_reset & (31 < below) {
-        put(m, LAST, below % 16, 7);
-        put(m, ALLOWANCE, below % 16, 0);
+        put(d, LAST, below % 16, 7);
+        put(d, ALLOWANCE, below % 16, 0);
     }
 }
 
 // The port that interconnect i goes on with, one taken off its allowance.
-fn turn(m: &mut [usize; 1024], book: &[usize; 1024], i: usize, rules: Rules) -> usize {
-    let mut over = get(m, ALLOWANCE, i) == 0;
+fn turn(d: &mut [usize; 16384], i: usize, rules: Rules) -> usize {
+    let mut over = get(d, ALLOWANCE, i) == 0;
     if rules.growing {
-        over = over | (waits(m, book, i, get(m, LAST, i)) == 0);
+        over = over | (waits(d, i, get(d, LAST, i)) == 0);
     }
     if over {
-        new_turn(m, book, i, rules);
+        new_turn(d, i, rules);
     }
-    let left = std::num::wrapping_sub_usize(get(m, ALLOWANCE, i), 1);
-    put(m, ALLOWANCE, i, left);
-    get(m, LAST, i)
+    let left = std::num::wrapping_sub_usize(get(d, ALLOWANCE, i), 1);
+    put(d, ALLOWANCE, i, left);
+    get(d, LAST, i)
 }
 
 // The accelerator that is served, from the root down.
-fn choose(m: &mut [usize; 1024], book: &[usize; 1024], rules: Rules) -> usize {
+fn choose(d: &mut [usize; 16384], rules: Rules) -> usize {
     let mut i = 0;
     for _ in 0..4usize {
-        let p = turn(m, book, i, rules);
-        let below = carried(book, i, p);
+        let p = turn(d, i, rules);
+        let below = carried(d, i, p);
         if below < 32 {
             return below;
         }
@@ -164,94 +166,94 @@ fn choose(m: &mut [usize; 1024], book: &[usize; 1024], rules: Rules) -> usize {
     255
 }
 
-fn all_queued(m: &[usize; 1024]) -> usize {
+fn all_queued(d: &[usize; 16384]) -> usize {
     let mut sum = 0;
     for a in 0..32 {
-        sum = std::num::wrapping_add_usize(sum, queued(m, a));
+        sum = std::num::wrapping_add_usize(sum, queued(d, a));
     }
     sum
 }
 
-fn all_held(m: &[usize; 1024]) -> usize {
+fn all_held(d: &[usize; 16384]) -> usize {
     let mut sum = 0;
     for a in 0..32 {
-        sum = std::num::wrapping_add_usize(sum, held(m, a));
+        sum = std::num::wrapping_add_usize(sum, held(d, a));
     }
     sum
 }
 
 // The lines whose slot has come are requested.
-fn take_due(m: &mut [usize; 1024], log: &[usize; 8192], lines: usize) {
-    let now = get(m, SLOT, 0);
-    let mut next = get(m, NEXT, 0);
+fn take_due(d: &mut [usize; 16384], lines: usize) {
+    let now = get(d, SLOT, 0);
+    let mut next = get(d, NEXT, 0);
     while next < lines {
-        let x = log[next % 8192];
+        let x = get(d, LOG, next % 8192);
         if now < slot_in(x) {
             break;
         }
-        add(m, REQUESTED, acc_in(x) % 32, count_in(x));
+        add(d, REQUESTED, acc_in(x) % 32, count_in(x));
         next += 1;
     }
-    put(m, NEXT, 0, next);
+    put(d, NEXT, 0, next);
 }
 
 // Accelerator a offers until it holds none, phi of it wait or its budget is used.
-fn offer(m: &mut [usize; 1024], book: &[usize; 1024], a: usize) {
-    let row = acc_row(book, a);
+fn offer(d: &mut [usize; 16384], a: usize) {
+    let row = acc_row(d, a);
     for _ in 0..16usize {
-        let room = (queued(m, a) < cell(book, row, 3)) & (get(m, USED, a) < cell(book, row, 4));
-        if room & (held(m, a) != 0) {
-            push(m, a);
+        let room = (queued(d, a) < cell(d, row, 3)) & (get(d, USED, a) < cell(d, row, 4));
+        if room & (held(d, a) != 0) {
+            push(d, a);
         }
     }
 }
 
-fn offer_all(m: &mut [usize; 1024], book: &[usize; 1024]) {
+fn offer_all(d: &mut [usize; 16384]) {
     for a in 0..32 {
-        if held(m, a) != 0 {
-            offer(m, book, a);
+        if held(d, a) != 0 {
+            offer(d, a);
         }
     }
 }
 
-fn reopen(m: &mut [usize; 1024]) {
+fn reopen(d: &mut [usize; 16384]) {
     for a in 0..32 {
-        put(m, USED, a, 0);
+        put(d, USED, a, 0);
     }
 }
 
 // The slot count rises, and where that opens a window the budgets begin anew. A wrong rule keeps them for the whole run.
-fn advance(m: &mut [usize; 1024], book: &[usize; 1024], rules: Rules) {
-    add(m, SLOT, 0, 1);
-    let window = cell(book, 0, 0);
+fn advance(d: &mut [usize; 16384], rules: Rules) {
+    add(d, SLOT, 0, 1);
+    let window = cell(d, 0, 0);
     if window != 0 {
-        if (get(m, SLOT, 0) % window == 0) & !rules.whole_run {
-            reopen(m);
+        if (get(d, SLOT, 0) % window == 0) & !rules.whole_run {
+            reopen(d);
         }
     }
 }
 
 // One slot: what it serves, or 255.
-fn one_slot(m: &mut [usize; 1024], book: &[usize; 1024], rules: Rules) -> usize {
-    if all_queued(m) == 0 {
+fn one_slot(d: &mut [usize; 16384], rules: Rules) -> usize {
+    if all_queued(d) == 0 {
         return 255;
     }
-    let a = choose(m, book, rules);
-    if pop(m, a) { a } else { 254 }
+    let a = choose(d, rules);
+    if pop(d, a) { a } else { 254 }
 }
 
-fn nothing_left(m: &[usize; 1024], lines: usize) -> bool {
-    (lines <= get(m, NEXT, 0)) & (all_held(m) == 0) & (all_queued(m) == 0)
+fn nothing_left(d: &[usize; 16384], lines: usize) -> bool {
+    (lines <= get(d, NEXT, 0)) & (all_held(d) == 0) & (all_queued(d) == 0)
 }
 
-fn start(m: &mut [usize; 1024]) {
-    clear(m);
+fn start(d: &mut [usize; 16384]) {
+    clear(d, REQUESTED, 1024);
     for i in 0..15 {
-        put(m, LAST, i, 7);
+        put(d, LAST, i, 7);
     }
 }
 
-fn run_end(done: bool, slots: usize) -> Ended {
+pub fn run_end(done: bool, slots: usize) -> Ended {
     Ended {
         number: 0,
         line: 0,
@@ -260,27 +262,21 @@ fn run_end(done: bool, slots: usize) -> Ended {
     }
 }
 
-// Runs the lines of the log on the tree in the book.
-pub fn run_log(
-    book: &[usize; 1024],
-    log: &[usize; 8192],
-    lines: usize,
-    m: &mut [usize; 1024],
-    out: &mut [u8],
-    rules: Rules,
-) -> Ended {
-    start(m);
+// Runs the lines of the log on the tree in the rows.
+pub fn run_log(d: &mut [usize; 16384], out: &mut [u8], rules: Rules) -> Ended {
+    let lines = get(d, LINES, 0);
+    start(d);
     let mut used = 0;
     while used < out.len() {
-        if nothing_left(m, lines) {
+        if nothing_left(d, lines) {
             return run_end(true, used);
         }
-        take_due(m, log, lines);
-        offer_all(m, book);
-        let a = one_slot(m, book, rules);
-        advance(m, book, rules);
+        take_due(d, lines);
+        offer_all(d);
+        let a = one_slot(d, rules);
+        advance(d, rules);
         out[used] = (a % 256) as u8;
         used += 1;
     }
-    run_end(nothing_left(m, lines), used)
+    run_end(nothing_left(d, lines), used)
 }

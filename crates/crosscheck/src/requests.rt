@@ -1,4 +1,4 @@
-// The second reader of a trace. Each line goes into a log as one number.
+// The second reader of a trace. Each line goes into a log.
 use crate::book::accs;
 use crate::memory::add;
 use crate::memory::clear;
@@ -18,11 +18,14 @@ use crate::scan::line_start;
 use crate::scan::within;
 
 // The total of each accelerator's counts, the slot of the line before, and how many lines are in the log.
-pub const TOTAL: usize = 0;
+pub const TOTAL: usize = 1024;
 
-pub const BEFORE: usize = 40;
+pub const BEFORE: usize = 1064;
 
-pub const LINES: usize = 41;
+pub const LINES: usize = 1065;
+
+// The log: each line as one number.
+pub const LOG: usize = 8192;
 
 pub fn packed(slot: usize, acc: usize, count: usize) -> usize {
     (slot % 4294967296) * 65536 + (acc % 256) * 256 + count % 256
@@ -40,74 +43,68 @@ pub fn count_in(x: usize) -> usize {
     x % 256
 }
 
-fn falls(m: &[usize; 1024]) -> bool {
-    field(m, 1) < get(m, BEFORE, 0)
+fn falls(d: &[usize; 16384]) -> bool {
+    field(d, 1) < get(d, BEFORE, 0)
 }
 
 // The refusal of a line, or 0.
-fn fault(s: Scan, m: &[usize; 1024], known: usize, rules: Rules) -> usize {
+fn fault(s: Scan, d: &[usize; 16384], known: usize, rules: Rules) -> usize {
     if s.bad | (s.name != OFFER) | (s.fields != 4) {
         return 1;
     }
-    if any_dash(m, 3) {
+    if any_dash(d, 3) {
         return 1;
     }
-    if !within(m, 1, 0, 4294967294) | !within(m, 3, 1, 16) {
+    if !within(d, 1, 0, 4294967294) | !within(d, 3, 1, 16) {
         return 2;
     }
-    if rules.falling_first & falls(m) {
+    if rules.falling_first & falls(d) {
         return 6;
     }
-    let a = field(m, 2);
+    let a = field(d, 2);
     if known <= a {
         return 7;
     }
-    if falls(m) {
+    if falls(d) {
         return 6;
     }
-    if 65535 < std::num::wrapping_add_usize(get(m, TOTAL, a), field(m, 3)) {
+    if 65535 < std::num::wrapping_add_usize(get(d, TOTAL, a), field(d, 3)) {
         return 2;
     }
     0
 }
 
-fn enter(m: &mut [usize; 1024], log: &mut [usize; 8192]) {
-    let slot = field(m, 1);
-    let a = field(m, 2);
-    let count = field(m, 3);
-    let at = get(m, LINES, 0) % 8192;
-    log[at] = packed(slot, a, count);
-    add(m, LINES, 0, 1);
-    add(m, TOTAL, a % 32, count);
-    put(m, BEFORE, 0, slot);
+fn enter(d: &mut [usize; 16384]) {
+    let slot = field(d, 1);
+    let a = field(d, 2);
+    let count = field(d, 3);
+    let at = get(d, LINES, 0) % 8192;
+    put(d, LOG, at, packed(slot, a, count));
+    add(d, LINES, 0, 1);
+    add(d, TOTAL, a % 32, count);
+    put(d, BEFORE, 0, slot);
 }
 
-// Reads a trace file, for the tree in the book, into the log.
-pub fn read_log(
-    s: &[u8],
-    book: &[usize; 1024],
-    m: &mut [usize; 1024],
-    log: &mut [usize; 8192],
-    rules: Rules,
-) -> Said {
-    clear(m);
+// Reads a trace file, for the tree in the rows, into the log.
+pub fn read_log(s: &[u8], d: &mut [usize; 16384], rules: Rules) -> Said {
+    clear(d, TOTAL, 64);
     if 65536 < s.len() {
         return answer(2, 0);
     }
-    let known = accs(book);
+    let known = accs(d);
     let mut scan = line_start(1);
     let mut at = 0;
     while at < s.len() {
         let b = s[at];
         if b == 10 {
-            let number = fault(close_field(scan, m), m, known, rules);
+            let number = fault(close_field(scan, d), d, known, rules);
             if number != 0 {
                 return answer(number, scan.line);
             }
-            enter(m, log);
+            enter(d);
             scan = line_start(std::num::wrapping_add_usize(scan.line, 1));
         } else if b == 9 {
-            scan = close_field(scan, m);
+            scan = close_field(scan, d);
         } else {
             scan = field_byte(scan, b);
         }

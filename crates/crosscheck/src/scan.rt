@@ -1,5 +1,5 @@
 // The second reader's first half: a file is taken byte by byte. What has been seen of the current line is a Scan, and the
-// fields that are closed stand in a block, as numbers.
+// fields that are closed stand on the desk, as numbers.
 use crate::memory::get;
 use crate::memory::put;
 
@@ -137,7 +137,7 @@ pub fn field_byte(s: Scan, b: u8) -> Scan {
 }
 
 // The open field ends. An empty one is wrong.
-pub fn close_field(mut s: Scan, m: &mut [usize; 1024]) -> Scan {
+pub fn close_field(mut s: Scan, d: &mut [usize; 16384]) -> Scan {
     if s.bytes == 0 {
         s.bad = true;
     }
@@ -145,7 +145,7 @@ pub fn close_field(mut s: Scan, m: &mut [usize; 1024]) -> Scan {
     if s.dash {
         x = DASH;
     }
-    put(m, FIELDS, s.fields % 16, x);
+    put(d, FIELDS, s.fields % 16, x);
     s.fields = std::num::wrapping_add_usize(s.fields, 1);
     s.bytes = 0;
     s.number = 0;
@@ -153,24 +153,24 @@ pub fn close_field(mut s: Scan, m: &mut [usize; 1024]) -> Scan {
     s
 }
 
-pub fn field(m: &[usize; 1024], i: usize) -> usize {
-    get(m, FIELDS, i)
+pub fn field(d: &[usize; 16384], i: usize) -> usize {
+    get(d, FIELDS, i)
 }
 
-pub fn is_dash(m: &[usize; 1024], i: usize) -> bool {
-    field(m, i) == DASH
+pub fn is_dash(d: &[usize; 16384], i: usize) -> bool {
+    field(d, i) == DASH
 }
 
 // Is one of the fields 1 to n "-"?
-pub fn any_dash(m: &[usize; 1024], n: usize) -> bool {
+pub fn any_dash(d: &[usize; 16384], n: usize) -> bool {
     let mut found = false;
     for i in 0..n {
-        found = found | is_dash(m, std::num::wrapping_add_usize(i, 1));
+        found = found | is_dash(d, std::num::wrapping_add_usize(i, 1));
     }
     found
 }
 
-pub fn within(m: &[usize; 1024], i: usize, low: usize, high: usize) -> bool {
-    let x = field(m, i);
+pub fn within(d: &[usize; 16384], i: usize, low: usize, high: usize) -> bool {
+    let x = field(d, i);
     (low <= x) & (x <= high)
 }

@@ -3,6 +3,7 @@ use crate::book::INTS;
 use crate::book::cell;
 use crate::book::level;
 use crate::book::read_book;
+use crate::compare::OURS;
 use crate::compare::fill;
 use crate::compare::library_run;
 use crate::compare::same_bounds;
@@ -14,7 +15,6 @@ use crate::compare::second_run;
 use crate::memory::add;
 use crate::memory::get;
 use crate::queues::Ended;
-use crate::requests::LINES;
 use crate::requests::read_log;
 use crate::scan::Rules;
 use crate::scan::Said;
@@ -27,33 +27,33 @@ use reader::tree::read_tree;
 // The counts: trees and traces by their number, 0 where accepted; accepted trees by their deepest level; bounds; runs done,
 // stopped and refused; slots, windows and bytes of the runs; files of the edge list and of case 11; the differences of each
 // wrong rule; the differences.
-pub const TREES: usize = 0;
+pub const TREES: usize = 3072;
 
-pub const TRACES: usize = 16;
+pub const TRACES: usize = 3088;
 
-pub const LEVELS: usize = 32;
+pub const LEVELS: usize = 3104;
 
-pub const BOUNDS: usize = 40;
+pub const BOUNDS: usize = 3112;
 
-pub const DONE: usize = 41;
+pub const DONE: usize = 3113;
 
-pub const STOPPED: usize = 42;
+pub const STOPPED: usize = 3114;
 
-pub const REFUSED: usize = 43;
+pub const REFUSED: usize = 3115;
 
-pub const SLOTS: usize = 44;
+pub const SLOTS: usize = 3116;
 
-pub const WINDOWS: usize = 45;
+pub const WINDOWS: usize = 3117;
 
-pub const BUFFERS: usize = 46;
+pub const BUFFERS: usize = 3118;
 
-pub const EDGES: usize = 47;
+pub const EDGES: usize = 3119;
 
-pub const CASE11: usize = 48;
+pub const CASE11: usize = 3120;
 
-pub const WRONG: usize = 64;
+pub const WRONG: usize = 3136;
 
-pub const DIFFERENCES: usize = 80;
+pub const DIFFERENCES: usize = 3152;
 
 // The wrong rule of a number, in the order in which the program lists them.
 fn wrong(i: usize) -> Rules {
@@ -79,17 +79,17 @@ fn wrong(i: usize) -> Rules {
 }
 
 // Counts a difference under `part`, at i.
-fn note(k: &mut [usize; 1024], part: usize, i: usize, same: bool) {
+fn note(d: &mut [usize; 16384], part: usize, i: usize, same: bool) {
     if !same {
-        add(k, part, i, 1);
+        add(d, part, i, 1);
     }
 }
 
-fn deepest(book: &[usize; 1024]) -> usize {
+fn deepest(d: &[usize; 16384]) -> usize {
     let mut most = 0;
     for i in 0..15 {
-        if i < get(book, INTS, 0) {
-            let here = level(book, i);
+        if i < get(d, INTS, 0) {
+            let here = level(d, i);
             if most < here {
                 most = here;
             }
@@ -99,91 +99,75 @@ fn deepest(book: &[usize; 1024]) -> usize {
 }
 
 // An accepted tree: its entries and its bounds.
-fn try_content(t: Tree, book: &[usize; 1024], k: &mut [usize; 1024]) {
-    note(k, DIFFERENCES, 0, same_tree(t, book));
-    note(k, DIFFERENCES, 0, same_bounds(t, book, no_wrong_rule()));
-    note(k, WRONG, 6, same_bounds(t, book, wrong(6)));
-    note(k, WRONG, 7, same_bounds(t, book, wrong(7)));
-    add(k, BOUNDS, 0, t.accs as usize + 1);
-    add(k, LEVELS, deepest(book), 1);
+fn try_content(t: Tree, d: &mut [usize; 16384]) {
+    let tree = same_tree(t, d);
+    note(d, DIFFERENCES, 0, tree);
+    let right = same_bounds(t, d, no_wrong_rule());
+    note(d, DIFFERENCES, 0, right);
+    let own_port = same_bounds(t, d, wrong(6));
+    note(d, WRONG, 6, own_port);
+    let nested = same_bounds(t, d, wrong(7));
+    note(d, WRONG, 7, nested);
+    add(d, BOUNDS, 0, t.accs as usize + 1);
+    let levels = deepest(d);
+    add(d, LEVELS, levels, 1);
 }
 
-// A tree file. The book is left with the second reader's tree.
-pub fn try_tree(
-    s: &[u8],
-    book: &mut [usize; 1024],
-    m: &mut [usize; 1024],
-    k: &mut [usize; 1024],
-) -> TreeRead {
+// A tree file. The rows are left with the second reader's tree.
+pub fn try_tree(s: &[u8], d: &mut [usize; 16384]) -> TreeRead {
     let r = read_tree(s);
     let answer = r.answer;
-    let wrongly = read_book(s, m, wrong(0));
-    note(k, WRONG, 0, same_said(answer, wrongly));
-    let said = read_book(s, book, no_wrong_rule());
-    note(k, DIFFERENCES, 0, same_said(answer, said));
-    add(k, TREES, said.number, 1);
+    let wrongly = read_book(s, d, wrong(0));
+    note(d, WRONG, 0, same_said(answer, wrongly));
+    let said = read_book(s, d, no_wrong_rule());
+    note(d, DIFFERENCES, 0, same_said(answer, said));
+    add(d, TREES, said.number, 1);
     if said.number == 0 {
-        try_content(r.tree, book, k);
+        try_content(r.tree, d);
     }
     r
 }
 
-// A trace file, on the tree that the book has too. The log is left with its lines, m with their count.
-pub fn try_trace(
-    t: Tree,
-    s: &[u8],
-    book: &[usize; 1024],
-    m: &mut [usize; 1024],
-    log: &mut [usize; 8192],
-    k: &mut [usize; 1024],
-) -> Said {
+// A trace file, on the tree that the rows have too. The log is left with its lines.
+fn try_trace(t: Tree, s: &[u8], d: &mut [usize; 16384]) -> Said {
     let answer = read_trace(t, s);
-    let wrongly = read_log(s, book, m, log, wrong(1));
-    note(k, WRONG, 1, same_said(answer, wrongly));
-    let said = read_log(s, book, m, log, no_wrong_rule());
-    note(k, DIFFERENCES, 0, same_said(answer, said));
-    add(k, TRACES, said.number, 1);
+    let wrongly = read_log(s, d, wrong(1));
+    note(d, WRONG, 1, same_said(answer, wrongly));
+    let said = read_log(s, d, no_wrong_rule());
+    note(d, DIFFERENCES, 0, same_said(answer, said));
+    add(d, TRACES, said.number, 1);
     said
 }
 
-fn count_run(e: Ended, window: usize, k: &mut [usize; 1024]) {
+fn count_run(e: Ended, d: &mut [usize; 16384]) {
     if e.number != 0 {
-        add(k, REFUSED, 0, 1);
+        add(d, REFUSED, 0, 1);
         return;
     }
     if e.done {
-        add(k, DONE, 0, 1);
+        add(d, DONE, 0, 1);
     } else {
-        add(k, STOPPED, 0, 1);
+        add(d, STOPPED, 0, 1);
     }
-    add(k, SLOTS, 0, e.slots);
+    add(d, SLOTS, 0, e.slots);
+    let window = cell(d, 0, 0);
     if window != 0 {
-        add(k, WINDOWS, 0, e.slots / window);
+        add(d, WINDOWS, 0, e.slots / window);
     }
 }
 
 // The wrong rules of a run over n bytes, against what the library did.
 fn try_wrong_runs(
     said: Said,
-    book: &[usize; 1024],
-    log: &[usize; 8192],
-    lines: usize,
-    m: &mut [usize; 1024],
-    ours: &mut [u8; 65537],
-    theirs: &[u8; 65537],
+    d: &mut [usize; 16384],
+    out: &mut [u8; 131074],
     right: Ended,
     n: usize,
-    k: &mut [usize; 1024],
 ) {
     for i in 2..6 {
-        fill(ours, n);
-        let e = second_run(said, book, log, lines, m, ours, n, wrong(i));
-        note(
-            k,
-            WRONG,
-            i,
-            same_end(e, right) & same_bytes(ours, theirs, n),
-        );
+        fill(out, OURS, n);
+        let e = second_run(said, d, out, n, wrong(i));
+        note(d, WRONG, i, same_end(e, right) & same_bytes(out, n));
     }
 }
 
@@ -192,51 +176,30 @@ fn try_run(
     t: Tree,
     s: &[u8],
     said: Said,
-    book: &[usize; 1024],
-    log: &[usize; 8192],
-    lines: usize,
-    m: &mut [usize; 1024],
-    ours: &mut [u8; 65537],
-    theirs: &mut [u8; 65537],
+    d: &mut [usize; 16384],
+    out: &mut [u8; 131074],
     n: usize,
-    k: &mut [usize; 1024],
 ) -> usize {
-    fill(ours, n);
-    fill(theirs, n);
-    let right = library_run(t, s, theirs, n);
-    let e = second_run(said, book, log, lines, m, ours, n, no_wrong_rule());
-    note(
-        k,
-        DIFFERENCES,
-        0,
-        same_end(e, right) & same_bytes(ours, theirs, n),
-    );
-    count_run(e, cell(book, 0, 0), k);
-    add(k, BUFFERS, 0, n);
+    fill(out, 0, n);
+    fill(out, OURS, n);
+    let right = library_run(t, s, out, n);
+    let e = second_run(said, d, out, n, no_wrong_rule());
+    note(d, DIFFERENCES, 0, same_end(e, right) & same_bytes(out, n));
+    count_run(e, d);
+    add(d, BUFFERS, 0, n);
     if said.number == 0 {
-        try_wrong_runs(said, book, log, lines, m, ours, theirs, right, n, k);
+        try_wrong_runs(said, d, out, right, n);
     }
     if e.done { e.slots } else { 0 }
 }
 
 // A trace, and runs of it: over a buffer of n bytes, and if that is done, over just enough and over one byte less.
-pub fn try_runs(
-    t: Tree,
-    s: &[u8],
-    book: &[usize; 1024],
-    m: &mut [usize; 1024],
-    log: &mut [usize; 8192],
-    ours: &mut [u8; 65537],
-    theirs: &mut [u8; 65537],
-    k: &mut [usize; 1024],
-    n: usize,
-) {
-    let said = try_trace(t, s, book, m, log, k);
-    let lines = get(m, LINES, 0);
-    let slots = try_run(t, s, said, book, log, lines, m, ours, theirs, n, k);
+pub fn try_runs(t: Tree, s: &[u8], d: &mut [usize; 16384], out: &mut [u8; 131074], n: usize) {
+    let said = try_trace(t, s, d);
+    let slots = try_run(t, s, said, d, out, n);
     if slots != 0 {
-        try_run(t, s, said, book, log, lines, m, ours, theirs, slots, k);
+        try_run(t, s, said, d, out, slots);
         let short = slots - 1;
-        try_run(t, s, said, book, log, lines, m, ours, theirs, short, k);
+        try_run(t, s, said, d, out, short);
     }
 }

@@ -5,10 +5,10 @@ use Rattle.crosscheck.proofs.book.carried.Statement.{statement}
 use Rattle.crosscheck.proofs.book.carried.Tie as tie
 
 abbrev Inv-loop : tie.InvT-loop
-Inv-loop book i p found₀ row₀ found row = row ≤ 48
+Inv-loop d i p found₀ row₀ found row = row ≤ 48
 
 abbrev μ-loop : tie.MeasureT-loop
-μ-loop book i p found₀ row₀ found row = 48 - row
+μ-loop d i p found₀ row₀ found row = 48 - row
 
 pub carried-spec : {M : Type 1} → statement M
 carried-spec = tie.close (tie.spec Inv-loop μ-loop (λ c. search needs) (λ c κs. search needs) (λ c κs. search needs) (λ c κs. search needs) (λ c κs. search needs) (λ c κs. search needs) (λ c κs. search needs) (λ c. search needs) (λ c. search needs) (λ c. search needs) (λ c. search needs))

@@ -5,10 +5,10 @@ use Rattle.crosscheck.proofs.book.has_gap.Statement.{statement}
 use Rattle.crosscheck.proofs.book.has_gap.Tie as tie
 
 abbrev Inv-loop : tie.InvT-loop
-Inv-loop book found₀ row₀ found row = row ≤ 48
+Inv-loop d found₀ row₀ found row = row ≤ 48
 
 abbrev μ-loop : tie.MeasureT-loop
-μ-loop book found₀ row₀ found row = 48 - row
+μ-loop d found₀ row₀ found row = 48 - row
 
 pub has-gap-spec : {M : Type 1} → statement M
 has-gap-spec = tie.close (tie.spec Inv-loop μ-loop (λ c. search needs) (λ c κs. search needs) (λ c κs. search needs) (λ c κs. search needs) (λ c κs. search needs) (λ c. search needs) (λ c. search needs) (λ c. search needs) (λ c. search needs))

@@ -5,10 +5,10 @@ use Rattle.crosscheck.proofs.book.listed.Statement.{statement}
 use Rattle.crosscheck.proofs.book.listed.Tie as tie
 
 abbrev Inv-loop : tie.InvT-loop
-Inv-loop book a found₀ row₀ found row = row ≤ 48
+Inv-loop d a found₀ row₀ found row = row ≤ 48
 
 abbrev μ-loop : tie.MeasureT-loop
-μ-loop book a found₀ row₀ found row = 48 - row
+μ-loop d a found₀ row₀ found row = 48 - row
 
 pub listed-spec : {M : Type 1} → statement M
 listed-spec = tie.close (tie.spec Inv-loop μ-loop (λ c. search needs) (λ c κs. search needs) (λ c κs. search needs) (λ c κs. search needs) (λ c. search needs) (λ c. search needs) (λ c. search needs) (λ c. search needs))

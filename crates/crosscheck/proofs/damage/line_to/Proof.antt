@@ -5,10 +5,10 @@ use Rattle.crosscheck.proofs.damage.line_to.Statement.{statement}
 use Rattle.crosscheck.proofs.damage.line_to.Tie as tie
 
 abbrev Inv-loop : tie.InvT-loop
-Inv-loop s p n at₀ at = p ≤ at
+Inv-loop w p n at₀ at = p ≤ at
 
 abbrev μ-loop : tie.MeasureT-loop
-μ-loop s p n at₀ at = n - at
+μ-loop w p n at₀ at = n - at
 
 pub line-to-spec : {M : Type 1} → statement M
 line-to-spec = tie.close (tie.spec Inv-loop μ-loop (λ c. search needs) (λ c. search needs) (λ c. search needs) (λ c. search needs) (λ c. search needs) (λ c. search needs) (λ c. search needs) (λ c. search needs))

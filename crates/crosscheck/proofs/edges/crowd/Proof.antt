@@ -5,10 +5,10 @@ use Rattle.crosscheck.proofs.edges.crowd.Statement.{statement}
 use Rattle.crosscheck.proofs.edges.crowd.Tie as tie
 
 abbrev Inv-loop : tie.InvT-loop
-Inv-loop w₀ g₀ n a₀ w g a = a ≤ 33
+Inv-loop w₀ d₀ n a₀ w d a = a ≤ 33
 
 abbrev μ-loop : tie.MeasureT-loop
-μ-loop w₀ g₀ n a₀ w g a = 33 - a
+μ-loop w₀ d₀ n a₀ w d a = 33 - a
 
 pub crowd-spec : {M : Type 1} → statement M
 crowd-spec = tie.close (tie.spec Inv-loop μ-loop (λ c κs. search needs) (λ c. search needs) (λ c. search needs) (λ c κs. search needs) (λ c. search needs) (λ c. search needs) (λ c. search needs) (λ c. search needs))

@@ -5,10 +5,10 @@ use Rattle.crosscheck.proofs.edges.try_listed.Statement.{statement}
 use Rattle.crosscheck.proofs.edges.try_listed.Tie as tie
 
 abbrev Inv-loop : tie.InvT-loop
-Inv-loop s book₀ m₀ log₀ ours₀ theirs₀ k₀ at₀ counter₀ book m log ours theirs k at counter = counter ≤ 1000
+Inv-loop s d₀ out₀ at₀ counter₀ d out at counter = counter ≤ 1000
 
 abbrev μ-loop : tie.MeasureT-loop
-μ-loop s book₀ m₀ log₀ ours₀ theirs₀ k₀ at₀ counter₀ book m log ours theirs k at counter = 1000 - counter
+μ-loop s d₀ out₀ at₀ counter₀ d out at counter = 1000 - counter
 
 pub try-listed-spec : {M : Type 1} → statement M
 try-listed-spec = tie.close (tie.spec Inv-loop μ-loop (λ c. search needs) (λ c κs. search needs) (λ c. search needs) (λ c. search needs) (λ c. search needs) (λ c. search needs))

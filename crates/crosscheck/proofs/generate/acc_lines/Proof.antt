@@ -5,10 +5,10 @@ use Rattle.crosscheck.proofs.generate.acc_lines.Statement.{statement}
 use Rattle.crosscheck.proofs.generate.acc_lines.Tie as tie
 
 abbrev Inv-loop : tie.InvT-loop
-Inv-loop w₀ g₀ ports wanted n order k₀ w g k = k ≤ 32
+Inv-loop w₀ d₀ ports wanted n order i₀ w d i = i ≤ 32
 
 abbrev μ-loop : tie.MeasureT-loop
-μ-loop w₀ g₀ ports wanted n order k₀ w g k = 32 - k
+μ-loop w₀ d₀ ports wanted n order i₀ w d i = 32 - i
 
 pub acc-lines-spec : {M : Type 1} → statement M
-acc-lines-spec = tie.close (tie.spec Inv-loop μ-loop (λ c κs. search needs) (λ c. search needs) (λ c. search needs) (λ c κs. search needs) (λ c κs. search needs) (λ c κs. search needs) (λ c κs. search needs) (λ c. search needs) (λ c κs. search needs) (λ c κs. search needs) (λ c. search needs) (λ c. search needs) (λ c. search needs) (λ c κs. search needs) (λ c. search needs))
+acc-lines-spec = tie.close (tie.spec Inv-loop μ-loop (λ c κs. search needs) (λ c. search needs) (λ c. search needs) (λ c κs. search needs) (λ c κs. search needs) (λ c κs. search needs) (λ c κs. search needs) (λ c. search needs) (λ c κs. search needs) (λ c κs. search needs) (λ c. search needs) (λ c. search needs) (λ c. search needs) (λ c. search needs))

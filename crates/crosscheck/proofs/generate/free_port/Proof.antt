@@ -5,10 +5,10 @@ use Rattle.crosscheck.proofs.generate.free_port.Statement.{statement}
 use Rattle.crosscheck.proofs.generate.free_port.Tie as tie
 
 abbrev Inv-loop : tie.InvT-loop
-Inv-loop g ints top all first k₀ k = (k ≤ 120) × (0 < all)
+Inv-loop d ints top all first i₀ i = (i ≤ 120) × (0 < all)
 
 abbrev μ-loop : tie.MeasureT-loop
-μ-loop g ints top all first k₀ k = 120 - k
+μ-loop d ints top all first i₀ i = 120 - i
 
 pub free-port-spec : {M : Type 1} → statement M
-free-port-spec = tie.close (tie.spec Inv-loop μ-loop (λ c. search needs) (λ c. search needs) (λ c κs. search needs) (λ c κs. search needs) (λ c. search needs) (λ c κs. search needs) (λ c. search needs) (λ c. search needs) (λ c. search needs) (λ c. search needs) (λ c κs. search needs) (λ c κs. search needs) (λ c. search needs) (λ c. search needs) (λ c. search needs) (λ c. search needs) (λ c. search needs))
+free-port-spec = tie.close (tie.spec Inv-loop μ-loop (λ c. search needs) (λ c. search needs) (λ c κs. search needs) (λ c κs. search needs) (λ c. search needs) (λ c κs. search needs) (λ c. search needs) (λ c. search needs) (λ c κs. search needs) (λ c. search needs) (λ c κs. search needs) (λ c κs. search needs) (λ c. search needs) (λ c. search needs) (λ c. search needs) (λ c. search needs) (λ c. search needs))

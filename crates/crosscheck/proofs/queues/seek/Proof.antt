@@ -5,10 +5,10 @@ use Rattle.crosscheck.proofs.queues.seek.Statement.{statement}
 use Rattle.crosscheck.proofs.queues.seek.Tie as tie
 
 abbrev Inv-loop : tie.InvT-loop
-Inv-loop m book i last p₀ counter₀ p counter = (counter ≤ 8) × (p < 8)
+Inv-loop d i last p₀ counter₀ p counter = (counter ≤ 8) × (p < 8)
 
 abbrev μ-loop : tie.MeasureT-loop
-μ-loop m book i last p₀ counter₀ p counter = 8 - counter
+μ-loop d i last p₀ counter₀ p counter = 8 - counter
 
 pub seek-spec : {M : Type 1} → statement M
 seek-spec = tie.close (tie.spec Inv-loop μ-loop (λ c. search needs) (λ c. search needs) (λ c κs. search needs) (λ c. search needs) (λ c. search needs) (λ c. search needs) (λ c. search needs) (λ c. search needs))

@@ -5,10 +5,10 @@ use Rattle.crosscheck.proofs.queues.take_due.Statement.{statement}
 use Rattle.crosscheck.proofs.queues.take_due.Tie as tie
 
 abbrev Inv-loop : tie.InvT-loop
-Inv-loop m₀ log lines now next₀ m next = next₀ ≤ next
+Inv-loop d₀ lines now next₀ d next = next₀ ≤ next
 
 abbrev μ-loop : tie.MeasureT-loop
-μ-loop m₀ log lines now next₀ m next = lines - next
+μ-loop d₀ lines now next₀ d next = lines - next
 
 pub take-due-spec : {M : Type 1} → statement M
-take-due-spec = tie.close (tie.spec Inv-loop μ-loop (λ c κs. search needs) (λ c κs. search needs) (λ c. search needs) (λ c. search needs) (λ c. search needs) (λ c κs. search needs) (λ c κs. search needs) (λ c κs. search needs) (λ c κs. search needs) (λ c. search needs) (λ c. search needs) (λ c. search needs) (λ c κs. search needs) (λ c. search needs))
+take-due-spec = tie.close (tie.spec Inv-loop μ-loop (λ c κs. search needs) (λ c κs. search needs) (λ c. search needs) (λ c κs. search needs) (λ c κs. search needs) (λ c κs. search needs) (λ c κs. search needs) (λ c κs. search needs) (λ c. search needs) (λ c. search needs) (λ c. search needs) (λ c κs. search needs) (λ c. search needs))

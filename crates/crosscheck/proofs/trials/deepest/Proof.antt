@@ -5,10 +5,10 @@ use Rattle.crosscheck.proofs.trials.deepest.Statement.{statement}
 use Rattle.crosscheck.proofs.trials.deepest.Tie as tie
 
 abbrev Inv-loop : tie.InvT-loop
-Inv-loop book most₀ i₀ most i = i ≤ 15
+Inv-loop d most₀ i₀ most i = i ≤ 15
 
 abbrev μ-loop : tie.MeasureT-loop
-μ-loop book most₀ i₀ most i = 15 - i
+μ-loop d most₀ i₀ most i = 15 - i
 
 pub deepest-spec : {M : Type 1} → statement M
 deepest-spec = tie.close (tie.spec Inv-loop μ-loop (λ c. search needs) (λ c κs. search needs) (λ c κs. search needs) (λ c. search needs) (λ c. search needs) (λ c. search needs) (λ c. search needs))

@@ -5,10 +5,10 @@ use Rattle.crosscheck.proofs.trials.try_wrong_runs.Statement.{statement
 use Rattle.crosscheck.proofs.trials.try_wrong_runs.Tie as tie
 
 abbrev Inv-loop : tie.InvT-loop
-Inv-loop said book log lines m₀ ours₀ theirs right n k₀ i₀ m ours k i = i ≤ 6
+Inv-loop said d₀ out₀ right n i₀ d out i = i ≤ 6
 
 abbrev μ-loop : tie.MeasureT-loop
-μ-loop said book log lines m₀ ours₀ theirs right n k₀ i₀ m ours k i = 6 - i
+μ-loop said d₀ out₀ right n i₀ d out i = 6 - i
 
 pub try-wrong-runs-spec : {M : Type 1} → statement M
 try-wrong-runs-spec = tie.close (tie.spec Inv-loop μ-loop (λ c. search needs) (λ c κs. search needs) (λ c κs. search needs) (λ c κs. search needs) (λ c κs. search needs) (λ c κs. search needs) (λ c κs. search needs) (λ c. search needs) (λ c. search needs) (λ c. search needs) (λ c. search needs))
