@@ -7,7 +7,7 @@ use crate::memory::put;
 use crate::scan::ACC;
 use crate::scan::BUS;
 use crate::scan::INT;
-use crate::scan::Rules;
+use crate::scan::ORDER_FIRST;
 use crate::scan::Said;
 use crate::scan::Scan;
 use crate::scan::answer;
@@ -199,12 +199,12 @@ fn misplaced(name: usize, d: &[usize; 16384]) -> usize {
 }
 
 // The refusal of a line, or 0 and the line is in its row.
-fn judge(s: Scan, d: &mut [usize; 16384], rules: Rules) -> usize {
+fn judge(s: Scan, d: &mut [usize; 16384], wrong: usize) -> usize {
     let name = s.name;
     if !shaped(s, d) {
         return 1;
     }
-    if rules.order_first & !in_order(name, d) {
+    if (wrong == ORDER_FIRST) & !in_order(name, d) {
         return 3;
     }
     if !limits(name, d) {
@@ -242,7 +242,7 @@ fn at_end(s: Scan, d: &[usize; 16384]) -> Said {
 }
 
 // Reads a tree file into the rows.
-pub fn read_book(s: &[u8], d: &mut [usize; 16384], rules: Rules) -> Said {
+pub fn read_book(s: &[u8], d: &mut [usize; 16384], wrong: usize) -> Said {
     clear(d, 0, 1024);
     if 65536 < s.len() {
         return answer(2, 0);
@@ -252,7 +252,7 @@ pub fn read_book(s: &[u8], d: &mut [usize; 16384], rules: Rules) -> Said {
     while at < s.len() {
         let b = s[at];
         if b == 10 {
-            let number = judge(close_field(scan, d), d, rules);
+            let number = judge(close_field(scan, d), d, wrong);
             if number != 0 {
                 return answer(number, scan.line);
             }

@@ -9,7 +9,6 @@ use crate::book::ints;
 use crate::queues::Ended;
 use crate::queues::run_end;
 use crate::queues::run_log;
-use crate::scan::Rules;
 use crate::scan::Said;
 use crate::shares::Row;
 use crate::shares::figures;
@@ -128,24 +127,24 @@ fn same_figures(f: Figures, r: Row) -> bool {
 }
 
 // The bound of accelerator a, which may be one past the last.
-pub fn same_bound(t: Tree, a: u8, d: &[usize; 16384], rules: Rules) -> bool {
+pub fn same_bound(t: Tree, a: u8, d: &[usize; 16384], wrong: usize) -> bool {
     match bounds::bound(t, a) {
         BoundAnswer::Refused(r) => (accs(d) <= a as usize) & (model::number(r) == 7),
         BoundAnswer::Bound(f) => {
             if accs(d) <= a as usize {
                 return false;
             }
-            same_figures(f, figures(d, a as usize, rules))
+            same_figures(f, figures(d, a as usize, wrong))
         }
     }
 }
 
 // Whether every bound of the tree agrees.
-pub fn same_bounds(t: Tree, d: &[usize; 16384], rules: Rules) -> bool {
+pub fn same_bounds(t: Tree, d: &[usize; 16384], wrong: usize) -> bool {
     let mut same = true;
     for a in 0..33u8 {
         if a <= t.accs {
-            same = same & same_bound(t, a, d, rules);
+            same = same & same_bound(t, a, d, wrong);
         }
     }
     same
@@ -184,7 +183,7 @@ pub fn second_run(
     d: &mut [usize; 16384],
     out: &mut [u8],
     n: usize,
-    rules: Rules,
+    wrong: usize,
 ) -> Ended {
     if 65536 < n {
         return refused(2, 0);
@@ -196,7 +195,7 @@ pub fn second_run(
     if out.len() < to {
         return refused(0, 0);
     }
-    run_log(d, &mut out[OURS..to], rules)
+    run_log(d, &mut out[OURS..to], wrong)
 }
 
 pub fn same_end(x: Ended, y: Ended) -> bool {

@@ -9,7 +9,7 @@ use crate::generate::put_text;
 use crate::memory::add;
 use crate::memory::get;
 use crate::memory::put;
-use crate::scan::no_wrong_rule;
+use crate::scan::NO_WRONG_RULE;
 use crate::trials::CASE11;
 use crate::trials::EDGES;
 use crate::trials::try_runs;
@@ -57,7 +57,7 @@ fn number_so_far(x: usize, b: u8) -> usize {
 fn report_tree(d: &mut [usize; 16384]) -> Tree {
     let s =
         b"bus\t8\t1\t4\t2\t2\t30\t25\t1\t1\t16\nint\t0\t-\t-\t1\nacc\t0\t0\t0\t4\t2\t10\t5\t1000\t2000\nacc\t1\t0\t3\t4\t2\t1\t0\t0\t100\n";
-    read_book(s, d, no_wrong_rule());
+    read_book(s, d, NO_WRONG_RULE);
     let r = read_tree(s);
     r.tree
 }

@@ -25,6 +25,14 @@ use crate::generate::make_trace;
 use crate::generate::make_tree;
 use crate::memory::get;
 use crate::memory::put;
+use crate::scan::FALLING_FIRST;
+use crate::scan::FROM_ZERO;
+use crate::scan::GROWING;
+use crate::scan::LOWER_RESET;
+use crate::scan::NESTED;
+use crate::scan::ORDER_FIRST;
+use crate::scan::OWN_PORT;
+use crate::scan::WHOLE_RUN;
 use crate::trials::BOUNDS;
 use crate::trials::BUFFERS;
 use crate::trials::CASE11;
@@ -118,28 +126,53 @@ fn show_runs(d: &[usize; 16384]) {
 }
 
 fn show_wrong(d: &[usize; 16384]) {
-    line(b"wrong: 3 tested before 2, trees seen", d, WRONG, 0);
-    line(b"wrong: 6 tested before 7, traces seen", d, WRONG, 1);
-    line(b"wrong: budgets over the whole run, runs seen", d, WRONG, 2);
-    line(b"wrong: circle restarted at port 0, runs seen", d, WRONG, 3);
+    line(
+        b"wrong: 3 tested before 2, trees seen",
+        d,
+        WRONG,
+        ORDER_FIRST,
+    );
+    line(
+        b"wrong: 6 tested before 7, traces seen",
+        d,
+        WRONG,
+        FALLING_FIRST,
+    );
+    line(
+        b"wrong: budgets over the whole run, runs seen",
+        d,
+        WRONG,
+        WHOLE_RUN,
+    );
+    line(
+        b"wrong: circle restarted at port 0, runs seen",
+        d,
+        WRONG,
+        FROM_ZERO,
+    );
     line(
         b"wrong: allowance grows in its turn, runs seen",
         d,
         WRONG,
-        4,
+        GROWING,
     );
     line(
         b"wrong: lower turn reset by its parent, runs seen",
         d,
         WRONG,
-        5,
+        LOWER_RESET,
     );
-    line(b"wrong: D counts the own port, trees seen", d, WRONG, 6);
+    line(
+        b"wrong: D counts the own port, trees seen",
+        d,
+        WRONG,
+        OWN_PORT,
+    );
     line(
         b"wrong: capacity through a lower g, trees seen",
         d,
         WRONG,
-        7,
+        NESTED,
     );
     line(b"differences", d, DIFFERENCES, 0);
 }

@@ -1,7 +1,6 @@
 // The second machine and runner. Each accelerator has a queue of tickets; what waits under a port is counted by walking
 // up from each accelerator that has a ticket in its queue, and the next port is sought one by one.
 use crate::book::acc_row;
-use crate::book::accs;
 use crate::book::carried;
 use crate::book::cell;
 use crate::book::int_row;
@@ -15,24 +14,33 @@ use crate::requests::LOG;
 use crate::requests::acc_in;
 use crate::requests::count_in;
 use crate::requests::slot_in;
-use crate::scan::Rules;
+use crate::scan::FROM_ZERO;
+use crate::scan::GROWING;
+use crate::scan::LOWER_RESET;
+use crate::scan::WHOLE_RUN;
 
-// For each accelerator how many transactions were requested, admitted and served since the start, and how many were
-// admitted in this window; for each interconnect its last port and its allowance; the slot, and the next line of the log.
+// For each accelerator how many transactions were requested since the start,
 const REQUESTED: usize = 2048;
 
+// admitted,
 const ADMITTED: usize = 2080;
 
+// and served,
 const SERVED: usize = 2112;
 
+// and how many were admitted in this window.
 const USED: usize = 2144;
 
+// For each interconnect its last port,
 const LAST: usize = 2176;
 
+// and its allowance.
 const ALLOWANCE: usize = 2192;
 
+// The slot,
 const SLOT: usize = 2208;
 
+// and the next line of the log.
 const NEXT: usize = 2209;
 
 // The queues, sixteen places to each accelerator: a ring of tickets, each the number of its transaction.
@@ -117,35 +125,35 @@ fn seek(d: &[usize; 16384], i: usize, last: usize) -> usize {
     p
 }
 
-// A new turn at interconnect i, on the port sought. With wrong rules the circle begins at port 0, or the allowance is g.
-fn new_turn(d: &mut [usize; 16384], i: usize, rules: Rules) {
+// A new turn at interconnect i, on the port sought. With wrong wrong the circle begins at port 0, or the allowance is g.
+fn new_turn(d: &mut [usize; 16384], i: usize, wrong: usize) {
     let mut last = get(d, LAST, i);
-    if rules.from_zero {
+    if wrong == FROM_ZERO {
         last = 7;
     }
     let p = seek(d, i, last);
     let grain = cell(d, int_row(i), 3);
     let mut allowance = least(grain, waits(d, i, p));
-    if rules.growing {
+    if wrong == GROWING {
         allowance = grain;
     }
     put(d, LAST, i, p);
     put(d, ALLOWANCE, i, allowance);
     let below = carried(d, i, p);
-    if rules.lower_reset & (31 < below) {
+    if (wrong == LOWER_RESET) & (31 < below) {
         put(d, LAST, below % 16, 7);
         put(d, ALLOWANCE, below % 16, 0);
     }
 }
 
 // The port that interconnect i goes on with, one taken off its allowance.
-fn turn(d: &mut [usize; 16384], i: usize, rules: Rules) -> usize {
+fn turn(d: &mut [usize; 16384], i: usize, wrong: usize) -> usize {
     let mut over = get(d, ALLOWANCE, i) == 0;
-    if rules.growing {
+    if wrong == GROWING {
         over = over | (waits(d, i, get(d, LAST, i)) == 0);
     }
     if over {
-        new_turn(d, i, rules);
+        new_turn(d, i, wrong);
     }
     let left = std::num::wrapping_sub_usize(get(d, ALLOWANCE, i), 1);
     put(d, ALLOWANCE, i, left);
@@ -153,10 +161,10 @@ fn turn(d: &mut [usize; 16384], i: usize, rules: Rules) -> usize {
 }
 
 // The accelerator that is served, from the root down.
-fn choose(d: &mut [usize; 16384], rules: Rules) -> usize {
+fn choose(d: &mut [usize; 16384], wrong: usize) -> usize {
     let mut i = 0;
     for _ in 0..4usize {
-        let p = turn(d, i, rules);
+        let p = turn(d, i, wrong);
         let below = carried(d, i, p);
         if below < 32 {
             return below;
@@ -223,22 +231,22 @@ fn reopen(d: &mut [usize; 16384]) {
 }
 
 // The slot count rises, and where that opens a window the budgets begin anew. A wrong rule keeps them for the whole run.
-fn advance(d: &mut [usize; 16384], rules: Rules) {
+fn advance(d: &mut [usize; 16384], wrong: usize) {
     add(d, SLOT, 0, 1);
     let window = cell(d, 0, 0);
     if window != 0 {
-        if (get(d, SLOT, 0) % window == 0) & !rules.whole_run {
+        if (get(d, SLOT, 0) % window == 0) & (wrong != WHOLE_RUN) {
             reopen(d);
         }
     }
 }
 
 // One slot: what it serves, or 255.
-fn one_slot(d: &mut [usize; 16384], rules: Rules) -> usize {
+fn one_slot(d: &mut [usize; 16384], wrong: usize) -> usize {
     if all_queued(d) == 0 {
         return 255;
     }
-    let a = choose(d, rules);
+    let a = choose(d, wrong);
     if pop(d, a) { a } else { 254 }
 }
 
@@ -263,7 +271,7 @@ pub fn run_end(done: bool, slots: usize) -> Ended {
 }
 
 // Runs the lines of the log on the tree in the rows.
-pub fn run_log(d: &mut [usize; 16384], out: &mut [u8], rules: Rules) -> Ended {
+pub fn run_log(d: &mut [usize; 16384], out: &mut [u8], wrong: usize) -> Ended {
     let lines = get(d, LINES, 0);
     start(d);
     let mut used = 0;
@@ -273,8 +281,8 @@ pub fn run_log(d: &mut [usize; 16384], out: &mut [u8], rules: Rules) -> Ended {
         }
         take_due(d, lines);
         offer_all(d);
-        let a = one_slot(d, rules);
-        advance(d, rules);
+        let a = one_slot(d, wrong);
+        advance(d, wrong);
         out[used] = (a % 256) as u8;
         used += 1;
     }

@@ -4,8 +4,8 @@ use crate::memory::add;
 use crate::memory::clear;
 use crate::memory::get;
 use crate::memory::put;
+use crate::scan::FALLING_FIRST;
 use crate::scan::OFFER;
-use crate::scan::Rules;
 use crate::scan::Said;
 use crate::scan::Scan;
 use crate::scan::answer;
@@ -48,7 +48,7 @@ fn falls(d: &[usize; 16384]) -> bool {
 }
 
 // The refusal of a line, or 0.
-fn fault(s: Scan, d: &[usize; 16384], known: usize, rules: Rules) -> usize {
+fn fault(s: Scan, d: &[usize; 16384], known: usize, wrong: usize) -> usize {
     if s.bad | (s.name != OFFER) | (s.fields != 4) {
         return 1;
     }
@@ -58,7 +58,7 @@ fn fault(s: Scan, d: &[usize; 16384], known: usize, rules: Rules) -> usize {
     if !within(d, 1, 0, 4294967294) | !within(d, 3, 1, 16) {
         return 2;
     }
-    if rules.falling_first & falls(d) {
+    if (wrong == FALLING_FIRST) & falls(d) {
         return 6;
     }
     let a = field(d, 2);
@@ -86,7 +86,7 @@ fn enter(d: &mut [usize; 16384]) {
 }
 
 // Reads a trace file, for the tree in the rows, into the log.
-pub fn read_log(s: &[u8], d: &mut [usize; 16384], rules: Rules) -> Said {
+pub fn read_log(s: &[u8], d: &mut [usize; 16384], wrong: usize) -> Said {
     clear(d, TOTAL, 64);
     if 65536 < s.len() {
         return answer(2, 0);
@@ -97,7 +97,7 @@ pub fn read_log(s: &[u8], d: &mut [usize; 16384], rules: Rules) -> Said {
     while at < s.len() {
         let b = s[at];
         if b == 10 {
-            let number = fault(close_field(scan, d), d, known, rules);
+            let number = fault(close_field(scan, d), d, known, wrong);
             if number != 0 {
                 return answer(number, scan.line);
             }

@@ -17,17 +17,24 @@ pub const FIELDS: usize = 496;
 
 pub const DASH: usize = 1099511627776;
 
-// The wrong rules that the second implementation can be told to follow. With none of them it follows document 01.
-pub struct Rules {
-    pub order_first: bool,
-    pub falling_first: bool,
-    pub whole_run: bool,
-    pub from_zero: bool,
-    pub growing: bool,
-    pub lower_reset: bool,
-    pub own_port: bool,
-    pub nested: bool,
-}
+// The rule that the second implementation breaks on purpose: none,
+pub const NO_WRONG_RULE: usize = 0;
+// 3 tested before 2,
+pub const ORDER_FIRST: usize = 1;
+// 6 tested before 7,
+pub const FALLING_FIRST: usize = 2;
+// budgets over the whole run,
+pub const WHOLE_RUN: usize = 3;
+// the turn circle restarted at port 0,
+pub const FROM_ZERO: usize = 4;
+// an allowance that grows while its turn runs,
+pub const GROWING: usize = 5;
+// a lower interconnect's turn reset when its parent moves on,
+pub const LOWER_RESET: usize = 6;
+// D that counts the accelerator's own port,
+pub const OWN_PORT: usize = 7;
+// a capacity that is taken through the granularity of a lower interconnect.
+pub const NESTED: usize = 8;
 
 // An answer on a file: 0 where it is accepted, or the number of a refusal; and the line.
 pub struct Said {
@@ -45,19 +52,6 @@ pub struct Scan {
     pub number: usize,
     pub dash: bool,
     pub bad: bool,
-}
-
-pub fn no_wrong_rule() -> Rules {
-    Rules {
-        order_first: false,
-        falling_first: false,
-        whole_run: false,
-        from_zero: false,
-        growing: false,
-        lower_reset: false,
-        own_port: false,
-        nested: false,
-    }
 }
 
 pub fn answer(number: usize, line: usize) -> Said {

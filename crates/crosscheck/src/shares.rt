@@ -9,7 +9,8 @@ use crate::book::level;
 use crate::memory::least;
 use crate::memory::times;
 use crate::queues::passes;
-use crate::scan::Rules;
+use crate::scan::NESTED;
+use crate::scan::OWN_PORT;
 
 // The figures of an accelerator.
 pub struct Row {
@@ -71,25 +72,25 @@ fn nested_others(d: &[usize; 16384], i: usize, own: usize) -> usize {
 }
 
 // D at interconnect i, entered by port p.
-fn rivals(d: &[usize; 16384], i: usize, p: usize, rules: Rules) -> usize {
-    if rules.nested {
+fn rivals(d: &[usize; 16384], i: usize, p: usize, wrong: usize) -> usize {
+    if wrong == NESTED {
         return nested_others(d, i, p);
     }
-    if rules.own_port {
+    if wrong == OWN_PORT {
         return others(d, i, 8);
     }
     others(d, i, p)
 }
 
 // The product of 1 + D on the way from accelerator a up to the root.
-fn share(d: &[usize; 16384], a: usize, rules: Rules) -> usize {
+fn share(d: &[usize; 16384], a: usize, wrong: usize) -> usize {
     let mut row = acc_row(d, a);
     let mut product = 1;
     let mut over = false;
     for _ in 0..4usize {
         if !over {
             let i = cell(d, row, 1);
-            let rival = rivals(d, i, cell(d, row, 2), rules);
+            let rival = rivals(d, i, cell(d, row, 2), wrong);
             product = times(product, sum(rival, 1));
             over = i == 0;
             row = int_row(i);
@@ -128,10 +129,10 @@ fn write_alone(d: &[usize; 16384], levels: usize) -> usize {
 }
 
 // The figures of accelerator a of the tree in the rows.
-pub fn figures(d: &[usize; 16384], a: usize, rules: Rules) -> Row {
+pub fn figures(d: &[usize; 16384], a: usize, wrong: usize) -> Row {
     let row = acc_row(d, a);
     let levels = level(d, cell(d, row, 1));
-    let product = share(d, a, rules);
+    let product = share(d, a, wrong);
     let reads = cell(d, row, 5);
     let writes = cell(d, row, 6);
     let others_read = times(reads, std::num::wrapping_sub_usize(product, 1));

@@ -16,67 +16,54 @@ use crate::memory::add;
 use crate::memory::get;
 use crate::queues::Ended;
 use crate::requests::read_log;
-use crate::scan::Rules;
+use crate::scan::FALLING_FIRST;
+use crate::scan::NESTED;
+use crate::scan::NO_WRONG_RULE;
+use crate::scan::ORDER_FIRST;
+use crate::scan::OWN_PORT;
 use crate::scan::Said;
-use crate::scan::no_wrong_rule;
+use crate::scan::WHOLE_RUN;
 use model::Tree;
 use reader::TreeRead;
 use reader::trace::read_trace;
 use reader::tree::read_tree;
 
-// The counts: trees and traces by their number, 0 where accepted; accepted trees by their deepest level; bounds; runs done,
-// stopped and refused; slots, windows and bytes of the runs; files of the edge list and of case 11; the differences of each
-// wrong rule; the differences.
+// The counts. Trees by the number of their answer, 0 where accepted.
 pub const TREES: usize = 3072;
 
+// Traces by the number of their answer.
 pub const TRACES: usize = 3088;
 
+// Accepted trees by their deepest level.
 pub const LEVELS: usize = 3104;
 
+// Bounds, one past the last accelerator of each tree among them.
 pub const BOUNDS: usize = 3112;
 
+// Runs done, stopped and refused.
 pub const DONE: usize = 3113;
 
 pub const STOPPED: usize = 3114;
 
 pub const REFUSED: usize = 3115;
 
+// Slots and windows of the runs, and bytes lent to them.
 pub const SLOTS: usize = 3116;
 
 pub const WINDOWS: usize = 3117;
 
 pub const BUFFERS: usize = 3118;
 
+// Files of the edge list and of case 11.
 pub const EDGES: usize = 3119;
 
 pub const CASE11: usize = 3120;
 
+// For each wrong rule the inputs on which it is seen.
 pub const WRONG: usize = 3136;
 
+// The differences between the library and the second implementation.
 pub const DIFFERENCES: usize = 3152;
-
-// The wrong rule of a number, in the order in which the program lists them.
-fn wrong(i: usize) -> Rules {
-    let mut r = no_wrong_rule();
-    if i == 0 {
-        r.order_first = true;
-    } else if i == 1 {
-        r.falling_first = true;
-    } else if i == 2 {
-        r.whole_run = true;
-    } else if i == 3 {
-        r.from_zero = true;
-    } else if i == 4 {
-        r.growing = true;
-    } else if i == 5 {
-        r.lower_reset = true;
-    } else if i == 6 {
-        r.own_port = true;
-    } else {
-        r.nested = true;
-    }
-    r
-}
 
 // Counts a difference under `part`, at i.
 fn note(d: &mut [usize; 16384], part: usize, i: usize, same: bool) {
@@ -102,12 +89,12 @@ fn deepest(d: &[usize; 16384]) -> usize {
 fn try_content(t: Tree, d: &mut [usize; 16384]) {
     let tree = same_tree(t, d);
     note(d, DIFFERENCES, 0, tree);
-    let right = same_bounds(t, d, no_wrong_rule());
+    let right = same_bounds(t, d, NO_WRONG_RULE);
     note(d, DIFFERENCES, 0, right);
-    let own_port = same_bounds(t, d, wrong(6));
-    note(d, WRONG, 6, own_port);
-    let nested = same_bounds(t, d, wrong(7));
-    note(d, WRONG, 7, nested);
+    let own_port = same_bounds(t, d, OWN_PORT);
+    note(d, WRONG, OWN_PORT, own_port);
+    let nested = same_bounds(t, d, NESTED);
+    note(d, WRONG, NESTED, nested);
     add(d, BOUNDS, 0, t.accs as usize + 1);
     let levels = deepest(d);
     add(d, LEVELS, levels, 1);
@@ -117,9 +104,9 @@ fn try_content(t: Tree, d: &mut [usize; 16384]) {
 pub fn try_tree(s: &[u8], d: &mut [usize; 16384]) -> TreeRead {
     let r = read_tree(s);
     let answer = r.answer;
-    let wrongly = read_book(s, d, wrong(0));
-    note(d, WRONG, 0, same_said(answer, wrongly));
-    let said = read_book(s, d, no_wrong_rule());
+    let wrongly = read_book(s, d, ORDER_FIRST);
+    note(d, WRONG, ORDER_FIRST, same_said(answer, wrongly));
+    let said = read_book(s, d, NO_WRONG_RULE);
     note(d, DIFFERENCES, 0, same_said(answer, said));
     add(d, TREES, said.number, 1);
     if said.number == 0 {
@@ -131,9 +118,9 @@ pub fn try_tree(s: &[u8], d: &mut [usize; 16384]) -> TreeRead {
 // A trace file, on the tree that the rows have too. The log is left with its lines.
 fn try_trace(t: Tree, s: &[u8], d: &mut [usize; 16384]) -> Said {
     let answer = read_trace(t, s);
-    let wrongly = read_log(s, d, wrong(1));
-    note(d, WRONG, 1, same_said(answer, wrongly));
-    let said = read_log(s, d, no_wrong_rule());
+    let wrongly = read_log(s, d, FALLING_FIRST);
+    note(d, WRONG, FALLING_FIRST, same_said(answer, wrongly));
+    let said = read_log(s, d, NO_WRONG_RULE);
     note(d, DIFFERENCES, 0, same_said(answer, said));
     add(d, TRACES, said.number, 1);
     said
@@ -156,7 +143,7 @@ fn count_run(e: Ended, d: &mut [usize; 16384]) {
     }
 }
 
-// The wrong rules of a run over n bytes, against what the library did.
+// The wrong wrong of a run over n bytes, against what the library did.
 fn try_wrong_runs(
     said: Said,
     d: &mut [usize; 16384],
@@ -164,10 +151,10 @@ fn try_wrong_runs(
     right: Ended,
     n: usize,
 ) {
-    for i in 2..6 {
+    for wrong in WHOLE_RUN..OWN_PORT {
         fill(out, OURS, n);
-        let e = second_run(said, d, out, n, wrong(i));
-        note(d, WRONG, i, same_end(e, right) & same_bytes(out, n));
+        let e = second_run(said, d, out, n, wrong);
+        note(d, WRONG, wrong, same_end(e, right) & same_bytes(out, n));
     }
 }
 
@@ -183,7 +170,7 @@ fn try_run(
     fill(out, 0, n);
     fill(out, OURS, n);
     let right = library_run(t, s, out, n);
-    let e = second_run(said, d, out, n, no_wrong_rule());
+    let e = second_run(said, d, out, n, NO_WRONG_RULE);
     note(d, DIFFERENCES, 0, same_end(e, right) & same_bytes(out, n));
     count_run(e, d);
     add(d, BUFFERS, 0, n);

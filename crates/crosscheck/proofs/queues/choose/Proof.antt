@@ -5,10 +5,10 @@ use Rattle.crosscheck.proofs.queues.choose.Statement.{statement}
 use Rattle.crosscheck.proofs.queues.choose.Tie as tie
 
 abbrev Inv-loop : tie.InvT-loop
-Inv-loop d₀ rules i₀ counter₀ d i counter = counter ≤ 4
+Inv-loop d₀ wrong i₀ counter₀ d i counter = counter ≤ 4
 
 abbrev μ-loop : tie.MeasureT-loop
-μ-loop d₀ rules i₀ counter₀ d i counter = 4 - counter
+μ-loop d₀ wrong i₀ counter₀ d i counter = 4 - counter
 
 pub choose-spec : {M : Type 1} → statement M
 choose-spec = tie.close (tie.spec Inv-loop μ-loop (λ c. search needs) (λ c κs. search needs) (λ c κs. search needs) (λ c. search needs) (λ c. search needs) (λ c. search needs) (λ c. search needs) (λ c. search needs))
