@@ -1,0 +1,14 @@
+-- `try_wrong_runs` ends: at most 7 turns.
+use Prim.Native.Nat.{_≤_, _-_}
+use borrow.Author.Needs.{needs}
+use Rattle.crosscheck.proofs.trials.try_wrong_runs.Statement.{statement}
+use Rattle.crosscheck.proofs.trials.try_wrong_runs.Tie as tie
+
+abbrev Inv-loop : tie.InvT-loop
+Inv-loop said d₀ out₀ right n wrong₀ d out wrong = wrong ≤ 7
+
+abbrev μ-loop : tie.MeasureT-loop
+μ-loop said d₀ out₀ right n wrong₀ d out wrong = 7 - wrong
+
+pub try-wrong-runs-spec : {M : Type 1} → statement M
+try-wrong-runs-spec = tie.close (tie.spec Inv-loop μ-loop (λ c. search needs) (λ c κs. search needs) (λ c κs. search needs) (λ c κs. search needs) (λ c κs. search needs) (λ c κs. search needs) (λ c. search needs) (λ c. search needs) (λ c. search needs) (λ c. search needs))

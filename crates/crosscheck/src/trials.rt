@@ -1,0 +1,192 @@
+// One input at a time: both implementations are run on it, and what is found is counted.
+use crate::book::INTS;
+use crate::book::cell;
+use crate::book::level;
+use crate::book::read_book;
+use crate::compare::OURS;
+use crate::compare::fill;
+use crate::compare::library_run;
+use crate::compare::same_bounds;
+use crate::compare::same_bytes;
+use crate::compare::same_end;
+use crate::compare::same_said;
+use crate::compare::same_tree;
+use crate::compare::second_run;
+use crate::memory::add;
+use crate::memory::get;
+use crate::queues::Ended;
+use crate::requests::read_log;
+use crate::scan::FALLING_FIRST;
+use crate::scan::NESTED;
+use crate::scan::NO_WRONG_RULE;
+use crate::scan::ORDER_FIRST;
+use crate::scan::OWN_PORT;
+use crate::scan::Said;
+use crate::scan::WHOLE_RUN;
+use model::Tree;
+use placing::TreeRead;
+use reader::read_tree;
+use trace::read_trace;
+
+// The counts. Trees by the number of their answer, 0 where accepted.
+pub const TREES: usize = 3072;
+
+// Traces by the number of their answer.
+pub const TRACES: usize = 3088;
+
+// Accepted trees by their deepest level.
+pub const LEVELS: usize = 3104;
+
+// Bounds, one past the last accelerator of each tree among them.
+pub const BOUNDS: usize = 3112;
+
+// Runs done, stopped and refused.
+pub const DONE: usize = 3113;
+
+pub const STOPPED: usize = 3114;
+
+pub const REFUSED: usize = 3115;
+
+// Slots and windows of the runs, and bytes lent to them.
+pub const SLOTS: usize = 3116;
+
+pub const WINDOWS: usize = 3117;
+
+pub const BUFFERS: usize = 3118;
+
+// Files of the edge list and of case 11.
+pub const EDGES: usize = 3119;
+
+pub const CASE11: usize = 3120;
+
+// For each wrong rule the inputs on which it is seen.
+pub const WRONG: usize = 3136;
+
+// The differences between the library and the second implementation.
+pub const DIFFERENCES: usize = 3152;
+
+// Counts a difference under `part`, at i.
+fn note(d: &mut [usize; 16384], part: usize, i: usize, same: bool) {
+    if !same {
+        add(d, part, i, 1);
+    }
+}
+
+fn deepest(d: &[usize; 16384]) -> usize {
+    let mut most = 0;
+    for i in 0..15 {
+        if i < get(d, INTS, 0) {
+            let here = level(d, i);
+            if most < here {
+                most = here;
+            }
+        }
+    }
+    most
+}
+
+// An accepted tree: its entries and its bounds.
+fn try_content(t: Tree, d: &mut [usize; 16384]) {
+    let tree = same_tree(t, d);
+    note(d, DIFFERENCES, 0, tree);
+    let right = same_bounds(t, d, NO_WRONG_RULE);
+    note(d, DIFFERENCES, 0, right);
+    let own_port = same_bounds(t, d, OWN_PORT);
+    note(d, WRONG, OWN_PORT, own_port);
+    let nested = same_bounds(t, d, NESTED);
+    note(d, WRONG, NESTED, nested);
+    add(d, BOUNDS, 0, t.accs as usize + 1);
+    let levels = deepest(d);
+    add(d, LEVELS, levels, 1);
+}
+
+// A tree file. The rows are left with the second reader's tree.
+pub fn try_tree(s: &[u8], d: &mut [usize; 16384]) -> TreeRead {
+    let r = read_tree(s);
+    let answer = r.answer;
+    let wrongly = read_book(s, d, ORDER_FIRST);
+    note(d, WRONG, ORDER_FIRST, same_said(answer, wrongly));
+    let said = read_book(s, d, NO_WRONG_RULE);
+    note(d, DIFFERENCES, 0, same_said(answer, said));
+    add(d, TREES, said.number, 1);
+    if said.number == 0 {
+        try_content(r.tree, d);
+    }
+    r
+}
+
+// A trace file, on the tree that the rows have too. The log is left with its lines.
+fn try_trace(t: Tree, s: &[u8], d: &mut [usize; 16384]) -> Said {
+    let answer = read_trace(t, s);
+    let wrongly = read_log(s, d, FALLING_FIRST);
+    note(d, WRONG, FALLING_FIRST, same_said(answer, wrongly));
+    let said = read_log(s, d, NO_WRONG_RULE);
+    note(d, DIFFERENCES, 0, same_said(answer, said));
+    add(d, TRACES, said.number, 1);
+    said
+}
+
+fn count_run(e: Ended, d: &mut [usize; 16384]) {
+    if e.number != 0 {
+        add(d, REFUSED, 0, 1);
+        return;
+    }
+    if e.done {
+        add(d, DONE, 0, 1);
+    } else {
+        add(d, STOPPED, 0, 1);
+    }
+    add(d, SLOTS, 0, e.slots);
+    let window = cell(d, 0, 0);
+    if window != 0 {
+        add(d, WINDOWS, 0, e.slots / window);
+    }
+}
+
+// The wrong wrong of a run over n bytes, against what the library did.
+fn try_wrong_runs(
+    said: Said,
+    d: &mut [usize; 16384],
+    out: &mut [u8; 131074],
+    right: Ended,
+    n: usize,
+) {
+    for wrong in WHOLE_RUN..OWN_PORT {
+        fill(out, OURS, n);
+        let e = second_run(said, d, out, n, wrong);
+        note(d, WRONG, wrong, same_end(e, right) & same_bytes(out, n));
+    }
+}
+
+// A run over n bytes of each buffer; the slots used if it is done, else 0.
+fn try_run(
+    t: Tree,
+    s: &[u8],
+    said: Said,
+    d: &mut [usize; 16384],
+    out: &mut [u8; 131074],
+    n: usize,
+) -> usize {
+    fill(out, 0, n);
+    fill(out, OURS, n);
+    let right = library_run(t, s, out, n);
+    let e = second_run(said, d, out, n, NO_WRONG_RULE);
+    note(d, DIFFERENCES, 0, same_end(e, right) & same_bytes(out, n));
+    count_run(e, d);
+    add(d, BUFFERS, 0, n);
+    if said.number == 0 {
+        try_wrong_runs(said, d, out, right, n);
+    }
+    if e.done { e.slots } else { 0 }
+}
+
+// A trace, and runs of it: over a buffer of n bytes, and if that is done, over just enough and over one byte less.
+pub fn try_runs(t: Tree, s: &[u8], d: &mut [usize; 16384], out: &mut [u8; 131074], n: usize) {
+    let said = try_trace(t, s, d);
+    let slots = try_run(t, s, said, d, out, n);
+    if slots != 0 {
+        try_run(t, s, said, d, out, slots);
+        let short = slots - 1;
+        try_run(t, s, said, d, out, short);
+    }
+}
