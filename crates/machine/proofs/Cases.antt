@@ -76,7 +76,7 @@ none-waits : (t : Tree) (s : State) → keeps t s ≡ true → noneWaits s ≡ t
 none-waits t s k e =
     zero-all t s (kept-of t s k) (λ a l. eqb-true _ _ (all-at 32 _ e a (omega (arith, sound-of t s k .most-accs))))
 
-some-waits : (t : Tree) (s : State) → keeps t s ≡ true → noneWaits s ≡ false → 0 < inside 4 t (waitingOf s) 0
+pub some-waits : (t : Tree) (s : State) → keeps t s ≡ true → noneWaits s ≡ false → 0 < inside 4 t (waitingOf s) 0
 some-waits t s k e = elim (decLt 0 (inside 4 t (waitingOf s) 0)) [
   | yes h ↦ h
   | no d ↦

@@ -114,7 +114,7 @@ fn admitting(s: State, a: u8) -> State
 }
 
 // The offer of one transaction of accelerator a, for a caller that has checked configuration and state.
-pub fn offer_within(t: Tree, s: State, a: u8) -> OfferReply
+fn offer_within(t: Tree, s: State, a: u8) -> OfferReply
     ensures { λ r. ⌜ offerOutcome r ≡ offeredWithin t s a ⌝ }
 {
     if t.accs <= a {
@@ -156,7 +156,7 @@ pub fn offer(t: Tree, s: State, a: u8) -> OfferReply
     offer_within(t, s, a)
 }
 
-pub fn none_waits(s: State) -> bool
+fn none_waits(s: State) -> bool
     ensures { λ r. ⌜ r ≡ noneWaits s ⌝ }
 {
     let mut ok = true;
@@ -199,7 +199,7 @@ fn take_one(s: State, a: u8) -> State
 }
 
 // One slot, for a caller that has checked configuration and state.
-pub fn slot_within(t: Tree, s: State) -> SlotReply
+fn slot_within(t: Tree, s: State) -> SlotReply
     ensures { λ r. ⌜ slotOutcome r ≡ slottedWithin t s ⌝ }
 {
     if s.slot == 4294967295 {

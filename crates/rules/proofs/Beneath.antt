@@ -166,7 +166,7 @@ module _ (t : Tree) (S : Sound t) where
   on-above {i} {p} k z l o = subst (On i p) (sym (above-step t S k z l)) o
 
   -- a parent is smaller than its child: what follows from the parent holds of every interconnect
-  rising : (P : ℕ → ℕ → Type 0) → ((k q : ℕ) → k < t .ints → (0 < k → P (parentOf t k) (parentPortOf t k)) → P k q)
+  pub rising : (P : ℕ → ℕ → Type 0) → ((k q : ℕ) → k < t .ints → (0 < k → P (parentOf t k) (parentPortOf t k)) → P k q)
       → (k q : ℕ) → k < t .ints → P k q
   rising P step k q l = go (suc k) k q (omega arith) l
     where
@@ -188,14 +188,14 @@ module _ (t : Tree) (S : Sound t) where
       go k q l ih g i p (here e f) = subst₂ P e f g
       go k q l ih g i p (there o) = let v = above-on k l o in ih (v .0) (step k q (v .0) l g) i p (v .1)
 
-  lane-bounds : (k q : ℕ) → k < t .ints → q < 8 → (i p : ℕ) → On i p (lane t k q) → (i ≤ k) × (i < t .ints) × (p < 8)
+  pub lane-bounds : (k q : ℕ) → k < t .ints → q < 8 → (i p : ℕ) → On i p (lane t k q) → (i ≤ k) × (i < t .ints) × (p < 8)
   lane-bounds k q l b i p o =
       along (λ x y. (x ≤ k) × (x < t .ints) × (y < 8))
       (λ x y z lx h. let c : parentOf t x < x = S .parent x z lx in (omega arith, omega arith, S .parent-port x z lx))
       k q l (omega arith) i p o
 
   -- the numbers fall going up
-  falls : {i p : ℕ} (k : ℕ) → k < t .ints → On i p (above 15 t k) → i < k
+  pub falls : {i p : ℕ} (k : ℕ) → k < t .ints → On i p (above 15 t k) → i < k
   falls {i} {p} k l o =
       let v = above-on k l o in
       let c : parentOf t k < k = S .parent k (v .0) l in

@@ -11,10 +11,11 @@ use model::access::last_of;
 use model::access::port_at;
 use model::access::waits_under;
 ghost use mathlib.Core.Path.{_≡_};
-ghost use Prim.Native.Nat.{_-_, min};
+ghost use Prim.Native.Nat.{_+_, _*_, _-_, _%_, min};
 ghost use lib.Dec.{ltb};
+ghost use lib.ListN.{getD};
 ghost use Rattle.model.specs.Fold.{pick};
-ghost use Rattle.turns.specs.Turns.{liveSet, nextPort, turnPort, turnAllowance, reached, who, withTurn, turned, after};
+ghost use Rattle.turns.specs.Turns.{liveSet, nextPort, NextPorts, turnPort, turnAllowance, reached, who, withTurn, turned, after};
 
 // The turn at an interconnect in a slot: its port, and the allowance before this slot takes one off.
 pub struct Turn {
@@ -28,12 +29,27 @@ pub struct Choice {
     pub state: State,
 }
 
+// The table of next ports, for a caller that keeps it.
+pub fn next_ports() -> [u8; 2048]
+    ensures { λ r. ⌜ NextPorts r ⌝ }
+{
+    NEXT
+}
+
+// The entry of a set and a last port in a table of next ports.
+pub fn next_in(table: &[u8; 2048], set: u8, last: u8) -> u8
+    ensures { λ r. ⌜ r ≡ getD (now (table .entry)) (set * 8 + last % 8) 0 ⌝ }
+{
+    let i = set as usize * 8 + last as usize % 8;
+    table[i]
+}
+
 // The next port after the last one among the live ports, 7 followed by 0; 8 if none is live.
 pub fn next_port(set: u8, last: u8) -> u8
     ensures { λ r. ⌜ r ≡ nextPort set last ⌝ }
 {
-    let i = set as usize * 8 + last as usize % 8;
-    NEXT[i]
+    let table = next_ports();
+    next_in(&table, set, last)
 }
 
 fn live_bit(waiting: u32) -> u8
@@ -56,7 +72,7 @@ pub fn live_set(t: Tree, s: State, j: u8) -> u8
 }
 
 // The smaller of the granularity and what waits.
-fn grant(granularity: u8, waiting: u32) -> u8
+pub fn grant(granularity: u8, waiting: u32) -> u8
     ensures { λ r. ⌜ r ≡ min granularity waiting ⌝ }
 {
     if waiting < granularity as u32 {

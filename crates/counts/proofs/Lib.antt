@@ -1,0 +1,4 @@
+pub mod Steps
+pub mod Choosing
+pub mod Changed
+pub mod Counted

@@ -1,0 +1,3 @@
+pub mod Wiring
+pub mod Counts
+pub mod Choice

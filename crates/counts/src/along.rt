@@ -1,0 +1,92 @@
+// The counts and the live ports brought up to date along a path, from a port up to the root.
+ghost use mathlib.Core.Path.{_≡_};
+ghost use Prim.Native.Nat.{_+_, _%_, _-_};
+ghost use lib.Dec.{eqb};
+ghost use Rattle.model.specs.Fold.{pick};
+ghost use Rattle.counts.specs.Counts.{up, withPort, withoutPort, raised, opened, lowered, closed};
+
+// The set with port p in it.
+fn with_port(set: u8, p: u8) -> u8
+    ensures { λ r. ⌜ r ≡ withPort set (p % 8) ⌝ }
+{
+    set | (1 << (p % 8))
+}
+
+// The set without port p where nothing waits under it any longer.
+fn if_waiting(set: u8, p: u8, waiting: u16) -> u8
+    ensures { λ r. ⌜ r ≡ pick (eqb waiting 0) (withoutPort set (p % 8)) set ⌝ }
+{
+    if waiting == 0 {
+        return set & (255 - (1 << (p % 8)));
+    }
+    set
+}
+
+// One less, 0 for 0.
+fn less_one(n: u16) -> u16
+    ensures { λ r. ⌜ r ≡ n - 1 ⌝ }
+{
+    if n == 0 {
+        return 0;
+    }
+    n - 1
+}
+
+// The count with n more, as 16 bits hold it.
+fn more(waiting: u16, n: u8) -> u16
+    ensures { λ r. ⌜ r ≡ (waiting + n) % 65536 ⌝ }
+{
+    ((waiting as u32 + n as u32) % 65536) as u16
+}
+
+// A port's number as an index.
+fn wide(c: u16) -> usize
+    ensures { λ r. ⌜ r ≡ c ⌝ }
+{
+    c as usize
+}
+
+// n more wait under the ports from `place` up to the root.
+pub fn add_along(above: &[u16; 15], place: u16, n: u8, under: &mut [u16; 120], live: &mut [u8; 15])
+    ensures counts { λ _. ⌜ now (under .exit) ≡ raised (up 4 (now (above .entry)) place) n (now (under .entry)) ⌝ }
+    ensures sets { λ _. ⌜ now (live .exit) ≡ opened (up 4 (now (above .entry)) place) (now (live .entry)) ⌝ }
+{
+    let mut c = place as usize;
+    let mut left: u8 = 4;
+    while 0 < left {
+        if 119 < c {
+            return;
+        }
+        let j = c / 8;
+        under[c] = more(under[c], n);
+        live[j] = with_port(live[j], (c % 8) as u8);
+        if j == 0 {
+            return;
+        }
+        c = wide(above[j]);
+        left -= 1;
+    }
+}
+
+// One less waits under the ports from `place` up to the root.
+pub fn take_along(above: &[u16; 15], place: u16, under: &mut [u16; 120], live: &mut [u8; 15])
+    ensures counts { λ _. ⌜ now (under .exit) ≡ lowered (up 4 (now (above .entry)) place) (now (under .entry)) ⌝ }
+    ensures sets { λ _. ⌜ now (live .exit) ≡ closed (up 4 (now (above .entry)) place) (now (under .entry)) (now (live .entry)) ⌝ }
+{
+    let mut c = place as usize;
+    let mut left: u8 = 4;
+    while 0 < left {
+        if 119 < c {
+            return;
+        }
+        let j = c / 8;
+        let waiting = less_one(under[c]);
+        under[c] = waiting;
+        live[j] = if_waiting(live[j], (c % 8) as u8, waiting);
+        if j == 0 {
+            return;
+        }
+        c = wide(above[j]);
+        left -= 1;
+    }
+}
