@@ -5,7 +5,6 @@ use mathlib.Core.Bool.{true}
 use mathlib.Core.List.{List}
 use mathlib.Core.Path.{_≡_, refl, sym, _∙_, ap, subst}
 use native.Mathlib.Decide.{decLt, ℕ-discrete}
-use native.Mathlib.Nat.{le-antisymm}
 use native.Mathlib.Numerals.{add-one}
 use native.Mathlib.Omega.{arith}
 use lib.ListN.{length}
@@ -13,11 +12,9 @@ use lib.Seq.{getD-set-same, getD-set-other, set-out}
 use Rattle.model.specs.declared.Tree.{Tree}
 use Rattle.model.specs.declared.State.{State}
 use Rattle.rules.specs.Rules.{keeps}
-use Rattle.machine.specs.Machine.{Answer, admitted, served, idle, refused, Outcome, outcome, offeredWithin, offered}
-use Rattle.machine.proofs.Steps.{offer-passed}
+use Rattle.machine.specs.Machine.{Answer, admitted, served, idle, refused, offered}
 use Rattle.machine.proofs.Laws.{offer-keeps}
-use Rattle.runner.specs.declared.Offering.{Offering}
-use Rattle.runner.specs.Offers.{heldOf, release, onAdmitted, offering, offerHeld, offerAll, offerEach}
+use Rattle.runner.specs.Offers.{Offering, heldOf, release, onAdmitted, offering, offerHeld, offerAll, offerEach}
 
 -- an admission, and a refusal, picks its case
 on-admitted : {A : Type 0} (x : Answer) (y z : A) → x ≡ admitted → onAdmitted x y z ≡ y
@@ -30,38 +27,15 @@ pub release-own : (h : List ℕ) (a : ℕ) → a < length h → heldOf (release 
 release-own h a l = getD-set-same h a _ 0 l
 
 module _ (t : Tree) (s : State) (h : List ℕ) (a : ℕ) where
-  pub held-none : heldOf h a ≤ 0 → offerHeld (heldOf h a) t (offering s h) a ≡ offering s h
-  unfolding offerHeld
-  held-none l = ap (λ k. offerHeld k t (offering s h) a) (le-antisymm l (omega arith))
-
-  held-refused : (k n : ℕ) → offered t s a .answer ≡ refused n → offerHeld k t (offering s h) a ≡ offering s h
+  pub held-refused : (k n : ℕ) → offered t s a .answer ≡ refused n → offerHeld k t (offering s h) a ≡ offering s h
   unfolding offerHeld
   held-refused zero n e = refl
   held-refused (suc k) n e = on-refused _ n _ _ e
 
-  held-more : (k : ℕ) → offered t s a .answer ≡ admitted
+  pub held-more : (k : ℕ) → offered t s a .answer ≡ admitted
       → offerHeld (suc k) t (offering s h) a ≡ offerHeld k t (offering (offered t s a .state) (release h a)) a
   unfolding offerHeld
   held-more k e = on-admitted _ _ _ e
-
-  -- what one offer of the code says, where the state keeps its rules
-  module _ (k : keeps t s ≡ true) (x : Answer) (r : State) (o : outcome x r ≡ offeredWithin t s a) where
-    same : outcome x r ≡ offered t s a
-    same = o ∙ offer-passed t s a k
-
-    pub offer-kept : keeps t r ≡ true
-    offer-kept = subst (λ (m : Outcome). keeps t (m .state) ≡ true) (sym same) (offer-keeps t s a k)
-
-    pub held-stop : (n m : ℕ) → x ≡ refused n → offerHeld m t (offering s h) a ≡ offering s h
-    held-stop n m e = held-refused m n (sym (ap (λ (m : Outcome). m .answer) same) ∙ e)
-
-    pub held-turn : x ≡ admitted → 0 < heldOf h a → a < length h
-        → offerHeld (heldOf h a) t (offering s h) a ≡ offerHeld (heldOf (release h a) a) t (offering r (release h a)) a
-    held-turn e l m =
-        let n : heldOf h a ≡ suc (heldOf (release h a) a) = omega (arith, release-own h a m) in
-        ap (λ (q : ℕ). offerHeld q t (offering s h) a) n
-        ∙ held-more (heldOf (release h a) a) (sym (ap (λ (m : Outcome). m .answer) same) ∙ e)
-        ∙ ap (λ (q : State). offerHeld (heldOf (release h a) a) t (offering q (release h a)) a) (sym (ap (λ (m : Outcome). m .state) same))
 
 -- what holds of either way after an offer
 pub either : {A : Type 0} (Q : A → Type 0) (x : Answer) (y z : A) → Q y → Q z → Q (onAdmitted x y z)
@@ -69,6 +43,21 @@ either Q admitted y z p q = p
 either Q (served a) y z p q = q
 either Q idle y z p q = q
 either Q (refused n) y z p q = q
+
+-- offers leave what they do not name
+held-same : {A : Type 0} (f : State → A) (t : Tree) → ((s : State) (a : ℕ) → f (offered t s a .state) ≡ f s) → (k : ℕ) (o : Offering) (a : ℕ)
+    → f (offerHeld k t o a .state) ≡ f (o .state)
+unfolding offerHeld
+held-same f t g zero o a = refl
+held-same f t g (suc k) o a =
+    either (λ (p : Offering). f (p .state) ≡ f (o .state)) (offered t (o .state) a .answer) _ o
+    (held-same f t g k (offering (offered t (o .state) a .state) (release (o .held) a)) a ∙ g (o .state) a) refl
+
+pub each-same : {A : Type 0} (f : State → A) (t : Tree) → ((s : State) (a : ℕ) → f (offered t s a .state) ≡ f s) → (n : ℕ) (o : Offering)
+    → f (offerEach n t o .state) ≡ f (o .state)
+unfolding offerEach
+each-same f t g zero o = refl
+each-same f t g (suc n) o = held-same f t g (heldOf (offerEach n t o .held) n) (offerEach n t o) n ∙ each-same f t g n o
 
 -- offers keep the rules of the state
 pub held-kept : (k : ℕ) (t : Tree) (o : Offering) (a : ℕ) → keeps t (o .state) ≡ true

@@ -11,17 +11,17 @@ use lib.Dec.{ltb}
 use lib.ListN.{length, length-set}
 use borrow.Author.Tests.{lt-ltb, le-ltb, le-leb, lt-leb}
 use Rattle.model.specs.declared.Tree.{Tree}
+use Rattle.model.specs.declared.State.{State}
 use Rattle.model.specs.Fold.{pick}
 use Rattle.rules.specs.Rules.{treeKeeps, keeps}
 use Rattle.model.proofs.Folds.{picked, passed}
 use Rattle.trace.specs.declared.Request.{Request}
 use Rattle.machine.specs.Machine.{refused, offered, lastSlot, slotted}
 use Rattle.machine.proofs.Laws.{fresh-keeps, offer-others, slot-keeps, slot-only-last, slot-windows}
-use Rattle.runner.specs.declared.Offering.{Offering}
-use Rattle.runner.specs.Offers.{heldOf, release, offering, offerHeld, offerEach}
+use Rattle.runner.specs.Offers.{Offering, heldOf, release, offering, offerHeld, offerEach}
 use Rattle.runner.specs.Run.{Run, hold, isDue, heldWith, leftAfter, withDue, beforeSlot, lastByte, next, isDone, Trail, trail, start, done, stopped, endOf}
 use Rattle.runner.specs.Slots.{standing, bytesBefore, leftFrom}
-use Rattle.runner.proofs.Held.{either, each-kept}
+use Rattle.runner.proofs.Held.{each-same, either, each-kept}
 use Rattle.runner.proofs.Slots.{trail-done, trail-none, trail-slot}
 
 -- one slot first, or last
@@ -140,17 +140,8 @@ done-exactly k t r m = (
     R = ran k t r
 
 -- offers leave the slot count, and keep the held counts' number
-held-slot : (k : ℕ) (t : Tree) (o : Offering) (a : ℕ) → offerHeld k t o a .state .slot ≡ o .state .slot
-unfolding offerHeld
-held-slot zero t o a = refl
-held-slot (suc k) t o a =
-    either (λ (p : Offering). p .state .slot ≡ o .state .slot) (offered t (o .state) a .answer) _ o
-    (held-slot k t (offering (offered t (o .state) a .state) (release (o .held) a)) a ∙ offer-others t (o .state) a .slot) refl
-
 pub each-slot : (n : ℕ) (t : Tree) (o : Offering) → offerEach n t o .state .slot ≡ o .state .slot
-unfolding offerEach
-each-slot zero t o = refl
-each-slot (suc n) t o = held-slot (heldOf (offerEach n t o .held) n) t (offerEach n t o) n ∙ each-slot n t o
+each-slot n t = each-same (λ (s : State). s .slot) t (λ s a. offer-others t s a .slot) n
 
 pub held-long : (k : ℕ) (t : Tree) (o : Offering) (a : ℕ) → length (offerHeld k t o a .held) ≡ length (o .held)
 unfolding offerHeld

@@ -4,3 +4,7 @@ pub mod Slots
 pub mod Endings
 pub mod Laws
 pub mod Asked
+pub mod Together
+pub mod Stored
+pub mod Settled
+pub mod Going

@@ -18,22 +18,19 @@ use Rattle.machine.specs.Machine.{Answer, Outcome, outcome, freshState, slotted
 use Rattle.machine.proofs.Steps.{slot-passed}
 use Rattle.machine.proofs.Laws.{slot-keeps, fresh-keeps}
 use Rattle.machine.proofs.Keeps.{zeros}
-use Rattle.runner.specs.declared.Offering.{Offering}
-use Rattle.runner.specs.declared.Due.{Due}
-use Rattle.runner.specs.declared.Place.{Place}
-use Rattle.runner.specs.declared.Step.{Step}
-use Rattle.runner.specs.Offers.{heldOf, offering, offerEach}
+use Rattle.runner.specs.Offers.{Offering, heldOf, offering, offerEach}
+use Rattle.runner.specs.declared.NextLine.{NextLine}
 use Rattle.runner.specs.Run.{Run, beforeSlot, byteOf, lastByte, next, isDone, Trail, ended, written, trail, start, done, stopped, endOf, over}
-use Rattle.runner.specs.Places.{leftAt, runAt, Accepts, Taken, Stands, Stepped}
+use Rattle.runner.specs.Places.{Place, leftAt, runAt, Accepts, Taken, Stands, Stepped}
 use Rattle.runner.proofs.Held.{each-kept, each-less}
 
 -- one slot, from what its calls say
-module _ (t : Tree) (s : List ℕ) (p : Place) (S : Stands t s p) (d : Due) (T : Taken (p .state .slot) s (p .held) (p .at) d) (o : Offering) (e : o ≡ offerEach (t .accs) t (offering (p .state) (d .held))) where
+module _ (t : Tree) (s : List ℕ) (p : Place) (S : Stands t s p) (h : List ℕ) (d : NextLine) (T : Taken (p .state .slot) s (p .held) (p .at) h d) (o : Offering) (e : o ≡ offerEach (t .accs) t (offering (p .state) h)) where
   before : o ≡ beforeSlot t (runAt s p)
-  before = e ∙ ap (λ h. offerEach (t .accs) t (offering (p .state) h)) (T .held)
+  before = e ∙ ap (λ (x : List ℕ). offerEach (t .accs) t (offering (p .state) x)) (T .held)
 
   kept : keeps t (o .state) ≡ true
-  kept = subst (λ (x : Offering). keeps t (x .state) ≡ true) (sym e) (each-kept (t .accs) t (offering (p .state) (d .held)) (S .keeps-rules))
+  kept = subst (λ (x : Offering). keeps t (x .state) ≡ true) (sym e) (each-kept (t .accs) t (offering (p .state) h) (S .keeps-rules))
 
   module _ (x : Answer) (r : State) (q : outcome x r ≡ slottedWithin t (o .state)) where
     same : outcome x r ≡ slotted t (o .state)
@@ -42,7 +39,7 @@ module _ (t : Tree) (s : List ℕ) (p : Place) (S : Stands t s p) (d : Due) (T :
     same-before : outcome x r ≡ slotted t (beforeSlot t (runAt s p) .state)
     same-before = same ∙ ap (λ (y : Offering). slotted t (y .state)) before
 
-    pub one-step : (b : ℕ) → b ≡ byteOf x → Stepped t s p (record { place = record { state = r; held = o .held; at = d .at }; byte = b })
+    pub one-step : (b : ℕ) → b ≡ byteOf x → Stepped t s p (record { state = r; held = o .held; at = d .at }) b
     unfolding next
     one-step b f = record {
       place = ap₂ (λ (m : Outcome) (y : Offering). record { state = m .state; held = y .held; left = leftAt s (d .at) }) same-before before
@@ -52,8 +49,8 @@ module _ (t : Tree) (s : List ℕ) (p : Place) (S : Stands t s p) (d : Due) (T :
         keeps-rules = subst (λ (m : Outcome). keeps t (m .state) ≡ true) (sym same) (slot-keeps t (o .state) kept);
         accepts = T .accepts;
         room = λ a.
-            let m : heldOf (o .held) a ≡ heldOf (offerEach (t .accs) t (offering (p .state) (d .held)) .held) a = ap (λ (y : Offering). heldOf (y .held) a) e in
-            omega (arith, m, each-less (t .accs) t (offering (p .state) (d .held)) a, T .room a);
+            let m : heldOf (o .held) a ≡ heldOf (offerEach (t .accs) t (offering (p .state) h) .held) a = ap (λ (y : Offering). heldOf (y .held) a) e in
+            omega (arith, m, each-less (t .accs) t (offering (p .state) h) a, T .room a);
       };
     }
 
@@ -124,20 +121,20 @@ module _ (t : Tree) (s d₀ d : List ℕ) (p : Place) (n : ℕ) (R : Running t s
       let z : length d₀ - n ≡ 0 = omega (arith, R .long) in
       ends false (ap (λ (m : ℕ). trail m t (runAt s p)) z ∙ trail-none t (runAt s p) ∙ ap ended e)
 
-  pub running-turn : n < length d → isDone (runAt s p) ≡ false → (x : Step) → Stepped t s p x
-      → Running t s d₀ (set d n (x .byte)) (x .place) (n + 1)
-  running-turn l e x q =
+  pub running-turn : n < length d → isDone (runAt s p) ≡ false → (p′ : Place) (b : ℕ) → Stepped t s p p′ b
+      → Running t s d₀ (set d n b) p′ (n + 1)
+  running-turn l e p′ b q =
       let m : length d₀ - n ≡ suc (length d₀ - (n + 1)) = omega (arith, R .long) in
       record {
         stands = q .stands;
         small = omega (arith, R .long);
-        long = length-set d n (x .byte) ∙ R .long;
-        rest = drop-set-lt (n + 1) d n (x .byte) (omega arith) ∙ sym (drop-drop 1 n d) ∙ ap (drop 1) (R .rest) ∙ drop-drop 1 n d₀;
+        long = length-set d n b ∙ R .long;
+        rest = drop-set-lt (n + 1) d n b (omega arith) ∙ sym (drop-drop 1 n d) ∙ ap (drop 1) (R .rest) ∙ drop-drop 1 n d₀;
         trails =
             ap₂ (λ (bs : List ℕ) (r : Run). following bs (trail (length d₀ - (n + 1)) t r))
-            (ap (λ (i : ℕ). take i (set d n (x .byte))) (add-one n) ∙ take-suc-set d n (x .byte) l) (q .place)
+            (ap (λ (i : ℕ). take i (set d n b)) (add-one n) ∙ take-suc-set d n b l) (q .place)
             ∙ ap (λ (bs : List ℕ). record { bytes = bs; done = trail (length d₀ - (n + 1)) t (next t (runAt s p)) .done })
-            (append-assoc (take n d) (x .byte ∷ []) (trail (length d₀ - (n + 1)) t (next t (runAt s p)) .bytes))
+            (append-assoc (take n d) (b ∷ []) (trail (length d₀ - (n + 1)) t (next t (runAt s p)) .bytes))
             ∙ ap (λ (b : ℕ). following (take n d) (written b (trail (length d₀ - (n + 1)) t (next t (runAt s p))))) (q .byte)
             ∙ ap (following (take n d)) (sym (ap (λ (i : ℕ). trail i t (runAt s p)) m ∙ trail-slot (length d₀ - (n + 1)) t (runAt s p) e))
             ∙ R .trails;

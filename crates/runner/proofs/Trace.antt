@@ -6,8 +6,8 @@ use mathlib.Core.Path.{_≡_, refl, sym, _∙_, ap, subst}
 use native.Mathlib.Decide.{decLt, ℕ-discrete}
 use native.Mathlib.Omega.{arith}
 use lib.Dec.{eqb}
-use lib.ListN.{length, length-set}
-use lib.Seq.{getD-set-same, getD-set-other}
+use lib.ListN.{length}
+use lib.Seq.{getD-set-same, getD-set-other, set-out}
 use borrow.Author.Tests.{le-leb, lt-leb, eq-eqb, ne-eqb}
 use Rattle.model.specs.declared.Tree.{Tree}
 use Rattle.model.proofs.Folds.{picked, passed}
@@ -20,7 +20,8 @@ use Rattle.trace.proofs.Traces.{trace-start}
 use Rattle.trace.proofs.Requests.{accepted-trace, Step, walk-step, walk-end}
 use Rattle.runner.specs.Offers.{heldOf}
 use Rattle.runner.specs.Run.{hold, heldWith, leftAfter}
-use Rattle.runner.specs.Places.{leftAt, Accepts, Room, Taken}
+use Rattle.runner.specs.declared.NextLine.{NextLine}
+use Rattle.runner.specs.Places.{leftAt, dueOf, Accepts, Room, Taken}
 
 -- the request r stands at a place of an accepted trace, and its line ends before the place p
 pub record Next (s : List ℕ) (at : ℕ) (r : Request) (p : ℕ) : Type 0 where
@@ -107,11 +108,14 @@ module _ (n : ℕ) (h : List ℕ) where
       (picked _ _ _ (le-leb _ _ l), picked _ _ _ (le-leb _ _ l))
 
 -- a line's count fits beside what is held
-pub hold-room : (h : List ℕ) (at p : ℕ) (r : Request) → Room h at → length h ≡ 32 → r .accelerator < 32 → r .count < 256 → at < p → Room (hold h r) p
-hold-room h at p r R l k c m a = elim (ℕ-discrete a (r .accelerator)) [
-  | yes e ↦
-      subst (λ (x : ℕ). heldOf (hold h r) x ≤ 255 * p) (sym e)
-      (omega (arith, getD-set-same h (r .accelerator) (heldOf h (r .accelerator) + r .count) 0 (omega arith), R (r .accelerator)))
+pub hold-room : (h : List ℕ) (at p : ℕ) (r : Request) → Room h at → r .count < 256 → at < p → Room (hold h r) p
+hold-room h at p r R c m a = elim (ℕ-discrete a (r .accelerator)) [
+  | yes e ↦ elim (decLt (r .accelerator) (length h)) [
+    | yes l ↦
+        subst (λ (x : ℕ). heldOf (hold h r) x ≤ 255 * p) (sym e)
+        (omega (arith, getD-set-same h (r .accelerator) (heldOf h (r .accelerator) + r .count) 0 l, R (r .accelerator)))
+    | no d ↦ omega (arith, ap (λ (x : List ℕ). heldOf x a) (set-out h (r .accelerator) (heldOf h (r .accelerator) + r .count) (omega arith)), R a)
+  ]
   | no d ↦ omega (arith, getD-set-other h (r .accelerator) a (heldOf h (r .accelerator) + r .count) 0 d, R a)
 ]
 
@@ -119,39 +123,55 @@ hold-room h at p r R l k c m a = elim (ℕ-discrete a (r .accelerator)) [
 pub record Taking (n : ℕ) (s h₀ : List ℕ) (at₀ : ℕ) (h : List ℕ) (at : ℕ) : Type 0 where
   pub accepts : Accepts s at
   pub room : Room h at
-  pub long : length h ≡ 32
   pub held : heldWith n h₀ (leftAt s at₀) ≡ heldWith n h (leftAt s at)
   pub left : leftAfter n (leftAt s at₀) ≡ leftAfter n (leftAt s at)
 
-pub taking-start : (n : ℕ) (s h : List ℕ) (at : ℕ) → Accepts s at → Room h at → length h ≡ 32 → Taking n s h at h at
-taking-start n s h at A R l = record { accepts = A; room = R; long = l; held = refl; left = refl }
+pub taking-start : (n : ℕ) (s h : List ℕ) (at : ℕ) → Accepts s at → Room h at → Taking n s h at h at
+taking-start n s h at A R = record { accepts = A; room = R; held = refl; left = refl }
 
 module _ (n : ℕ) (s h₀ : List ℕ) (at₀ : ℕ) (h : List ℕ) (at : ℕ) (T : Taking n s h₀ at₀ h at) where
-  ends : (heldWith n h (leftAt s at) ≡ h) × (leftAfter n (leftAt s at) ≡ leftAt s at) → Taken n s h₀ at₀ (record { held = h; at = at })
-  ends e = record {
+  ends : (n′ : ℕ) → n′ ≤ dueOf (leftAt s at) → (heldWith n h (leftAt s at) ≡ h) × (leftAfter n (leftAt s at) ≡ leftAt s at)
+      → Taken n s h₀ at₀ h (record { at = at; due = n′ })
+  ends n′ d e = record {
     held = sym (T .held ∙ e .0);
     left = sym (T .left ∙ e .1);
     accepts = T .accepts;
     room = T .room;
+    due = d;
   }
 
-  pub taking-all : length s ≤ at → Taken n s h₀ at₀ (record { held = h; at = at })
-  taking-all l = ends (none-due n h (leftAt s at) (walk-end s at l .1))
+  pub taking-all : length s ≤ at → Taken n s h₀ at₀ h (record { at = at; due = 4294967295 })
+  taking-all l =
+      let e = walk-end s at l .1 in
+      ends 4294967295 (subst (λ (rs : List Request). 4294967295 ≤ dueOf rs) (sym e) (omega arith)) (none-due n h (leftAt s at) e)
 
   module _ (l : at < length s) (r : Request) (p : ℕ) (e : requestAt s at ≡ Due r p) where
     pub taking-next : Next s at r p
     taking-next = line-next s at (T .accepts) l r p e
 
-    pub taking-later : n < r .slot → Taken n s h₀ at₀ (record { held = h; at = at })
-    taking-later m = ends (later-due n h (leftAt s at) (leftAt s p) r (taking-next .left) m)
+    pub taking-later : n < r .slot → Taken n s h₀ at₀ h (record { at = at; due = r .slot })
+    taking-later m =
+        let q = taking-next .left in
+        ends (r .slot) (subst (λ (rs : List Request). r .slot ≤ dueOf rs) (sym q) (omega arith)) (later-due n h (leftAt s at) (leftAt s p) r q m)
 
     pub taking-turn : r .slot ≤ n → r .count < 256 → Taking n s h₀ at₀ (hold h r) p
     taking-turn m c =
         let d = now-due n h (leftAt s at) (leftAt s p) r (taking-next .left) m in
         record {
           accepts = taking-next .accepts;
-          room = hold-room h at p r (T .room) (T .long) (taking-next .known) c (taking-next .later);
-          long = length-set h (r .accelerator) (heldOf h (r .accelerator) + r .count) ∙ T .long;
+          room = hold-room h at p r (T .room) c (taking-next .later);
           held = T .held ∙ d .0;
           left = T .left ∙ d .1;
         }
+
+-- before the slot of the next line none is due
+pub not-due : (n : ℕ) (h : List ℕ) (rs : List Request) → n < dueOf rs → (heldWith n h rs ≡ h) × (leftAfter n rs ≡ rs)
+unfolding heldWith leftAfter
+not-due n h [] l = (refl, refl)
+not-due n h (r ∷ rs) l = later-due n h (r ∷ rs) rs r refl l
+
+pub taken-none : (n : ℕ) (s h : List ℕ) (d : NextLine) → Accepts s (d .at) → Room h (d .at) → d .due ≤ dueOf (leftAt s (d .at)) → n < d .due
+    → Taken n s h (d .at) h d
+taken-none n s h d A R m l =
+    let e = not-due n h (leftAt s (d .at)) (omega arith) in
+    record { held = sym (e .0); left = sym (e .1); accepts = A; room = R; due = m }

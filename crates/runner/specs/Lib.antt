@@ -3,3 +3,4 @@ pub mod Run
 pub mod Slots
 pub mod Answers
 pub mod Places
+pub mod Arrays

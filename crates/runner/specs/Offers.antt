@@ -2,7 +2,7 @@
 --
 -- heldOf h a            the held transactions of accelerator a
 -- release h a           the held counts with one transaction of accelerator a less
--- offering s h          the state s and the held counts h between two offers
+-- Offering              the state and the held counts between two offers; offering s h: the state s and the held counts h
 -- onAdmitted x y z      y if the answer x is an admission, else z
 -- offerHeld k t o a     accelerator a offers held transactions, at most k of them, "until one is refused or none is left, and
 --                       an offer that is refused leaves the held request first in line"
@@ -14,7 +14,10 @@ use lib.ListN.{getD, set}
 use Rattle.model.specs.declared.Tree.{Tree}
 use Rattle.model.specs.declared.State.{State}
 use Rattle.machine.specs.Machine.{Answer, admitted, served, idle, refused, offered}
-use Rattle.runner.specs.declared.Offering.{Offering}
+
+pub record Offering : Type 0 where
+  pub state : State
+  pub held : List ℕ
 
 abbrev pub heldOf : List ℕ → ℕ → ℕ
 heldOf h a = getD h a 0

@@ -39,8 +39,7 @@ use Rattle.lines.specs.declared.FileAnswer.{FileAnswer}
 use Rattle.lines.specs.declared.FileAnswer.the-variants.{Accepted, Refused, Broken}
 use Rattle.trace.specs.TraceFile.{readTrace, requests}
 use Rattle.machine.specs.Machine.{Answer, admitted, served, idle, refused, freshState, noneWaits, slotted}
-use Rattle.runner.specs.declared.Offering.{Offering}
-use Rattle.runner.specs.Offers.{heldOf, offering, offerEach}
+use Rattle.runner.specs.Offers.{heldOf, Offering, offering, offerEach}
 
 pub record Run : Type 0 where
   pub state : State

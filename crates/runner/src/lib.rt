@@ -3,15 +3,20 @@
 mod offers;
 mod steps;
 
+use counts::tables::wiring_of;
 use lines::FileAnswer;
 use machine::FreshAnswer;
 use machine::fresh;
 use model::Refusal;
 use model::State;
 use model::Tree;
+use offers::offer_before_slot;
 use steps::is_done;
-use steps::one_slot;
-use trace::read_trace;
+use steps::open_window;
+use steps::serve;
+use steps::take_due;
+use trace::read_requests;
+use turns::next_ports;
 ghost use mathlib.Core.Path.{_≡_};
 ghost use mathlib.Core.Bool.{true};
 ghost use Prim.Native.Nat.{_≤_};
@@ -22,6 +27,9 @@ ghost use Rattle.runner.specs.Run.{runFor, endOf, over, ranOf, bufferAft
 ghost use Rattle.runner.specs.Answers.{runMeans};
 ghost use Rattle.runner.specs.Places.{leftAt, Accepts};
 
+// The byte of an idle slot.
+pub const IDLE: u8 = 255;
+
 // What a run answers: refused, with a line of the trace, or 0 for a size; refused because the configuration breaks its
 // rules, which has no line; or done or stopped, with the number of slots used.
 pub enum RunAnswer {
@@ -31,53 +39,90 @@ pub enum RunAnswer {
     Stopped(u32),
 }
 
-// The state and the held counts between two offers.
-pub struct Offering {
-    pub state: State,
-    pub held: [u32; 32],
+// What is held, waiting and admitted once `count` of the held transactions are admitted.
+pub struct Admission {
+    pub count: u8,
+    pub held: u32,
+    pub waiting: u8,
+    pub admitted: u16,
 }
 
-// The held counts once the lines due are added, and the place of the next line.
-pub struct Due {
-    pub held: [u32; 32],
+// What the offers of one accelerator before a slot come to.
+pub enum HeldOffers {
+    NoneAdmitted,
+    Admitted(Admission),
+}
+
+// The place of the next line, and a slot before which it is not due.
+pub struct NextLine {
     pub at: usize,
+    pub due: u32,
 }
 
-// Where a run stands before a slot: the state, the held counts and the place of the next line.
-pub struct Place {
-    pub state: State,
-    pub held: [u32; 32],
-    pub at: usize,
-}
-
-// One slot of a run: its byte, and where the run stands after it.
-pub struct Step {
-    pub place: Place,
-    pub byte: u8,
-}
-
-// The run of an accepted trace, one byte a slot, until nothing is left or the buffer is full.
+// The run of an accepted trace, one byte a slot, until nothing is left or the buffer is full. Beside the state's arrays it
+// keeps what waits under each port and the live ports, and the next line's slot. The slot count is the number of bytes used.
 fn run_slots(t: Tree, fresh: State, trace: &[u8], out: &mut [u8]) -> RunAnswer
     requires { ⌜ (treeKeeps t ≡ true) × (fresh ≡ freshState t) × (length (now out) ≤ 65536) × Accepts (now trace) 0 ⌝ }
     ensures answer { λ r. ⌜ runMeans r ≡ endOf (runFor t (leftAt (now (trace .entry)) 0) (length (now (out .entry)))) ⌝ }
     ensures bytes { λ r. ⌜ now (out .exit) ≡ over (runFor t (leftAt (now (trace .entry)) 0) (length (now (out .entry)))) (now (out .entry)) ⌝ }
 {
-    let mut place = Place {
-        state: fresh,
-        held: [0u32; 32],
-        at: 0,
-    };
+    let window = t.bus.window as u32;
+    let wiring = wiring_of(t);
+    let carries = wiring.carries;
+    let grants = wiring.grants;
+    let above = wiring.above;
+    let homes = wiring.homes;
+    let limits = wiring.limits;
+    let budgets = wiring.budgets;
+    let next = next_ports();
+    let mut waiting = fresh.waiting;
+    let mut admitted = fresh.admitted;
+    let mut last = fresh.last;
+    let mut allowance = fresh.allowance;
+    let mut under = [0u16; 120];
+    let mut live = [0u8; 15];
+    let mut held = [0u32; 32];
+    let mut line = NextLine { at: 0, due: 0 };
+    let mut served = IDLE;
+    let mut opened = true;
     let mut used: usize = 0;
     while used < out.len() {
-        if is_done(trace, place) {
+        if is_done(trace, line.at, &held, &live) {
             return RunAnswer::Done(used as u32);
         }
-        let step = one_slot(t, trace, place);
-        out[used] = step.byte;
-        place = step.place;
+        let every = opened | (line.due <= used as u32) | (served == IDLE);
+        line = take_due(trace, used as u32, line, &mut held);
+        offer_before_slot(
+            every,
+            served,
+            t.accs,
+            &limits,
+            &budgets,
+            &homes,
+            &above,
+            &mut waiting,
+            &mut admitted,
+            &mut held,
+            &mut under,
+            &mut live,
+        );
+        served = serve(
+            &next,
+            &carries,
+            &grants,
+            &above,
+            &homes,
+            &mut waiting,
+            &mut last,
+            &mut allowance,
+            &mut under,
+            &mut live,
+        );
+        out[used] = served;
         used += 1;
+        opened = open_window(window, used as u32, &mut admitted);
     }
-    if is_done(trace, place) {
+    if is_done(trace, line.at, &held, &live) {
         return RunAnswer::Done(used as u32);
     }
     RunAnswer::Stopped(used as u32)
@@ -96,7 +141,7 @@ pub fn run(t: Tree, trace: &[u8], out: &mut [u8]) -> RunAnswer
     if 65536 < out.len() {
         return RunAnswer::Refused(Refusal::Limit, 0);
     }
-    match read_trace(t, trace) {
+    match read_requests(t.accs, trace) {
         FileAnswer::Accepted => run_slots(t, start.state, trace, out),
         FileAnswer::Refused(why, line) => RunAnswer::Refused(why, line),
         FileAnswer::Broken => RunAnswer::Broken,

@@ -1,52 +1,52 @@
-// One slot of a run: the lines due, the offers, and the slot.
-use crate::Due;
-use crate::Offering;
-use crate::Place;
-use crate::Step;
-use crate::offers::offer_each;
-use machine::SlotAnswer;
-use machine::none_waits;
-use machine::slot_within;
-use model::Tree;
+// What a run does in one slot beside the offers: the lines due, the service, and the window's end.
+use crate::IDLE;
+use crate::NextLine;
+use counts::along::take_along;
+use counts::choice::choose;
 use trace::NextRequest;
 use trace::request_at;
+use turns::less_one;
 ghost use mathlib.Core.Path.{_≡_};
-ghost use Rattle.machine.specs.Answers.{slotMeans};
-ghost use Rattle.runner.specs.Run.{byteOf, noneHeld, isDone};
-ghost use Rattle.runner.specs.Places.{Accepts, Room, Taken, Stands, Stepped, runAt};
+ghost use mathlib.Core.Bool.{_&&_};
+ghost use Prim.Native.Nat.{_≤_};
+ghost use lib.Dec.{eqb};
+ghost use lib.ListN.{length, getD, replicate};
+ghost use Rattle.model.specs.Fold.{pick};
+ghost use Rattle.runner.specs.Run.{noneHeld};
+ghost use Rattle.runner.specs.Places.{leftAt, dueOf, Accepts, Room, Taken};
+ghost use Rattle.runner.specs.Arrays.{begins, Serves};
 
 // Adds the lines due in this slot to the held counts.
-fn take_due(trace: &[u8], slot: u32, held: [u32; 32], at: usize) -> Due
-    requires { ⌜ Accepts (now trace) at × Room held at ⌝ }
-    ensures { λ r. ⌜ Taken slot (now (trace .entry)) held at r ⌝ }
+pub fn take_due(trace: &[u8], slot: u32, line: NextLine, held: &mut [u32; 32]) -> NextLine
+    requires { ⌜ Accepts (now trace) (line .at) × Room (now held) (line .at) × (line .due ≤ dueOf (leftAt (now trace) (line .at))) ⌝ }
+    ensures { λ r. ⌜ Taken slot (now (trace .entry)) (now (held .entry)) (line .at) (now (held .exit)) r ⌝ }
 {
-    let mut counts = held;
-    let mut place = at;
+    if slot < line.due {
+        return line;
+    }
+    let mut place = line.at;
     while place < trace.len() {
         let NextRequest::Due(request, next) = request_at(trace, place) else {
-            return Due {
-                held: counts,
-                at: place,
-            };
+            return line;
         };
         if slot < request.slot {
-            return Due {
-                held: counts,
+            return NextLine {
                 at: place,
+                due: request.slot,
             };
         }
         let a = request.accelerator as usize;
-        counts[a] = counts[a] + request.count as u32;
+        held[a] = held[a] + request.count as u32;
         place = next;
     }
-    Due {
-        held: counts,
+    NextLine {
         at: place,
+        due: 4294967295,
     }
 }
 
-fn none_held(held: [u32; 32]) -> bool
-    ensures { λ r. ⌜ r ≡ noneHeld held ⌝ }
+fn none_held(held: &[u32; 32]) -> bool
+    ensures { λ r. ⌜ r ≡ noneHeld (now (held .entry)) ⌝ }
 {
     let mut ok = true;
     let mut a: usize = 0;
@@ -57,54 +57,52 @@ fn none_held(held: [u32; 32]) -> bool
     ok
 }
 
-// No line left, none held, none waiting.
-pub fn is_done(trace: &[u8], p: Place) -> bool
-    requires { ⌜ Accepts (now trace) (p .at) ⌝ }
-    ensures { λ r. ⌜ r ≡ isDone (runAt (now (trace .entry)) p) ⌝ }
+// No line left, none held, none waiting: nothing waits exactly if no port of the root is live.
+pub fn is_done(trace: &[u8], at: usize, held: &[u32; 32], live: &[u8; 15]) -> bool
+    ensures { λ r. ⌜ r ≡ (eqb at (length (now (trace .entry))) && noneHeld (now (held .entry)) && eqb (getD (now (live .entry)) 0 0) 0) ⌝ }
 {
-    let held = p.held;
-    (p.at == trace.len()) & none_held(held) & none_waits(p.state)
+    (at == trace.len()) & none_held(held) & (live[0] == 0)
 }
 
-// The accelerator served, or 255. No slot of a run is refused.
-fn byte_of(answer: SlotAnswer) -> u8
-    ensures { λ r. ⌜ r ≡ byteOf (slotMeans answer) ⌝ }
+// Serves the transaction whose turn it is, and answers its accelerator, or that the slot is idle.
+pub fn serve(
+    next: &[u8; 2048],
+    carries: &[u16; 120],
+    grants: &[u8; 15],
+    above: &[u16; 15],
+    homes: &[u16; 32],
+    waiting: &mut [u8; 32],
+    last: &mut [u8; 15],
+    allowance: &mut [u8; 15],
+    under: &mut [u16; 120],
+    live: &mut [u8; 15],
+) -> u8
+    ensures { λ r. ⌜ Serves (now (next .entry)) (now (carries .entry)) (now (grants .entry)) (now (above .entry)) (now (homes .entry)) (now (waiting .entry)) (now (last .entry)) (now (allowance .entry)) (now (under .entry)) (now (live .entry)) r (now (waiting .exit)) (now (last .exit)) (now (allowance .exit)) (now (under .exit)) (now (live .exit)) ⌝ }
 {
-    match answer {
-        SlotAnswer::Idle => 255,
-        SlotAnswer::Served(a) => a,
-        SlotAnswer::Refused(_) => 255,
+    if live[0] == 0 {
+        return IDLE;
     }
+    let a = choose(next, carries, grants, under, live, 4, 0, last, allowance);
+    let i = a as usize;
+    if 31 < i {
+        return IDLE;
+    }
+    waiting[i] = less_one(waiting[i]);
+    take_along(above, homes[i], under, live);
+    a
 }
 
-// The lines due, the offers, and one slot.
-pub fn one_slot(t: Tree, trace: &[u8], p: Place) -> Step
-    requires { ⌜ Stands t (now trace) p ⌝ }
-    ensures { λ r. ⌜ Stepped t (now (trace .entry)) p r ⌝ }
+// Where slot n begins a window the admitted counts return to 0. Answers whether it does.
+pub fn open_window(window: u32, n: u32, admitted: &mut [u16; 32]) -> bool
+    ensures opens { λ r. ⌜ r ≡ begins window n ⌝ }
+    ensures counts { λ r. ⌜ now (admitted .exit) ≡ pick (begins window n) (replicate 32 0) (now (admitted .entry)) ⌝ }
 {
-    let state = p.state;
-    let held = p.held;
-    let due = take_due(trace, state.slot, held, p.at);
-    let counts = due.held;
-    let before = offer_each(
-        t,
-        Offering {
-            state: state,
-            held: counts,
-        },
-    );
-    let left = before.held;
-    let x = slot_within(t, before.state);
-    let answer = x.answer;
-    let byte = byte_of(answer);
-    let served = x.state;
-    let after = Place {
-        state: served,
-        held: left,
-        at: due.at,
-    };
-    Step {
-        place: after,
-        byte: byte,
+    if window == 0 {
+        return false;
     }
+    if n % window == 0 {
+        *admitted = [0u16; 32];
+        return true;
+    }
+    false
 }

@@ -1,3 +1,4 @@
+pub mod Computed
 pub mod Events
 pub mod Offers
 pub mod Theorem

@@ -18,7 +18,7 @@ use Rattle.machine.specs.Machine.{Outcome, offered}
 use Rattle.machine.specs.Calls.{Call, offer, stateAfter}
 use Rattle.machine.proofs.Cases.{Offered, refuses, admits, offer-cases}
 use Rattle.guarantee.specs.Guarantee.{Event, event, eventsOf, slotsIn}
-use Rattle.runner.specs.declared.Offering.{Offering}
+use Rattle.runner.specs.Offers.{Offering}
 use Rattle.runner.specs.Offers.{heldOf, release, onAdmitted, offering, offerHeld, offerEach}
 use Rattle.runner.proofs.Held.{release-own}
 use Rattle.runs.specs.Calls.{offersHeld, offersEach, bytesIn, admissionsBy}

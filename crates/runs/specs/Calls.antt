@@ -12,6 +12,7 @@
 -- byteIn c x            the byte of a slot's answer; none for an offer
 -- bytesIn es            the answers of the slots among the events es, as bytes
 -- admissionsBy a es     the admissions of accelerator a among the events es
+-- askedBefore a m rs    what the lines of rs that are due before slot m ask for accelerator a
 -- Reports e m           the ending e "reports done or stopped, and the number of slots used", m
 -- RunIsCalls t s d m    what is proved of a run of trace s over the buffer d that reports m slots
 use Prim.Native.Nat.{ℕ, zero, suc, _+_, _≤_, _<_}
@@ -21,12 +22,12 @@ use mathlib.Core.Logic.{_⊎_}
 use lib.ListN.{length, take}
 use Rattle.model.specs.declared.Tree.{Tree}
 use Rattle.text.specs.Text.{lines}
+use Rattle.trace.specs.declared.Request.{Request}
 use Rattle.trace.specs.TraceFile.{requests, totalFor}
 use Rattle.machine.specs.Machine.{Answer, freshState, offered}
 use Rattle.machine.specs.Calls.{Call, offer, slot, stateAfter}
 use Rattle.guarantee.specs.Guarantee.{Event, eventsOf, slotsIn, admitsOne, Guarantee}
-use Rattle.runner.specs.declared.Offering.{Offering}
-use Rattle.runner.specs.Offers.{heldOf, release, onAdmitted, offering, offerEach}
+use Rattle.runner.specs.Offers.{Offering, heldOf, release, onAdmitted, offering, offerEach}
 use Rattle.runner.specs.Run.{Run, withDue, byteOf, start, Ending, done, stopped, bufferAfter}
 use Rattle.runner.specs.Slots.{standing, dueBefore}
 
@@ -73,6 +74,9 @@ admissionsBy a (e ∷ es) = admitsOne a (e .answer) (e .call) + admissionsBy a e
 abbrev pub eventsOfRun : Tree → List ℕ → ℕ → List Event
 eventsOfRun t s n = eventsOf t (freshState t) (callsOf t s n)
 
+abbrev pub askedBefore : ℕ → ℕ → List Request → ℕ
+askedBefore a m rs = totalFor a (dueBefore m rs)
+
 abbrev pub Reports : Ending → ℕ → Type 0
 Reports e m = (e ≡ done m) ⊎ (e ≡ stopped m)
 
@@ -89,4 +93,4 @@ pub record RunIsCalls (t : Tree) (s d : List ℕ) (m : ℕ) : Type 0 where
   -- what an accelerator still holds and what was admitted of it is what its lines due have asked
   pub asked : (a : ℕ) → a < t .accs
       → heldOf (standing m t (traceStart t s) .held) a + admissionsBy a (eventsOfRun t s m)
-      ≡ totalFor a (dueBefore m (requests (lines s)))
+      ≡ askedBefore a m (requests (lines s))

@@ -10,6 +10,7 @@
 --                         the lines ls from line n on, and u after the last LF ("missing last LF" is 1)
 -- readTrace t s           11 first, which has no line; "File size comes first, then lines in order"; "An empty trace is
 --                         accepted"
+-- ReadsOn a s r           on every configuration of a accelerators that keeps its rules, r is what trace s is read as
 -- requests ls             the requests of an accepted trace's lines, in order
 -- rising s rs             "Slots do not fall": from slot s on
 -- inRange a r             request r is in its limits, of an accelerator of the tree
@@ -21,6 +22,7 @@
 use Prim.Native.Nat.{ℕ, _+_}
 use mathlib.Core.Bool.{Bool, true, _&&_, not}
 use mathlib.Core.List.{List, [], _∷_}
+use mathlib.Core.Path.{_≡_}
 use lib.ListN.{length, getD, set, take, drop, replicate}
 use lib.Dec.{leb, ltb, eqb}
 use Rattle.model.specs.declared.Tree.{Tree}
@@ -75,6 +77,9 @@ readTrace t s =
     pick (not (treeKeeps t)) Broken
     (pick (ltb 65536 (length s)) (Refused Limit 0)
     (readOffers 1 (t .accs) 0 noTotals (lines s) (unended s)))
+
+abbrev pub ReadsOn : ℕ → List ℕ → FileAnswer → Type 0
+ReadsOn a s r = (t : Tree) → treeKeeps t ≡ true → t .accs ≡ a → r ≡ readTrace t s
 
 unfoldable pub requests : List (List ℕ) → List Request
 requests [] = []

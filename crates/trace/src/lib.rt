@@ -17,7 +17,7 @@ ghost use lib.Dec.{ltb};
 ghost use lib.ListN.{getD};
 ghost use Rattle.lines.specs.Lines.{limitsKept};
 ghost use Rattle.trace.specs.OfferText.{numberAt, offerText, offerOf};
-ghost use Rattle.trace.specs.TraceFile.{requestOf, offerLine, readTrace, requestAt};
+ghost use Rattle.trace.specs.TraceFile.{requestOf, offerLine, readTrace, ReadsOn, requestAt};
 
 // An o line of a trace: so many transactions of an accelerator are requested at a slot.
 pub struct Request {
@@ -147,17 +147,17 @@ fn offer_line(
     OfferRead::Offer(r)
 }
 
-// Whether the trace is accepted on this configuration, or why and at which line it is refused.
-pub fn read_trace(t: Tree, s: &[u8]) -> FileAnswer
-    ensures { λ r. ⌜ r ≡ readTrace t (now (s .entry)) ⌝ }
+// Whether the trace is accepted on a configuration of so many accelerators that keeps its rules, or why and at which line it is
+// refused. No configuration that keeps its rules has more than 32.
+pub fn read_requests(accs: u8, s: &[u8]) -> FileAnswer
+    ensures { λ r. ⌜ ReadsOn accs (now (s .entry)) r ⌝ }
 {
-    if !tree_keeps(t) {
+    if 32 < accs {
         return FileAnswer::Broken;
     }
     if 65536 < s.len() {
         return FileAnswer::Refused(Refusal::Limit, 0);
     }
-    let accs = t.accs;
     let mut totals = [0u32; 32];
     let mut last: u32 = 0;
     let mut at = 0;
@@ -182,6 +182,16 @@ pub fn read_trace(t: Tree, s: &[u8]) -> FileAnswer
         n += 1;
     }
     FileAnswer::Accepted
+}
+
+// Whether the trace is accepted on this configuration, or why and at which line it is refused.
+pub fn read_trace(t: Tree, s: &[u8]) -> FileAnswer
+    ensures { λ r. ⌜ r ≡ readTrace t (now (s .entry)) ⌝ }
+{
+    if !tree_keeps(t) {
+        return FileAnswer::Broken;
+    }
+    read_requests(t.accs, s)
 }
 
 // The request on the line that begins at `at`, and the place after the line; the end where no such line is there.

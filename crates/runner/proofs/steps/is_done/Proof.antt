@@ -1,14 +1,16 @@
--- `is_done` meets its contract: no byte of the trace is left exactly where no line is.
+-- `is_done` meets its contract: the three tests are those of the definition.
+use mathlib.Core.Path.{ap}
+use mathlib.Core.Bool.{Bool, _&&_}
+use lib.Dec.{eqb}
+use lib.ListN.{length, getD}
 use borrow.Author.Needs.{needs}
-use Rattle.model.proofs.Lists.{and-cong}
-use Rattle.runner.proofs.Trace.{left-ends}
 use Rattle.runner.proofs.steps.is_done.Statement.{statement}
 use Rattle.runner.proofs.steps.is_done.Tie as tie
 
 returns : tie.Need-returns
 returns c =
-    let x = c .before .before .before .before .before .args in
-    and-cong (and-cong (left-ends (x .trace .now) (x .p .at) (c .before .before .before .before .before .pre)) (c .before .none-held .ensures)) (c .none-waits .ensures)
+    let x = c .before .before .before .args in
+    ap (λ (b : Bool). eqb (x .at) (length (x .trace .now)) && b && eqb (getD (x .live .now) 0 0) 0) (c .before .none-held .ensures)
 
 pub is-done-spec : {M : Type 1} → statement M
-is-done-spec = tie.close (tie.spec (λ c κs. search needs) (λ c κs. search needs) returns)
+is-done-spec = tie.close (tie.spec (λ c κs. search needs) (λ c. search needs) returns)

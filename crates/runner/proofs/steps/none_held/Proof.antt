@@ -2,11 +2,11 @@
 use mathlib.Core.Path.{_≡_, refl, sym}
 use Prim.Native.Nat.{_≤_, _-_}
 use native.Mathlib.Omega.{arith}
-use lib.Dec.{eqb}
 use borrow.Author.Needs.{needs}
+use lib.Dec.{eqb}
 use Rattle.model.specs.Fold.{all}
-use Rattle.runner.specs.Offers.{heldOf}
 use Rattle.model.proofs.Sums.{all-none, all-turn, all-end}
+use Rattle.runner.specs.Offers.{heldOf}
 use Rattle.runner.proofs.steps.none_held.Statement.{statement}
 use Rattle.runner.proofs.steps.none_held.Tie as tie
 
@@ -21,11 +21,22 @@ loop-holds c = (search needs, sym (all-none _))
 
 loop-again : tie.Need-loop-again Inv-loop μ-loop
 loop-again c =
-    (omega arith, all-turn _ (λ b. eqb (heldOf (c .before .before .args .t1) b) 0) _ _ (c .before .loop .inv .1) refl)
+    (omega arith, all-turn _ (λ b. eqb (heldOf (c .before .before .before .args .held .now) b) 0) _ _ (c .before .before .loop .inv .1) refl)
 
 returns : tie.Need-returns Inv-loop μ-loop
 returns c =
-    all-end _ 32 (λ b. eqb (heldOf (c .before .before .args .t1) b) 0) _ (c .before .loop .inv .1) (c .before .loop .inv .0) (c .loop-test .left)
+    all-end _ 32 (λ b. eqb (heldOf (c .before .before .args .held .now) b) 0) _ (c .before .loop .inv .1) (c .before .loop .inv .0) (c .loop-test .left)
 
 pub none-held-spec : {M : Type 1} → statement M
-none-held-spec = tie.close (tie.spec Inv-loop μ-loop loop-holds (λ c. search needs) (λ c. search needs) (λ c. search needs) (λ c. search needs) loop-again returns)
+none-held-spec =
+    tie.close
+    (tie.spec
+    Inv-loop
+    μ-loop
+    loop-holds
+    (λ c. search needs)
+    (λ c. search needs)
+    (λ c. search needs)
+    (λ c. search needs)
+    loop-again
+    returns)
