@@ -125,6 +125,7 @@ fn show_runs(d: &[usize; 16384]) {
     line(b"bytes of the buffers", d, BUFFERS, 0);
 }
 
+// How many files the two wrong orders of refusals are seen on.
 fn show_wrong(d: &[usize; 16384]) {
     line(
         b"wrong: 3 tested before 2, trees seen",
@@ -138,6 +139,10 @@ fn show_wrong(d: &[usize; 16384]) {
         WRONG,
         FALLING_FIRST,
     );
+}
+
+// How many runs, and trees, the other wrong rules are seen on.
+fn show_wrong_runs(d: &[usize; 16384]) {
     line(
         b"wrong: budgets over the whole run, runs seen",
         d,
@@ -198,4 +203,5 @@ fn main() {
     show_files(&d);
     show_runs(&d);
     show_wrong(&d);
+    show_wrong_runs(&d);
 }

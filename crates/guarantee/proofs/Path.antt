@@ -18,7 +18,7 @@ use Rattle.model.specs.declared.State.{State}
 use Rattle.model.specs.declared.Port.the-variants.{Acc, Int}
 use Rattle.model.specs.Tree.{Crossing, portOf, parentOf, parentPortOf, homeOf, homePortOf, above, path, waitingOf}
 use Rattle.rules.proofs.Sound.{Sound, Kept, above-root, above-step}
-use Rattle.rules.proofs.Beneath.{On, here, there, Below, lane, on?, path-bounds, path-up, path-root, path-next, path-holds}
+use Rattle.rules.proofs.Beneath.{On, here, there, Below, lane, on?, rising, path-bounds, path-up, path-root, path-next, path-holds}
 use Rattle.turns.specs.Turns.{turnPort}
 use Rattle.turns.proofs.Descent.{Turned, Unturned}
 use Rattle.bounds.specs.Bounds.{othersAt, shareAlong, shareOf}
@@ -70,17 +70,6 @@ module _ (t : Tree) (S : Sound t) where
   pub wait-most : (s : State) → Kept t s → (a m : ℕ) → a < t .accs → waitOf t s a m ≤ m * shareOf t a
   wait-most s K a m la = most s K (path t a) (path-bounds t S a la) m
 
-  -- a parent is smaller than its child: what follows from the parent holds of every interconnect
-  rising : (P : ℕ → ℕ → Type 0) → ((k q : ℕ) → k < t .ints → (0 < k → P (parentOf t k) (parentPortOf t k)) → P k q)
-      → (k q : ℕ) → k < t .ints → P k q
-  rising P step k q l = go (suc k) k q (omega arith) l
-    where
-      go : (n k q : ℕ) → k < n → k < t .ints → P k q
-      go zero k q b l = absurd (omega arith)
-      go (suc n) k q b l =
-          step k q l (λ z. let c = S .parent k z l in
-          go n (parentOf t k) (parentPortOf t k) (omega arith) (omega arith))
-
   -- the wait above an interconnect: none above the root, else that of its crossing on the parent
   above-wait : (s : State) (k w : ℕ) → 0 < k → k < t .ints
       → waitAlong t s (above 15 t k) w ≡ waitAlong t s (lane t (parentOf t k) (parentPortOf t k)) w
@@ -112,7 +101,7 @@ module _ (t : Tree) (S : Sound t) where
 
     drops : (k q : ℕ) → k < t .ints → Drops k q
     unfolding Drops waitAlong
-    drops = rising Drops (λ k q l ih o v w h.
+    drops = rising t S Drops (λ k q l ih o v w h.
         drops-above k q l o ih (layerOf t r k q v) (layerOf t s k q w)
         (layer-own (aheadOf t s k q) (othersAt t k q) (aheadOf t r k q) v w
         (ahead-most t S r L k q l (path-bounds t S b lb k q o .1)) h))
@@ -190,7 +179,7 @@ module _ (t : Tree) (S : Sound t) where
 
       falls : (k q : ℕ) → k < t .ints → Falls k q
       unfolding Falls
-      falls = rising Falls (λ k q l ih oa d w h. elim (on? k (turnPort t s k) (path t b)) [
+      falls = rising t S Falls (λ k q l ih oa d w h. elim (on? k (turnPort t s k) (path t b)) [
         | yes o ↦ parting k q l oa d w h o
         | no c ↦ passing-by k q l ih oa w h c
       ])
