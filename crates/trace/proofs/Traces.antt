@@ -29,7 +29,7 @@ use Rattle.trace.specs.declared.OfferText.the-variants.{Unshaped}
 use Rattle.lines.specs.declared.FileAnswer.{FileAnswer}
 use Rattle.lines.specs.declared.FileAnswer.the-variants.{Accepted, Refused, Broken}
 use Rattle.lines.specs.Lines.{lineOf, valueAt, shaped, limitsKept, inTrace}
-use Rattle.trace.specs.TraceFile.{requestOf, totalOf, added, offerLine, afterOffer, readOffers, noTotals, readTrace, ReadsOn, requestOn, requestAt}
+use Rattle.trace.specs.TraceFile.{requestOf, totalOf, added, offerLine, afterOffer, readOffers, noTotals, readTrace, readRequests, requestOn, requestAt}
 use Rattle.trace.specs.OfferText.{offerText, offerOf}
 use Rattle.trace.proofs.Offers.{endAt, isOfferLine, Read, text-not, offer-shaped, offer-limits-same}
 use Rattle.lines.proofs.Limits.{yes-not, no-not, nonempty}
@@ -116,16 +116,24 @@ pub trace-start : (t : Tree) (s : List ℕ) → treeKeeps t ≡ true → length 
 unfolding readTrace
 trace-start t s e h = passed _ _ _ (no-not _ e) ∙ passed _ _ _ (le-ltb _ _ h)
 
--- the same for every configuration of so many accelerators that keeps its rules
+-- the same where the rules were checked before
 module _ (accs : ℕ) (s : List ℕ) where
-  pub reads-none : 32 < accs → (r : FileAnswer) → ReadsOn accs s r
-  reads-none h r t k e = absurd (omega (arith, sound t k .most-accs))
+  pub reads-none : 32 < accs → readRequests accs s ≡ Broken
+  unfolding readRequests
+  reads-none h = picked _ _ _ (lt-ltb _ _ h)
 
-  pub reads-size : 65536 < length s → ReadsOn accs s (Refused Limit 0)
-  reads-size h t k e = sym (trace-size t s k h)
+  module _ (m : accs ≤ 32) where
+    pub reads-size : 65536 < length s → readRequests accs s ≡ Refused Limit 0
+    unfolding readRequests
+    reads-size h = passed _ _ _ (le-ltb _ _ m) ∙ picked _ _ _ (lt-ltb _ _ h)
 
-  pub reads-from : length s ≤ 65536 → (r : FileAnswer) → traceFrom 1 accs 0 noTotals s 0 ≡ r → ReadsOn accs s r
-  reads-from h r q t k e = sym (trace-start t s k h ∙ ap (λ a. traceFrom 1 a 0 noTotals s 0) e ∙ q)
+    pub reads-from : length s ≤ 65536 → readRequests accs s ≡ traceFrom 1 accs 0 noTotals s 0
+    unfolding readRequests
+    reads-from h = passed _ _ _ (le-ltb _ _ m) ∙ passed _ _ _ (le-ltb _ _ h)
+
+pub reads-kept : (t : Tree) (s : List ℕ) → treeKeeps t ≡ true → readRequests (t .accs) s ≡ readTrace t s
+unfolding readRequests readTrace
+reads-kept t s k = passed _ _ _ (le-ltb _ _ (sound t k .most-accs)) ∙ sym (passed _ _ _ (no-not _ k))
 
 module _ (n accs last : ℕ) (totals s : List ℕ) (at : ℕ) where
   pub trace-end : length s ≤ at → traceFrom n accs last totals s at ≡ Accepted

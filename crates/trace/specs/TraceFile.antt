@@ -10,7 +10,8 @@
 --                         the lines ls from line n on, and u after the last LF ("missing last LF" is 1)
 -- readTrace t s           11 first, which has no line; "File size comes first, then lines in order"; "An empty trace is
 --                         accepted"
--- ReadsOn a s r           on every configuration of a accelerators that keeps its rules, r is what trace s is read as
+-- readRequests a s        trace s read for a configuration of a accelerators whose rules were checked before; over 32 there is
+--                         none
 -- requests ls             the requests of an accepted trace's lines, in order
 -- rising s rs             "Slots do not fall": from slot s on
 -- inRange a r             request r is in its limits, of an accelerator of the tree
@@ -22,7 +23,6 @@
 use Prim.Native.Nat.{ℕ, _+_}
 use mathlib.Core.Bool.{Bool, true, _&&_, not}
 use mathlib.Core.List.{List, [], _∷_}
-use mathlib.Core.Path.{_≡_}
 use lib.ListN.{length, getD, set, take, drop, replicate}
 use lib.Dec.{leb, ltb, eqb}
 use Rattle.model.specs.declared.Tree.{Tree}
@@ -78,8 +78,11 @@ readTrace t s =
     (pick (ltb 65536 (length s)) (Refused Limit 0)
     (readOffers 1 (t .accs) 0 noTotals (lines s) (unended s)))
 
-abbrev pub ReadsOn : ℕ → List ℕ → FileAnswer → Type 0
-ReadsOn a s r = (t : Tree) → treeKeeps t ≡ true → t .accs ≡ a → r ≡ readTrace t s
+unfoldable pub readRequests : ℕ → List ℕ → FileAnswer
+readRequests a s =
+    pick (ltb 32 a) Broken
+    (pick (ltb 65536 (length s)) (Refused Limit 0)
+    (readOffers 1 a 0 noTotals (lines s) (unended s)))
 
 unfoldable pub requests : List (List ℕ) → List Request
 requests [] = []

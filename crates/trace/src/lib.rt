@@ -17,7 +17,7 @@ ghost use lib.Dec.{ltb};
 ghost use lib.ListN.{getD};
 ghost use Rattle.lines.specs.Lines.{limitsKept};
 ghost use Rattle.trace.specs.OfferText.{numberAt, offerText, offerOf};
-ghost use Rattle.trace.specs.TraceFile.{requestOf, offerLine, readTrace, ReadsOn, requestAt};
+ghost use Rattle.trace.specs.TraceFile.{requestOf, offerLine, readTrace, readRequests, requestAt};
 
 // An o line of a trace: so many transactions of an accelerator are requested at a slot.
 pub struct Request {
@@ -147,10 +147,10 @@ fn offer_line(
     OfferRead::Offer(r)
 }
 
-// Whether the trace is accepted on a configuration of so many accelerators that keeps its rules, or why and at which line it is
-// refused. No configuration that keeps its rules has more than 32.
+// Whether the trace is accepted on a configuration of so many accelerators, whose rules were checked before, or why and at which
+// line it is refused. Over 32 there is no such configuration, and the answer is `Broken`.
 pub fn read_requests(accs: u8, s: &[u8]) -> FileAnswer
-    ensures { λ r. ⌜ ReadsOn accs (now (s .entry)) r ⌝ }
+    ensures { λ r. ⌜ r ≡ readRequests accs (now (s .entry)) ⌝ }
 {
     if 32 < accs {
         return FileAnswer::Broken;
@@ -188,10 +188,10 @@ pub fn read_requests(accs: u8, s: &[u8]) -> FileAnswer
 pub fn read_trace(t: Tree, s: &[u8]) -> FileAnswer
     ensures { λ r. ⌜ r ≡ readTrace t (now (s .entry)) ⌝ }
 {
-    if !tree_keeps(t) {
-        return FileAnswer::Broken;
+    if tree_keeps(t) {
+        return read_requests(t.accs, s);
     }
-    read_requests(t.accs, s)
+    FileAnswer::Broken
 }
 
 // The request on the line that begins at `at`, and the place after the line; the end where no such line is there.

@@ -1,11 +1,10 @@
--- `read_requests` meets its contract: on every configuration with these accelerators the answer for the file is the answer for what is
--- left of it.
-use mathlib.Core.Path.{_≡_, refl, sym, _∙_}
+-- `read_requests` meets its contract: the answer for the file is the answer for what is left of it.
+use mathlib.Core.Path.{_≡_, sym, _∙_}
 use Prim.Native.Nat.{_≤_, _-_, _+_}
 use native.Mathlib.Omega.{arith}
 use lib.ListN.{length}
 use borrow.Author.Needs.{needs}
-use Rattle.trace.specs.TraceFile.{noTotals}
+use Rattle.trace.specs.TraceFile.{readRequests}
 use Rattle.trace.proofs.Offers.{text-read}
 use Rattle.trace.proofs.Traces.{traceFrom, reads-none, reads-size, reads-from, trace-end, trace-unshaped, trace-refused, trace-taken, offer-says}
 use Rattle.trace.proofs.read_requests.Statement.{statement}
@@ -13,25 +12,24 @@ use Rattle.trace.proofs.read_requests.Tie as tie
 
 abbrev Inv-loop : tie.InvT-loop
 Inv-loop accs s totals₀ last₀ at₀ n₀ totals last at n =
-    (at ≤ length s) × (length s ≤ 65536) × (n ≤ at + 1) × (accs ≤ 32) × (traceFrom 1 accs 0 noTotals s 0 ≡ traceFrom n accs last totals s at)
+    (at ≤ length s) × (length s ≤ 65536) × (n ≤ at + 1) × (accs ≤ 32) × (readRequests accs s ≡ traceFrom n accs last totals s at)
 
 abbrev μ-loop : tie.MeasureT-loop
 μ-loop accs s totals₀ last₀ at₀ n₀ totals last at n = length s - at
 
 returns : tie.Need-returns Inv-loop μ-loop
-returns c = reads-none _ _ (c .if1 .taken) _
+returns c = sym (reads-none _ _ (c .if1 .taken))
 
 returns-2 : tie.Need-returns-2 Inv-loop μ-loop
-returns-2 c = reads-size _ _ (c .if2 .taken)
+returns-2 c = sym (reads-size _ _ (c .before .if1 .left) (c .if2 .taken))
 
 loop-holds : tie.Need-loop-holds Inv-loop μ-loop
-loop-holds c = (omega arith, c .if2 .left, omega arith, c .before .if1 .left, refl)
+loop-holds c = (omega arith, c .if2 .left, omega arith, c .before .if1 .left, reads-from _ _ (c .before .if1 .left) (c .if2 .left))
 
 returns-3 : tie.Need-returns-3 Inv-loop μ-loop
 returns-3 c =
     let x = c .before .before .before .before .before .before .before .before .args in
-    reads-from (x .accs) (x .s .now) (c .before .before .before .before .before .if2 .left) _
-    (c .before .before .before .before .loop .inv .4 ∙ trace-unshaped (x .s .now) _ _ _ _ _ (c .before .before .before .loop-test .taken) (sym (c .before .before .offer-at .ensures) ∙ c .enum-told .given .1))
+    sym (c .before .before .before .before .loop .inv .4 ∙ trace-unshaped (x .s .now) _ _ _ _ _ (c .before .before .before .loop-test .taken) (sym (c .before .before .offer-at .ensures) ∙ c .enum-told .given .1))
 
 offer-line-requires : tie.Need-offer-line-requires Inv-loop μ-loop
 offer-line-requires c κs = c .before .before .before .before .before .before .loop .inv .3
@@ -40,8 +38,7 @@ returns-4 : tie.Need-returns-4 Inv-loop μ-loop
 returns-4 c =
     let x = c .before .before .before .before .before .before .before .before .before .before .before .before .before .before .args in
     let r = text-read (x .s .now) (c .before .before .before .before .before .before .before .before .before .before .loop .at) _ _ _ _ (sym (c .before .before .before .before .before .before .before .before .offer-at .ensures) ∙ c .before .before .before .before .before .before .l .given .1) in
-    reads-from (x .accs) (x .s .now) (c .before .before .before .before .before .before .before .before .before .before .before .if2 .left) _
-    (c .before .before .before .before .before .before .before .before .before .before .loop .inv .4 ∙ trace-refused (x .s .now) _ _ _ _ _ (c .before .before .before .before .before .before .before .before .before .loop-test .taken) _ _ _ _ r _ (c .before .before .before .offer-line .ensures) _ (c .before .x .given .1))
+    sym (c .before .before .before .before .before .before .before .before .before .before .loop .inv .4 ∙ trace-refused (x .s .now) _ _ _ _ _ (c .before .before .before .before .before .before .before .before .before .loop-test .taken) _ _ _ _ r _ (c .before .before .before .offer-line .ensures) _ (c .before .x .given .1))
 
 mul-totals : tie.Need-mul-totals Inv-loop μ-loop
 mul-totals c =
@@ -99,7 +96,7 @@ loop-again c =
 returns-5 : tie.Need-returns-5 Inv-loop μ-loop
 returns-5 c =
     let x = c .before .before .before .before .before .args in
-    reads-from (x .accs) (x .s .now) (c .before .before .if2 .left) _ (c .before .loop .inv .4 ∙ trace-end _ _ _ _ (x .s .now) _ (c .loop-test .left))
+    sym (c .before .loop .inv .4 ∙ trace-end _ _ _ _ (x .s .now) _ (c .loop-test .left))
 
 pub read-requests-spec : {M : Type 1} → statement M
 read-requests-spec = tie.close (tie.spec Inv-loop μ-loop returns returns-2 loop-holds (λ c κs. search needs) (λ c. search needs) (λ c. search needs) returns-3 offer-line-requires (λ c. search needs) returns-4 (λ c. search needs) (λ c. search needs) mul-totals array-read-totals (λ c. search needs) add-totals mul-totals-2 array-write-totals add-n loop-less loop-again returns-5)
