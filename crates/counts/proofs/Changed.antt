@@ -1,6 +1,6 @@
 -- The updates of the counts along a list of crossings as one fold: each crossing's entry is updated, and where no two
 -- crossings have one place, an entry is as it was or updated once. By induction on the list.
-use Prim.Native.Nat.{ℕ, _+_, _-_, _/_, _%_, _<_}
+use Prim.Native.Nat.{ℕ, _+_, _-_, _%_, _<_}
 use mathlib.Core.List.{List, [], _∷_}
 use mathlib.Core.Path.{_≡_, refl, sym, _∙_, ap, ap₂, subst}
 use native.Mathlib.Decide.{ℕ-discrete}
@@ -11,6 +11,7 @@ use lib.Seq.{getD-set-same, getD-set-other}
 use Rattle.model.specs.Fold.{pick}
 use Rattle.model.specs.Tree.{Crossing}
 use Rattle.rules.proofs.Beneath.{On, here, there, no-crossing}
+use Rattle.turns.proofs.Steps.{index-set, index-last}
 use Rattle.counts.specs.Wiring.{portNumber}
 use Rattle.counts.specs.Counts.{withPort, withoutPort, raised, opened, lower, lowered, closed}
 
@@ -89,16 +90,13 @@ lowered-changed (k ∷ l) c = lowered-changed l _
 abbrev pub Ported : List Crossing → Type 0
 Ported l = (j p : ℕ) → On j p l → p < 8
 
-pub port-of : (j p : ℕ) → p < 8 → (portNumber j p / 8 ≡ j) × (portNumber j p % 8 ≡ p)
-port-of j p b = (omega arith, omega arith)
-
 pub opened-changed : (l : List Crossing) → Ported l → (v : List ℕ)
     → opened (numbers l) v ≡ changed own (λ _ p s. withPort s p) l v
 unfolding opened changed
 opened-changed [] P v = refl
 opened-changed (k ∷ l) P v =
-    let e = port-of (k .interconnect) (k .port) (P _ _ (here refl refl)) in
-    ap₂ (λ i q. opened (numbers l) (set v i (withPort (getD v i 0) q))) (e .0) (e .1)
+    let b = P _ _ (here refl refl) in
+    ap₂ (λ i q. opened (numbers l) (set v i (withPort (getD v i 0) q))) (index-set _ _ b) (index-last _ _ b)
     ∙ opened-changed l (λ j p o. P j p (there o)) _
 
 -- each count is read before it is lowered
@@ -109,10 +107,10 @@ unfolding closed changed
 closed-changed n [] P A c v h = refl
 closed-changed n (k ∷ l) P A c v h =
     let m = portNumber (k .interconnect) (k .port) in
-    let e = port-of (k .interconnect) (k .port) (P _ _ (here refl refl)) in
+    let b = P _ _ (here refl refl) in
     let rest : ℕ → ℕ → ℕ → List ℕ =
     λ x i q. closed (numbers l) (lower m c) (set v i (shuts (λ _ _. x) i q (getD v i 0))) in
-    ap₂ (rest (getD c m 0)) (e .0) (e .1)
+    ap₂ (rest (getD c m 0)) (index-set _ _ b) (index-last _ _ b)
     ∙ ap (λ x. rest x (k .interconnect) (k .port)) (h _ _ (here refl refl))
     ∙ closed-changed n l (λ j p o. P j p (there o)) (A .1) _ _
     (λ j p o. getD-set-other c m (portNumber j p) _ 0 (A .0 j p o) ∙ h j p (there o))

@@ -10,19 +10,21 @@ use native.Mathlib.Nat.{zero-div, suc-mul}
 use native.Mathlib.Omega.{arith}
 use lib.Dec.{ltb, eqb}
 use lib.ListN.{getD, replicate, length-replicate, getD-replicate}
-use borrow.Author.Tests.{ltb-false, lt-ltb, le-ltb, eq-eqb, ne-eqb}
+use borrow.Author.Tests.{ltb-false, lt-ltb, le-ltb, ne-eqb}
 use Rattle.model.specs.declared.Tree.{Tree}
 use Rattle.model.specs.Fold.{pick, sum}
-use Rattle.model.specs.Tree.{portOf, parentOf, parentPortOf, homeOf, homePortOf, levelOf, above, path}
+use Rattle.model.specs.Tree.{portOf, homeOf, homePortOf, levelOf, above, path}
 use Rattle.model.specs.Beneath.{under, inside, weightUnder}
 use Rattle.model.proofs.Folds.{picked, passed, sum-mono}
 use Rattle.rules.proofs.Sound.{Sound, above-root, above-step, level-step}
 use Rattle.rules.proofs.Beneath.{only, On, there, lane, at-port, port-le, inside-zero, rising, lane-bounds, falls, path-bounds, path-unique, path-root, path-holds, weight-on, weight-off}
 use Rattle.turns.specs.Turns.{bitsBelow, hasPort}
 use Rattle.turns.proofs.Next.{bit-of}
+use Rattle.turns.proofs.Steps.{index-set}
 use Rattle.counts.specs.Wiring.{portNumber, Lanes}
 use Rattle.counts.specs.Counts.{Counted, up, withPort, raised, opened, lowered, closed}
-use Rattle.counts.proofs.Changed.{numbers, changed, changed-size, Apart, changed-at, own, shuts, raised-changed, lowered-changed, Ported, port-of, opened-changed, closed-changed}
+use Rattle.counts.proofs.Steps.{up-root, up-next}
+use Rattle.counts.proofs.Changed.{numbers, changed, changed-size, Apart, changed-at, own, shuts, raised-changed, lowered-changed, Ported, opened-changed, closed-changed}
 
 bits-cong : (n : ℕ) (f g : ℕ → Bool) → ((p : ℕ) → p < n → f p ≡ g p) → bitsBelow n f ≡ bitsBelow n g
 unfolding bitsBelow
@@ -66,20 +68,18 @@ module _ (t : Tree) (S : Sound t) where
   lit w j p = ltb 0 (weightUnder t w j p)
 
   -- four levels are enough to come up to the root
-  up-lane : (u h : List ℕ) → Lanes t u h → (n k q : ℕ) → k < t .ints → q < 8 → levelOf t k ≤ n
+  up-lane : (u h : List ℕ) → Lanes t u h → (k q : ℕ) → k < t .ints → (n : ℕ) → q < 8 → levelOf t k ≤ n
       → up n u (portNumber k q) ≡ numbers (lane t k q)
-  unfolding up
-  up-lane u h L zero k q l b v = absurd (omega arith)
-  up-lane u h L (suc n) k q l b v =
-      passed _ _ _ (le-ltb 119 (portNumber k q) (omega (arith, S .most-ints)))
-      ∙ ap (λ r. portNumber k q ∷ r)
-      (ap (λ i. pick (eqb i 0) [] (up n u (getD u i 0))) (port-of k q b .0) ∙ elim (ℕ-discrete k 0) [
-        | yes e ↦ picked _ _ _ (eq-eqb k 0 e) ∙ sym (ap numbers (ap (above 15 t) e ∙ above-root t S))
-        | no d ↦ let z : 0 < k = omega arith in
-            passed _ _ _ (ne-eqb k 0 d) ∙ ap (up n u) (L .above k (omega (arith, S .most-ints)))
-            ∙ up-lane u h L n (parentOf t k) (parentPortOf t k) (omega (arith, S .parent k z l)) (S .parent-port k z l)
-            (omega (arith, level-step t S k z l)) ∙ sym (ap numbers (above-step t S k z l))
-      ])
+  up-lane u h L = rising t S _ (λ k q l ih n b v. let m = S .most-ints in elim (decLt 0 k) [
+    | yes z ↦
+        up-next n u (portNumber k q) _ (omega arith) (omega arith) (omega arith)
+        (sym (ap (λ i. getD u i 0) (index-set k q b) ∙ L .above k (omega arith)))
+        ∙ ap (λ r. portNumber k q ∷ r)
+        (ih z (n - 1) (S .parent-port k z l) (omega (arith, level-step t S k z l)) ∙ sym (ap numbers (above-step t S k z l)))
+    | no f ↦
+        up-root n u (portNumber k q) (omega arith) (omega arith) (omega arith)
+        ∙ ap (λ r. portNumber k q ∷ numbers r) (sym (ap (above 15 t) {y = 0} (omega arith) ∙ above-root t S))
+  ])
 
   -- the interconnects fall going up, so their places are apart
   lane-apart : (at : ℕ → ℕ → ℕ) → ((i p j q : ℕ) → i < j → p < 8 → q < 8 → at i p ≡ at j q → ⊥) → (k q : ℕ)
@@ -96,7 +96,7 @@ module _ (t : Tree) (S : Sound t) where
     up-path : (u h : List ℕ) → Lanes t u h → up 4 u (getD h a 0) ≡ numbers (path t a)
     up-path u h L =
         ap (up 4 u) (L .home a (omega (arith, S .most-accs)))
-        ∙ up-lane u h L 4 (homeOf t a) (homePortOf t a) (S .home a la) (S .home-port a la)
+        ∙ up-lane u h L (homeOf t a) (homePortOf t a) (S .home a la) 4 (S .home-port a la)
         (S .level (homeOf t a) (S .home a la))
 
     ported : Ported (path t a)
