@@ -25,6 +25,7 @@ use Rattle.machine.proofs.Keeps.{zeros, take-waiting}
 use Rattle.machine.proofs.Laws.{offer-others}
 use Rattle.machine.proofs.Steps.{slot-idle, slot-serves}
 use Rattle.machine.proofs.Windows.{window-opens}
+use Rattle.counts.specs.declared.Wiring.{Wiring}
 use Rattle.counts.specs.Wiring.{Ports, Lanes, Limits}
 use Rattle.counts.specs.Counts.{Counted}
 use Rattle.counts.proofs.Counted.{counted-none}
@@ -32,12 +33,17 @@ use Rattle.runner.specs.declared.NextLine.{NextLine}
 use Rattle.runner.specs.Offers.{offering, offerEach}
 use Rattle.runner.specs.Run.{byteOf, noneHeld, isDone}
 use Rattle.runner.specs.Places.{Place, leftAt, runAt, dueOf, Accepts, Taken, Stepped}
-use Rattle.runner.specs.Arrays.{stateOf, Stored, Offered, Idles, Settled, begins, servedFrom, byteFrom, Served}
+use Rattle.runner.specs.Arrays.{begins, servedFrom, byteFrom, Served}
+use Rattle.admit.specs.Admitting.{Arrays}
 use Rattle.runner.proofs.Held.{each-kept, each-same}
 use Rattle.runner.proofs.Trace.{left-ends, not-due}
 use Rattle.runner.proofs.Slots.{Running, running-start, running-turn, one-step}
-use Rattle.runner.proofs.Settled.{settled-each, settled-served}
-use Rattle.runner.proofs.Stored.{live-none, window-begins, window-goes-on}
+use Rattle.runner.proofs.Settled.{Idles, Settled, settled-each, settled-served}
+use Rattle.runner.proofs.Stored.{Stored, Offered, live-none, window-begins, window-goes-on}
+
+-- the state of the waiting counts w, the admitted counts m, the last ports l, the allowances o and the slot count n
+abbrev pub stateOf : (w m l o : List ℕ) → ℕ → State
+stateOf w m l o n = record { waiting = w; admitted = m; last = l; allowance = o; slot = n }
 
 -- a state by its five parts
 same-state : (w w′ m m′ l l′ o o′ : List ℕ) (n n′ : ℕ) → w ≡ w′ → m ≡ m′ → l ≡ l′ → o ≡ o′ → n ≡ n′ → stateOf w m l o n ≡ stateOf w′ m′ l′ o′ n′
@@ -65,12 +71,11 @@ abbrev pub placeOf : (w m l o h : List ℕ) → NextLine → ℕ → Place
 placeOf w m l o h x n = record { state = stateOf w m l o n; held = h; at = x .at }
 
 -- what the loop does not change
-pub record Fixed (t : Tree) (z : ℕ) (p g u y l b k : List ℕ) : Type 0 where
+pub record Fixed (t : Tree) (w : Wiring) (k : List ℕ) : Type 0 where
   pub rules : treeKeeps t ≡ true
-  pub window : z ≡ t .bus .window
-  pub ports : Ports t p g
-  pub lanes : Lanes t u y
-  pub limits : Limits t l b
+  pub ports : Ports t (w .carries) (w .grants)
+  pub lanes : Lanes t (w .above) (w .homes)
+  pub limits : Limits t (w .limits) (w .budgets)
   pub table : NextPorts k
 
 -- where the loop stands after n slots: d is the buffer, which was d₀; w m l o h are the state and the held counts, c v the
@@ -179,9 +184,9 @@ module _ (t : Tree) (s d₀ d w m l o c v h : List ℕ) (x : NextLine) (r : ℕ)
     pub before-rules : keeps t before ≡ true
     before-rules = each-kept (t .accs) t (offering (stateOf w m l o n) h′) rules
 
-    module _ (w₁ m₁ h₁ c₁ v₁ : List ℕ) (O : Offered t (offerEach (t .accs) t (offering (stateOf w m l o n) h′)) w₁ m₁ h₁ c₁ v₁)
+    module _ (y₁ : Arrays) (O : Offered t (offerEach (t .accs) t (offering (stateOf w m l o n) h′)) y₁)
         (b : ℕ) (w₂ l₂ o₂ c₂ v₂ : List ℕ) (Y : Served t before b w₂ l₂ o₂ c₂ v₂)
-        (z : ℕ) (window : z ≡ t .bus .window) (m₂ : List ℕ) (M : m₂ ≡ pick (begins z (n + 1)) (replicate 32 0) m₁) (q′ : Bool) (Q : q′ ≡ begins z (n + 1)) where
+        (z : ℕ) (window : z ≡ t .bus .window) (m₂ : List ℕ) (M : m₂ ≡ pick (begins z (n + 1)) (replicate 32 0) (y₁ .admitted)) (q′ : Bool) (Q : q′ ≡ begins z (n + 1)) where
       abbrev next-state : State
       next-state = stateOf w₂ m₂ l₂ o₂ (n + 1)
 
@@ -189,7 +194,7 @@ module _ (t : Tree) (s d₀ d w m l o c v h : List ℕ) (x : NextLine) (r : ℕ)
       opened = window-same t z n (sound-of t before before-rules .window) window
           ∙ ap (opens t) (sym (served-frame t before before-rules .1 ∙ before-slot))
 
-      kept-admitted : m₁ ≡ servedFrom t before .admitted
+      kept-admitted : y₁ .admitted ≡ servedFrom t before .admitted
       kept-admitted = O .stored .admitted ∙ sym (served-frame t before before-rules .0)
 
       ticked : next-state ≡ tick t (servedFrom t before)
@@ -199,17 +204,17 @@ module _ (t : Tree) (s d₀ d w m l o c v h : List ℕ) (x : NextLine) (r : ℕ)
           (Y .last) (Y .allowance) (ap (λ (i : ℕ). i + 1) (sym (served-frame t before before-rules .1 ∙ before-slot)))
 
       -- where no window opens, only the accelerator served may have more admitted
-      next-settled : q′ ≡ false → (b ≡ 255 → ⊥) → (b < t .accs) × Settled t next-state h₁ b
+      next-settled : q′ ≡ false → (b ≡ 255 → ⊥) → (b < t .accs) × Settled t next-state (y₁ .held) b
       next-settled e f =
           let i : begins z (n + 1) ≡ false = sym Q ∙ e in (
             subst (λ (a : ℕ). a < t .accs) (sym (Y .byte)) (served-known t before before-rules (λ g. f (Y .byte ∙ g))),
-            settled-served t before next-state h₁ b
+            settled-served t before next-state (y₁ .held) b
                 (λ a la. subst (λ (g : List ℕ). Idles t before g a) (sym (O .held)) (settled-each t (stateOf w m l o n) h′ rules a la))
                 (λ a g. ap (λ (p : List ℕ). getD p a 0) (Y .waiting) ∙ served-others t before before-rules a (λ j. g (j ∙ sym (Y .byte))))
                 (λ a. ap (λ (p : List ℕ). getD p a 0) (M ∙ passed _ _ _ i ∙ O .stored .admitted)),
           )
 
-      stepped : n < lastSlot → Stepped t s (placeOf w m l o h x n) (placeOf w₂ m₂ l₂ o₂ h₁ x′ (n + 1)) b
+      stepped : n < lastSlot → Stepped t s (placeOf w m l o h x n) (placeOf w₂ m₂ l₂ o₂ (y₁ .held) x′ (n + 1)) b
       stepped g =
           subst (λ (p : List ℕ). Stepped t s (placeOf w m l o h x n) (record { state = next-state; held = p; at = x′ .at }) b) (sym (O .held))
           (one-step t s (placeOf w m l o h x n) (G .running .stands) h′ x′ T (offerEach (t .accs) t (offering (stateOf w m l o n) h′)) refl
@@ -218,7 +223,7 @@ module _ (t : Tree) (s d₀ d w m l o c v h : List ℕ) (x : NextLine) (r : ℕ)
           b (Y .byte ∙ served-answer t before before-rules))
 
       pub going-turn : n < length d → length d₀ ≤ 65536 → isDone (runAt s (placeOf w m l o h x n)) ≡ false
-          → Going t s d₀ (set d n b) w₂ m₂ l₂ o₂ c₂ v₂ h₁ x′ b q′ (n + 1)
+          → Going t s d₀ (set d n b) w₂ m₂ l₂ o₂ c₂ v₂ (y₁ .held) x′ b q′ (n + 1)
       going-turn g k e = record {
         running = running-turn t s d₀ d (placeOf w m l o h x n) n (G .running) g e _ b (stepped (omega (arith, G .running .long)));
         counts = subst (λ (p : List ℕ). Counted t (λ a. getD p a 0) c₂ v₂) (sym (Y .waiting)) (Y .counts);

@@ -14,9 +14,16 @@ use Rattle.model.specs.Tree.{limitOf, budgetOf, waitingOf, admittedOf}
 use Rattle.rules.specs.Rules.{keeps}
 use Rattle.machine.proofs.Cases.{sound-of, kept-of}
 use Rattle.runner.specs.Offers.{Offering, heldOf, offering, offerAll, offerEach}
-use Rattle.runner.specs.Arrays.{Idles, Settled}
 use Rattle.runner.proofs.Held.{held-kept, each-kept}
 use Rattle.runner.proofs.Together.{room, after, none-admitted, together}
+
+-- no transaction that accelerator a holds would be admitted
+abbrev pub Idles : Tree → State → List ℕ → ℕ → Type 0
+Idles t s h a = min (heldOf h a) (min (limitOf t a - waitingOf s a) (budgetOf t a - admittedOf s a)) ≡ 0
+
+-- no accelerator but x would have a held transaction admitted
+abbrev pub Settled : Tree → State → List ℕ → ℕ → Type 0
+Settled t s h x = (a : ℕ) → a < t .accs → (a ≡ x → ⊥) → Idles t s h a
 
 -- room with n admitted is room less n, and so with as many admitted as there is room for, there is room for none
 less-each : (x w n : ℕ) → x - (w + n) ≡ x - w - n

@@ -20,7 +20,7 @@ use Rattle.machine.proofs.Laws.{slot-keeps, fresh-keeps}
 use Rattle.machine.proofs.Keeps.{zeros}
 use Rattle.runner.specs.Offers.{Offering, heldOf, offering, offerEach}
 use Rattle.runner.specs.declared.NextLine.{NextLine}
-use Rattle.runner.specs.Run.{Run, beforeSlot, byteOf, lastByte, next, isDone, Trail, ended, written, trail, start, done, stopped, endOf, over}
+use Rattle.runner.specs.Run.{Run, beforeSlot, byteOf, lastByte, next, isDone, Trail, ended, written, trail, start, done, stopped, endAfter, endOf, over}
 use Rattle.runner.specs.Places.{Place, leftAt, runAt, Accepts, Taken, Stands, Stepped}
 use Rattle.runner.proofs.Held.{each-kept, each-less}
 
@@ -111,14 +111,12 @@ module _ (t : Tree) (s d₀ d : List ℕ) (p : Place) (n : ℕ) (R : Running t s
             ∙ ap (λ (m : ℕ). take n d ++ drop m d₀) (sym l) ∙ ap (λ (x : Trail). over x d₀) all,
       )
 
-  pub running-done : isDone (runAt s p) ≡ true
-      → (done n ≡ endOf (trail (length d₀) t (start t (leftAt s 0)))) × (d ≡ over (trail (length d₀) t (start t (leftAt s 0))) d₀)
-  running-done e = ends true (trail-done (length d₀ - n) t (runAt s p) e)
-
-  pub running-stopped : length d ≤ n → isDone (runAt s p) ≡ false
-      → (stopped n ≡ endOf (trail (length d₀) t (start t (leftAt s 0)))) × (d ≡ over (trail (length d₀) t (start t (leftAt s 0))) d₀)
-  running-stopped l e =
-      let z : length d₀ - n ≡ 0 = omega (arith, R .long) in
+  -- the run is over: nothing is left, or the buffer is full
+  pub running-ended : (b : Bool) → (b ≡ false → length d ≤ n) → isDone (runAt s p) ≡ b
+      → (endAfter b n ≡ endOf (trail (length d₀) t (start t (leftAt s 0)))) × (d ≡ over (trail (length d₀) t (start t (leftAt s 0))) d₀)
+  running-ended true l e = ends true (trail-done (length d₀ - n) t (runAt s p) e)
+  running-ended false l e =
+      let z : length d₀ - n ≡ 0 = omega (arith, l refl, R .long) in
       ends false (ap (λ (m : ℕ). trail m t (runAt s p)) z ∙ trail-none t (runAt s p) ∙ ap ended e)
 
   pub running-turn : n < length d → isDone (runAt s p) ≡ false → (p′ : Place) (b : ℕ) → Stepped t s p p′ b

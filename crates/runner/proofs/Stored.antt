@@ -1,6 +1,6 @@
 -- The arrays of a run are those of the state that the definitions give: after an accelerator's offers, by what is admitted
 -- together and the laws of the kept counts; and after a slot, by the choice from these counts.
-use Prim.Native.Nat.{ℕ, _+_, _*_, _-_, _%_, _<_, min}
+use Prim.Native.Nat.{ℕ, zero, suc, _+_, _*_, _-_, _%_, _≤_, _<_, min}
 use mathlib.Core.Bool.{Bool, true, false, not, _&&_}
 use mathlib.Core.List.{List}
 use mathlib.Core.Path.{_≡_, refl, sym, _∙_, ap, ap₂, subst}
@@ -28,12 +28,11 @@ use Rattle.counts.specs.Counts.{Counted, up, raised, opened, lowered, closed}
 use Rattle.counts.specs.Choice.{Chosen}
 use Rattle.counts.proofs.Counted.{counted-more, counted-less, none-live, weight-small}
 use Rattle.runner.specs.Offers.{Offering, heldOf, offering, offerAll, offerEach}
-use Rattle.runner.specs.declared.Admission.{Admission}
-use Rattle.runner.specs.declared.HeldOffers.{HeldOffers}
-use Rattle.runner.specs.declared.HeldOffers.the-variants.{NoneAdmitted, Admitted}
-use Rattle.runner.specs.Arrays.{Stored, Admits, OffersHeld, begins, Offered, Settled, servedFrom, Served}
-use Rattle.runner.proofs.Held.{held-kept, each-none, each-turn}
-use Rattle.runner.proofs.Settled.{settled-one}
+use Rattle.admit.specs.Admitting.{Arrays, arrays, admitted, offersOf, offersBelow, offersBefore}
+use Rattle.admit.proofs.Offers.{offers-none, offers-some}
+use Rattle.runner.specs.Arrays.{begins, servedFrom, Served}
+use Rattle.runner.proofs.Held.{held-kept}
+use Rattle.runner.proofs.Settled.{Settled, settled-one}
 use Rattle.runner.proofs.Together.{admitMany, room, none-admitted, together}
 
 -- n more stand at place a of a list, and nothing else changes
@@ -44,12 +43,18 @@ more-at l a n h b = elim (ℕ-discrete b a) [
   | no d ↦ getD-set-other l a b _ 0 d ∙ omega (arith, ap (λ i. n * i) (only-other a b (λ e. d (sym e))))
 ]
 
--- what the answer of an accelerator's offers says, by its cases
-pub none-told : (n h w m : ℕ) (r : HeldOffers) → r ≡ NoneAdmitted → OffersHeld n h w m r → n ≡ 0
-none-told n h w m r e o = subst (OffersHeld n h w m) e o
+-- w and m are the waiting and the admitted counts of state s, which keeps its rules, and c and v what waits under each port
+-- there and the live ports
+pub record Stored (t : Tree) (s : State) (w m c v : List ℕ) : Type 0 where
+  pub rules : keeps t s ≡ true
+  pub waiting : w ≡ s .waiting
+  pub admitted : m ≡ s .admitted
+  pub counts : Counted t (waitingOf s) c v
 
-pub told : (n h w m : ℕ) (r : HeldOffers) (x : Admission) → r ≡ Admitted x → OffersHeld n h w m r → (0 < n) × Admits n h w m x
-told n h w m r x e o = subst (OffersHeld n h w m) e o
+-- d are the arrays of the state and the held counts of x
+pub record Offered (t : Tree) (x : Offering) (d : Arrays) : Type 0 where
+  pub stored : Stored t (x .state) (d .waiting) (d .admitted) (d .under) (d .live)
+  pub held : d .held ≡ x .held
 
 module _ (t : Tree) (s : State) (l b y u w m h c v : List ℕ) (L : Limits t l b) (N : Lanes t u y) (a : ℕ) (la : a < t .accs) (R : Stored t s w m c v) where
   S : Sound t
@@ -78,16 +83,13 @@ module _ (t : Tree) (s : State) (l b y u w m h c v : List ℕ) (L : Limits t l b
   kept-after : keeps t (admitMany s a count) ≡ true
   kept-after = subst (λ (x : Offering). keeps t (x .state) ≡ true) all-offered (held-kept (heldOf h a) t (offering s h) a (R .rules))
 
-  pub offered-none : count ≡ 0 → Offered t (offerAll t (offering s h) a) w m h c v
+  offered-none : count ≡ 0 → Offered t (offerAll t (offering s h) a) (arrays w m h c v)
   offered-none e =
-      subst (λ (x : Offering). Offered t x w m h c v) (none-admitted t a la s h count e ∙ sym all-offered) (record { stored = R; held = refl })
+      subst (λ (x : Offering). Offered t x (arrays w m h c v)) (none-admitted t a la s h count e ∙ sym all-offered) (record { stored = R; held = refl })
 
-  offered-many : 0 < count
-      → Offered t (offerAll t (offering s h) a) (set w a (getD w a 0 + count)) (set m a (getD m a 0 + count)) (set h a (getD h a 0 - count))
-      (raised (up 4 u (getD y a 0)) count c) (opened (up 4 u (getD y a 0)) v)
+  offered-many : 0 < count → Offered t (offerAll t (offering s h) a) (admitted count a y u (arrays w m h c v))
   offered-many z =
-      subst (λ (x : Offering). Offered t x (set w a (getD w a 0 + count)) (set m a (getD m a 0 + count)) (set h a (getD h a 0 - count)) (raised (up 4 u (getD y a 0)) count c) (opened (up 4 u (getD y a 0)) v))
-      (sym all-offered)
+      subst (λ (x : Offering). Offered t x (admitted count a y u (arrays w m h c v))) (sym all-offered)
       (record {
         stored = record {
           rules = kept-after;
@@ -101,33 +103,32 @@ module _ (t : Tree) (s : State) (l b y u w m h c v : List ℕ) (L : Limits t l b
         held = refl;
       })
 
-  pub offered-some : (x : Admission) → Admits count (getD h a 0) (getD w a 0) (getD m a 0) x → 0 < x .count
-      → Offered t (offerAll t (offering s h) a) (set w a (x .waiting)) (set m a (x .admitted)) (set h a (x .held))
-      (raised (up 4 u (getD y a 0)) (x .count) c) (opened (up 4 u (getD y a 0)) v)
-  offered-some x A z =
-      subst (λ (i : ℕ). Offered t (offerAll t (offering s h) a) (set w a i) (set m a (x .admitted)) (set h a (x .held)) (raised (up 4 u (getD y a 0)) (x .count) c) (opened (up 4 u (getD y a 0)) v)) (sym (A .waiting))
-      (subst (λ (i : ℕ). Offered t (offerAll t (offering s h) a) (set w a (getD w a 0 + count)) (set m a i) (set h a (x .held)) (raised (up 4 u (getD y a 0)) (x .count) c) (opened (up 4 u (getD y a 0)) v)) (sym (A .admitted))
-      (subst (λ (i : ℕ). Offered t (offerAll t (offering s h) a) (set w a (getD w a 0 + count)) (set m a (getD m a 0 + count)) (set h a i) (raised (up 4 u (getD y a 0)) (x .count) c) (opened (up 4 u (getD y a 0)) v)) (sym (A .held))
-      (subst (λ (i : ℕ). Offered t (offerAll t (offering s h) a) (set w a (getD w a 0 + count)) (set m a (getD m a 0 + count)) (set h a (getD h a 0 - count)) (raised (up 4 u (getD y a 0)) i c) (opened (up 4 u (getD y a 0)) v)) (sym (A .count))
-      (offered-many (omega (arith, A .count))))))
+  -- accelerator a has offered
+  pub one-offered : Offered t (offerAll t (offering s h) a) (offersOf l b y u a (arrays w m h c v))
+  one-offered = elim (ℕ-discrete count 0) [
+    | yes e ↦ subst (Offered t (offerAll t (offering s h) a)) (sym (offers-none l b y u a (arrays w m h c v) known e)) (offered-none e)
+    | no d ↦ subst (Offered t (offerAll t (offering s h) a)) (sym (offers-some l b y u a (arrays w m h c v) known d)) (offered-many (omega arith))
+  ]
 
--- none has offered
-pub none-offered : (t : Tree) (s : State) (w m h c v : List ℕ) → Stored t s w m c v → Offered t (offerEach 0 t (offering s h)) w m h c v
-none-offered t s w m h c v R = subst (λ (x : Offering). Offered t x w m h c v) (each-none t (offering s h)) (record { stored = R; held = refl })
+-- the accelerators below n have offered
+module _ (t : Tree) (s : State) (l b y u w m h c v : List ℕ) (L : Limits t l b) (N : Lanes t u y) (R : Stored t s w m c v) where
+  below-offered : (n : ℕ) → n ≤ t .accs → Offered t (offerEach n t (offering s h)) (offersBelow l b y u n (arrays w m h c v))
+  unfolding offerEach offersBelow
+  below-offered zero z = record { stored = R; held = refl }
+  below-offered (suc n) z =
+      let O = below-offered n (omega arith) in
+      let d = offersBelow l b y u n (arrays w m h c v) in
+      let x = offerEach n t (offering s h) in
+      subst (λ (i : List ℕ). Offered t (offerAll t (offering (x .state) i) n) (offersOf l b y u n d)) (O .held)
+      (one-offered t (x .state) l b y u (d .waiting) (d .admitted) (d .held) (d .under) (d .live) L N n (omega arith) (O .stored))
 
--- one more accelerator has offered
-pub each-offered : (t : Tree) (o : Offering) (n : ℕ) (w m h c v w′ m′ h′ c′ v′ : List ℕ) → Offered t (offerEach n t o) w m h c v
-    → Offered t (offerAll t (offering (offerEach n t o .state) h) n) w′ m′ h′ c′ v′ → Offered t (offerEach (n + 1) t o) w′ m′ h′ c′ v′
-each-offered t o n w m h c v w′ m′ h′ c′ v′ O X =
-    subst (λ (x : Offering). Offered t x w′ m′ h′ c′ v′)
-    (ap (λ (z : List ℕ). offerAll t (offering (offerEach n t o .state) z) n) (O .held) ∙ each-turn n t o (offerEach n t o) _ refl refl) X
-
--- where only accelerator x may have more admitted, its offers are all offers
-pub only-offered : (t : Tree) (s : State) (h : List ℕ) (x n : ℕ) (w′ m′ h′ c′ v′ : List ℕ) → keeps t s ≡ true → Settled t s h x → x < t .accs → n ≡ t .accs
-    → Offered t (offerAll t (offering s h) x) w′ m′ h′ c′ v′ → Offered t (offerEach n t (offering s h)) w′ m′ h′ c′ v′
-only-offered t s h x n w′ m′ h′ c′ v′ k d l e O =
-    subst (λ (o : Offering). Offered t o w′ m′ h′ c′ v′)
-    (sym (ap (λ (i : ℕ). offerEach i t (offering s h)) e ∙ settled-one t s h x k d l)) O
+  -- the offers before a slot: where only accelerator x may have more admitted, its offers are all offers
+  pub before-offered : (e : Bool) (x : ℕ) → (e ≡ false → (x < t .accs) × Settled t s h x)
+      → Offered t (offerEach (t .accs) t (offering s h)) (offersBefore l b y u e x (t .accs) (arrays w m h c v))
+  before-offered true x f = below-offered (t .accs) (omega arith)
+  before-offered false x f =
+      subst (λ (o : Offering). Offered t o (offersOf l b y u x (arrays w m h c v))) (sym (settled-one t s h x (R .rules) (f refl .1) (f refl .0)))
+      (one-offered t s l b y u w m h c v L N x (f refl .0) R)
 
 -- nothing waits exactly if no port of the root is live
 module _ (t : Tree) (s : State) (k : keeps t s ≡ true) (c v : List ℕ) (C : Counted t (waitingOf s) c v) where

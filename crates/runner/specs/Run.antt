@@ -18,6 +18,7 @@
 -- runFor t rs n         the run from the start, over the lines rs and a buffer of n bytes
 -- Ending                how a run ends: refused by a number and a line, or by 11, which has no line; or done, or stopped, "and
 --                       the number of slots used"
+-- endAfter d n          done if d, else stopped, after n slots
 -- endOf x               done or stopped by the trail x: the slots used are its bytes
 -- answered y x          how a run of the trail x ends where the trace's reading answers y; overwritten y x d: the buffer d then
 -- over x d              the trail's bytes over those of d
@@ -115,8 +116,11 @@ pub data Ending : Type 0 where
   done : ℕ → Ending
   stopped : ℕ → Ending
 
+abbrev pub endAfter : Bool → ℕ → Ending
+endAfter d n = pick d (done n) (stopped n)
+
 abbrev pub endOf : Trail → Ending
-endOf x = pick (x .done) (done (length (x .bytes))) (stopped (length (x .bytes)))
+endOf x = endAfter (x .done) (length (x .bytes))
 
 abbrev pub answered : FileAnswer → Trail → Ending
 answered Accepted x = endOf x

@@ -1,8 +1,8 @@
 // The runner of document 01: a trace is run slot by slot on a configuration, from the fresh state, and each slot's service
 // is written as one byte.
-mod offers;
 mod steps;
 
+use admit::offer_before_slot;
 use counts::tables::wiring_of;
 use lines::FileAnswer;
 use machine::FreshAnswer;
@@ -10,7 +10,6 @@ use machine::fresh;
 use model::Refusal;
 use model::State;
 use model::Tree;
-use offers::offer_before_slot;
 use steps::is_done;
 use steps::open_window;
 use steps::serve;
@@ -23,7 +22,7 @@ ghost use Prim.Native.Nat.{_≤_};
 ghost use lib.ListN.{length};
 ghost use Rattle.rules.specs.Rules.{treeKeeps};
 ghost use Rattle.machine.specs.Machine.{freshState};
-ghost use Rattle.runner.specs.Run.{runFor, endOf, over, ranOf, bufferAfter};
+ghost use Rattle.runner.specs.Run.{runFor, endAfter, endOf, over, ranOf, bufferAfter};
 ghost use Rattle.runner.specs.Answers.{runMeans};
 ghost use Rattle.runner.specs.Places.{leftAt, Accepts};
 
@@ -39,24 +38,20 @@ pub enum RunAnswer {
     Stopped(u32),
 }
 
-// What is held, waiting and admitted once `count` of the held transactions are admitted.
-pub struct Admission {
-    pub count: u8,
-    pub held: u32,
-    pub waiting: u8,
-    pub admitted: u16,
-}
-
-// What the offers of one accelerator before a slot come to.
-pub enum HeldOffers {
-    NoneAdmitted,
-    Admitted(Admission),
-}
-
 // The place of the next line, and a slot before which it is not due.
 pub struct NextLine {
     pub at: usize,
     pub due: u32,
+}
+
+// How a run that used so many slots ended.
+fn ended(done: bool, used: u32) -> RunAnswer
+    ensures { λ r. ⌜ runMeans r ≡ endAfter done used ⌝ }
+{
+    if done {
+        return RunAnswer::Done(used);
+    }
+    RunAnswer::Stopped(used)
 }
 
 // The run of an accepted trace, one byte a slot, until nothing is left or the buffer is full. Beside the state's arrays it
@@ -66,14 +61,7 @@ fn run_slots(t: Tree, fresh: State, trace: &[u8], out: &mut [u8]) -> RunAnswer
     ensures answer { λ r. ⌜ runMeans r ≡ endOf (runFor t (leftAt (now (trace .entry)) 0) (length (now (out .entry)))) ⌝ }
     ensures bytes { λ r. ⌜ now (out .exit) ≡ over (runFor t (leftAt (now (trace .entry)) 0) (length (now (out .entry)))) (now (out .entry)) ⌝ }
 {
-    let window = t.bus.window as u32;
     let wiring = wiring_of(t);
-    let carries = wiring.carries;
-    let grants = wiring.grants;
-    let above = wiring.above;
-    let homes = wiring.homes;
-    let limits = wiring.limits;
-    let budgets = wiring.budgets;
     let next = next_ports();
     let mut waiting = fresh.waiting;
     let mut admitted = fresh.admitted;
@@ -86,20 +74,17 @@ fn run_slots(t: Tree, fresh: State, trace: &[u8], out: &mut [u8]) -> RunAnswer
     let mut served = IDLE;
     let mut opened = true;
     let mut used: usize = 0;
-    while used < out.len() {
-        if is_done(trace, line.at, &held, &live) {
-            return RunAnswer::Done(used as u32);
-        }
+    while used < out.len() && !is_done(trace, line.at, &held, &live) {
         let every = opened | (line.due <= used as u32) | (served == IDLE);
         line = take_due(trace, used as u32, line, &mut held);
         offer_before_slot(
             every,
             served,
             t.accs,
-            &limits,
-            &budgets,
-            &homes,
-            &above,
+            &wiring.limits,
+            &wiring.budgets,
+            &wiring.homes,
+            &wiring.above,
             &mut waiting,
             &mut admitted,
             &mut held,
@@ -108,10 +93,10 @@ fn run_slots(t: Tree, fresh: State, trace: &[u8], out: &mut [u8]) -> RunAnswer
         );
         served = serve(
             &next,
-            &carries,
-            &grants,
-            &above,
-            &homes,
+            &wiring.carries,
+            &wiring.grants,
+            &wiring.above,
+            &wiring.homes,
             &mut waiting,
             &mut last,
             &mut allowance,
@@ -120,12 +105,9 @@ fn run_slots(t: Tree, fresh: State, trace: &[u8], out: &mut [u8]) -> RunAnswer
         );
         out[used] = served;
         used += 1;
-        opened = open_window(window, used as u32, &mut admitted);
+        opened = open_window(t.bus.window as u32, used as u32, &mut admitted);
     }
-    if is_done(trace, line.at, &held, &live) {
-        return RunAnswer::Done(used as u32);
-    }
-    RunAnswer::Stopped(used as u32)
+    ended(is_done(trace, line.at, &held, &live), used as u32)
 }
 
 // Runs the trace on the configuration and writes one byte a slot into `out`.

@@ -65,12 +65,12 @@ pub fn is_done(trace: &[u8], at: usize, held: &[u32; 32], live: &[u8; 15]) -> bo
 }
 
 // Serves the transaction whose turn it is, and answers its accelerator, or that the slot is idle.
-pub fn serve(
+pub fn serve<'a>(
     next: &[u8; 2048],
-    carries: &[u16; 120],
-    grants: &[u8; 15],
-    above: &[u16; 15],
-    homes: &[u16; 32],
+    carries: &'a [u16; 120],
+    grants: &'a [u8; 15],
+    above: &'a [u16; 15],
+    homes: &'a [u16; 32],
     waiting: &mut [u8; 32],
     last: &mut [u8; 15],
     allowance: &mut [u8; 15],

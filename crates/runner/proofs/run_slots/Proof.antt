@@ -1,45 +1,36 @@
 -- `run_slots` meets its contract: what was written so far, with what is left of the run, is the run from the start.
-use mathlib.Core.Path.{refl, sym, _∙_}
-use Prim.Native.Nat.{_≤_, _-_}
+use mathlib.Core.Path.{_≡_, refl, sym, _∙_, subst}
+use Prim.Native.Nat.{ℕ, _≤_, _-_}
+use mathlib.Core.Bool.{true, false}
 use native.Mathlib.Omega.{arith}
 use lib.ListN.{length}
 use borrow.Author.Needs.{needs}
-use Rattle.runner.proofs.Slots.{running-done, running-stopped}
+use borrow.Author.Tests.{not-true, not-false}
+use mathlib.Core.Logic.{inl, inr}
+use Rattle.runner.proofs.Slots.{running-ended}
+use Rattle.runner.proofs.Stored.{Offered, before-offered}
 use Rattle.runner.proofs.Going.{fewer, placeOf, Fixed, Going, quiet, going-start, going-stored, going-done, going-settled, before-last, before-allowance, before-rules, going-turn}
 use Rattle.runner.proofs.run_slots.Statement.{statement}
 use Rattle.runner.proofs.run_slots.Tie as tie
 
 abbrev Inv-loop : tie.InvT-loop
-Inv-loop t trace out₀ window carries grants above homes limits budgets next waiting₀ admitted₀ last₀ allowance₀ under₀ live₀ held₀ line₀ served₀ opened₀ used₀ out waiting admitted last allowance under live held line served opened used =
-    Fixed t window carries grants above homes limits budgets next
+Inv-loop t trace out₀ wiring next waiting₀ admitted₀ last₀ allowance₀ under₀ live₀ held₀ line₀ served₀ opened₀ used₀ out waiting admitted last allowance under live held line served opened used =
+    Fixed t wiring next
     × Going t trace out₀ out waiting admitted last allowance under live held line served opened used
     × (length out₀ ≤ 65536)
 
 abbrev μ-loop : tie.MeasureT-loop
-μ-loop t trace out₀ window carries grants above homes limits budgets next waiting₀ admitted₀ last₀ allowance₀ under₀ live₀ held₀ line₀ served₀ opened₀ used₀ out waiting admitted last allowance under live held line served opened used = length out - used
+μ-loop t trace out₀ wiring next waiting₀ admitted₀ last₀ allowance₀ under₀ live₀ held₀ line₀ served₀ opened₀ used₀ out waiting admitted last allowance under live held line served opened used = length out - used
 
 loop-holds : tie.Need-loop-holds Inv-loop μ-loop
 loop-holds c =
-    let x = c .before .before .before .before .before .before .before .before .before .before .before .before .before .before .before .args in
-    let q = c .before .before .before .before .before .before .before .before .before .before .before .before .before .before .before .pre in
-    let w = c .before .before .before .before .before .before .before .before .before .before .before .wiring-of .ensures in (
-      record { rules = q .0; window = refl; ports = w .0; lanes = w .1; limits = w .2; table = c .before .before .before .before .next-ports .ensures },
+    let x = c .before .before .before .before .before .before .before .before .args in
+    let q = c .before .before .before .before .before .before .before .before .pre in
+    let w = c .before .before .before .before .before .wiring-of .ensures in (
+      record { rules = q .0; ports = w .0; lanes = w .1; limits = w .2; table = c .before .before .before .before .next-ports .ensures },
       going-start (x .t) (x .trace .now) (x .out .now) (x .fresh) (q .0) (q .1) (q .3),
       q .2,
     )
-
-cast-t32 : tie.Need-cast-t32 Inv-loop μ-loop
-cast-t32 c = let l = c .before .before .before .before .before .loop in omega (arith, l .inv .1 .running .small)
-
-same-length : tie.Need-same-length Inv-loop μ-loop
-same-length c = c .before .before .before .before .before .loop .inv .1 .running .long
-
-returns : tie.Need-returns Inv-loop μ-loop
-returns c =
-    let x = c .before .before .before .before .before .before .before .before .before .before .before .before .before .before .before .before .before .before .before .before .before .args in
-    let l = c .before .before .before .before .before .loop in
-    running-done (x .t) (x .trace .now) (x .out .now) (l .out) (placeOf (l .waiting) (l .admitted) (l .last) (l .allowance) (l .held) (l .line) (l .used)) (l .used) (l .inv .1 .running)
-    (sym (going-done (x .t) (x .trace .now) (x .out .now) (l .out) (l .waiting) (l .admitted) (l .last) (l .allowance) (l .under) (l .live) (l .held) (l .line) (l .served) (l .opened) (l .used) (l .inv .1) _ (c .before .is-done .ensures)) ∙ c .if1 .taken)
 
 cast-every : tie.Need-cast-every Inv-loop μ-loop
 cast-every c = let l = c .before .before .before .before .before .loop in omega (arith, l .inv .1 .running .small)
@@ -51,58 +42,53 @@ take-due-requires : tie.Need-take-due-requires Inv-loop μ-loop
 take-due-requires c κs = let g = c .before .before .before .before .before .before .before .loop .inv .1 in (g .running .stands .accepts, g .running .stands .room, g .due)
 
 slice-write-out : tie.Need-slice-write-out Inv-loop μ-loop
-slice-write-out c = c .before .before .before .before .before .before .before .before .before .before .before .before .before .before .before .before .before .before .before .before .before .before .before .before .before .before .before .before .loop-test .taken
+slice-write-out c = c .before .before .before .before .before .before .before .before .before .before .before .before .before .before .before .before .before .before .before .before .before .before .before .before .before .before .before .before .before .before .loop-test .taken
 
 add-used : tie.Need-add-used Inv-loop μ-loop
-add-used c = let l = c .before .before .before .before .before .before .before .before .before .before .before .before .before .before .before .before .before .before .before .before .before .before .before .before .before .before .before .before .before .loop in omega (arith, l .inv .1 .running .small)
+add-used c = let l = c .before .before .before .before .before .before .before .before .before .before .before .before .before .before .before .before .before .before .before .before .before .before .before .before .before .before .before .before .before .before .before .loop in omega (arith, l .inv .1 .running .small)
 
-cast-open-window : tie.Need-cast-open-window Inv-loop μ-loop
-cast-open-window c = let l = c .before .before .before .before .before .before .before .before .before .before .before .before .before .before .before .before .before .before .before .before .before .before .before .before .before .before .before .before .before .loop in omega (arith, l .inv .1 .running .small, l .inv .1 .running .long)
+cast-open-window-2 : tie.Need-cast-open-window-2 Inv-loop μ-loop
+cast-open-window-2 c = let l = c .before .before .before .before .before .before .before .before .before .before .before .before .before .before .before .before .before .before .before .before .before .before .before .before .before .before .before .before .before .before .before .before .loop in omega (arith, l .inv .1 .running .small, l .inv .1 .running .long)
 
 loop-less : tie.Need-loop-less Inv-loop μ-loop
-loop-less c = fewer (c .before .before .before .before .before .before .before .before .before .before .before .before .before .before .before .before .before .before .before .before .before .before .before .before .before .before .before .before .before .before .before .loop .out) (c .before .before .before .before .before .before .before .before .before .before .before .before .before .before .before .before .before .before .before .before .before .before .before .before .before .before .before .before .before .before .before .loop .used) _ _ (c .before .before .before .before .before .before .before .before .before .before .before .before .before .before .before .before .before .before .before .before .before .before .before .before .before .before .before .before .before .before .loop-test .taken) (omega arith)
+loop-less c = fewer (c .before .before .before .before .before .before .before .before .before .before .before .before .before .before .before .before .before .before .before .before .before .before .before .before .before .before .before .before .before .before .before .before .before .before .loop .out) (c .before .before .before .before .before .before .before .before .before .before .before .before .before .before .before .before .before .before .before .before .before .before .before .before .before .before .before .before .before .before .before .before .before .before .loop .used) _ _ (c .before .before .before .before .before .before .before .before .before .before .before .before .before .before .before .before .before .before .before .before .before .before .before .before .before .before .before .before .before .before .before .before .before .loop-test .taken) (omega arith)
 
 loop-again : tie.Need-loop-again Inv-loop μ-loop
 loop-again c =
-    let x = c .before .before .before .before .before .before .before .before .before .before .before .before .before .before .before .before .before .before .before .before .before .before .before .before .before .before .before .before .before .before .before .before .before .before .before .before .before .before .before .before .before .before .before .before .before .before .before .args in
-    let l = c .before .before .before .before .before .before .before .before .before .before .before .before .before .before .before .before .before .before .before .before .before .before .before .before .before .before .before .before .before .before .before .loop in
+    let x = c .before .before .before .before .before .before .before .before .before .before .before .before .before .before .before .before .before .before .before .before .before .before .before .before .before .before .before .before .before .before .before .before .before .before .before .before .before .before .before .before .before .before .before .args in
+    let l = c .before .before .before .before .before .before .before .before .before .before .before .before .before .before .before .before .before .before .before .before .before .before .before .before .before .before .before .before .before .before .before .before .before .before .loop in
     let f = l .inv .0 in
     let g = l .inv .1 in
-    let T = c .before .before .before .before .before .before .before .before .before .before .before .before .before .before .before .before .before .before .before .before .before .before .before .take-due .ensures in
-    let o = c .before .before .before .before .before .before .before .before .before .before .before .before .before .offer-before-slot .ensures (x .t) _ (f .limits) (f .lanes) refl (going-stored (x .t) (x .trace .now) (x .out .now) (l .out) (l .waiting) (l .admitted) (l .last) (l .allowance) (l .under) (l .live) (l .held) (l .line) (l .served) (l .opened) (l .used) g)
-    (λ e. let z = quiet (l .opened) (l .line .due) (l .used) (l .served) e in going-settled (x .t) (x .trace .now) (x .out .now) (l .out) (l .waiting) (l .admitted) (l .last) (l .allowance) (l .under) (l .live) (l .held) (l .line) (l .served) (l .opened) (l .used) g _ _ T (z .0) (z .1) (z .2)) in
-    let y = c .before .before .serve .ensures (x .t) _ (f .table) (f .ports) (f .lanes) (before-rules (x .t) (x .trace .now) (x .out .now) (l .out) (l .waiting) (l .admitted) (l .last) (l .allowance) (l .under) (l .live) (l .held) (l .line) (l .served) (l .opened) (l .used) g _ _ T) (o .stored .waiting) (before-last (x .t) (x .trace .now) (x .out .now) (l .out) (l .waiting) (l .admitted) (l .last) (l .allowance) (l .under) (l .live) (l .held) (l .line) (l .served) (l .opened) (l .used) g _ _ T) (before-allowance (x .t) (x .trace .now) (x .out .now) (l .out) (l .waiting) (l .admitted) (l .last) (l .allowance) (l .under) (l .live) (l .held) (l .line) (l .served) (l .opened) (l .used) g _ _ T) (o .stored .counts) in (
+    let T = c .before .before .before .before .before .before .before .before .before .before .before .before .before .before .before .before .before .before .before .before .before .before .before .before .before .before .take-due .ensures in
+    let o = subst (Offered (x .t) _) (sym (c .before .before .before .before .before .before .before .before .before .before .before .before .before .before .before .offer-before-slot .ensures))
+    (before-offered (x .t) _ _ _ _ _ _ _ _ _ _ (f .limits) (f .lanes) (going-stored (x .t) (x .trace .now) (x .out .now) (l .out) (l .waiting) (l .admitted) (l .last) (l .allowance) (l .under) (l .live) (l .held) (l .line) (l .served) (l .opened) (l .used) g) _ _
+    (λ e. let z = quiet (l .opened) (l .line .due) (l .used) (l .served) e in going-settled (x .t) (x .trace .now) (x .out .now) (l .out) (l .waiting) (l .admitted) (l .last) (l .allowance) (l .under) (l .live) (l .held) (l .line) (l .served) (l .opened) (l .used) g _ _ T (z .0) (z .1) (z .2))) in
+    let y = c .before .before .before .serve .ensures (x .t) _ (f .table) (f .ports) (f .lanes) (before-rules (x .t) (x .trace .now) (x .out .now) (l .out) (l .waiting) (l .admitted) (l .last) (l .allowance) (l .under) (l .live) (l .held) (l .line) (l .served) (l .opened) (l .used) g _ _ T) (o .stored .waiting) (before-last (x .t) (x .trace .now) (x .out .now) (l .out) (l .waiting) (l .admitted) (l .last) (l .allowance) (l .under) (l .live) (l .held) (l .line) (l .served) (l .opened) (l .used) g _ _ T) (before-allowance (x .t) (x .trace .now) (x .out .now) (l .out) (l .waiting) (l .admitted) (l .last) (l .allowance) (l .under) (l .live) (l .held) (l .line) (l .served) (l .opened) (l .used) g _ _ T) (o .stored .counts) in (
       f,
-      going-turn (x .t) (x .trace .now) (x .out .now) (l .out) (l .waiting) (l .admitted) (l .last) (l .allowance) (l .under) (l .live) (l .held) (l .line) (l .served) (l .opened) (l .used) g _ _ T _ _ _ _ _ o _ _ _ _ _ _ y _ (f .window) _ (c .open-window .ensures .1) _ (c .open-window .ensures .0)
-          (c .before .before .before .before .before .before .before .before .before .before .before .before .before .before .before .before .before .before .before .before .before .before .before .before .before .before .before .before .before .before .loop-test .taken) (l .inv .2) (sym (going-done (x .t) (x .trace .now) (x .out .now) (l .out) (l .waiting) (l .admitted) (l .last) (l .allowance) (l .under) (l .live) (l .held) (l .line) (l .served) (l .opened) (l .used) g _ (c .before .before .before .before .before .before .before .before .before .before .before .before .before .before .before .before .before .before .before .before .before .before .before .before .before .before .before .is-done .ensures)) ∙ c .before .before .before .before .before .before .before .before .before .before .before .before .before .before .before .before .before .before .before .before .before .before .before .before .before .before .if1 .left),
+      going-turn (x .t) (x .trace .now) (x .out .now) (l .out) (l .waiting) (l .admitted) (l .last) (l .allowance) (l .under) (l .live) (l .held) (l .line) (l .served) (l .opened) (l .used) g _ _ T _ o _ _ _ _ _ _ y _ refl _ (c .open-window .ensures .1) _ (c .open-window .ensures .0)
+          (c .before .before .before .before .before .before .before .before .before .before .before .before .before .before .before .before .before .before .before .before .before .before .before .before .before .before .before .before .before .before .before .before .before .loop-test .taken) (l .inv .2) (sym (going-done (x .t) (x .trace .now) (x .out .now) (l .out) (l .waiting) (l .admitted) (l .last) (l .allowance) (l .under) (l .live) (l .held) (l .line) (l .served) (l .opened) (l .used) g _ (c .before .before .before .before .before .before .before .before .before .before .before .before .before .before .before .before .before .before .before .before .before .before .before .before .before .before .before .before .before .before .is-done .ensures)) ∙ not-true _ (c .before .before .before .before .before .before .before .before .before .before .before .before .before .before .before .before .before .before .before .before .before .before .before .before .before .before .before .before .before .if1 .taken)),
       l .inv .2,
     )
 
-cast-t62 : tie.Need-cast-t62 Inv-loop μ-loop
-cast-t62 c = let l = c .before .before .before .before .before .loop in omega (arith, l .inv .1 .running .small)
+cast-ended : tie.Need-cast-ended Inv-loop μ-loop
+cast-ended c = let l = c .before .before .before .before .loop in omega (arith, l .inv .1 .running .small)
 
-same-length-2 : tie.Need-same-length-2 Inv-loop μ-loop
-same-length-2 c = c .before .before .before .before .before .loop .inv .1 .running .long
+same-length : tie.Need-same-length Inv-loop μ-loop
+same-length c = c .before .before .before .before .before .loop .inv .1 .running .long
 
-returns-2 : tie.Need-returns-2 Inv-loop μ-loop
-returns-2 c =
-    let x = c .before .before .before .before .before .before .before .before .before .before .before .before .before .before .before .before .before .before .before .before .before .args in
+returns : tie.Need-returns Inv-loop μ-loop
+returns c =
+    let x = c .before .before .before .before .before .before .before .before .before .before .before .before .before .before .args in
     let l = c .before .before .before .before .before .loop in
-    running-done (x .t) (x .trace .now) (x .out .now) (l .out) (placeOf (l .waiting) (l .admitted) (l .last) (l .allowance) (l .held) (l .line) (l .used)) (l .used) (l .inv .1 .running)
-    (sym (going-done (x .t) (x .trace .now) (x .out .now) (l .out) (l .waiting) (l .admitted) (l .last) (l .allowance) (l .under) (l .live) (l .held) (l .line) (l .served) (l .opened) (l .used) (l .inv .1) _ (c .before .is-done2 .ensures)) ∙ c .if2 .taken)
-
-cast-t63 : tie.Need-cast-t63 Inv-loop μ-loop
-cast-t63 c = let l = c .before .before .before .before .before .loop in omega (arith, l .inv .1 .running .small)
-
-same-length-3 : tie.Need-same-length-3 Inv-loop μ-loop
-same-length-3 c = c .before .before .before .before .before .loop .inv .1 .running .long
-
-returns-3 : tie.Need-returns-3 Inv-loop μ-loop
-returns-3 c =
-    let x = c .before .before .before .before .before .before .before .before .before .before .before .before .before .before .before .before .before .before .before .before .before .args in
-    let l = c .before .before .before .before .before .loop in
-    running-stopped (x .t) (x .trace .now) (x .out .now) (l .out) (placeOf (l .waiting) (l .admitted) (l .last) (l .allowance) (l .held) (l .line) (l .used)) (l .used) (l .inv .1 .running) (c .before .before .before .before .loop-test .left)
-    (sym (going-done (x .t) (x .trace .now) (x .out .now) (l .out) (l .waiting) (l .admitted) (l .last) (l .allowance) (l .under) (l .live) (l .held) (l .line) (l .served) (l .opened) (l .used) (l .inv .1) _ (c .before .is-done2 .ensures)) ∙ c .if2 .left)
+    let e = going-done (x .t) (x .trace .now) (x .out .now) (l .out) (l .waiting) (l .admitted) (l .last) (l .allowance) (l .under) (l .live) (l .held) (l .line) (l .served) (l .opened) (l .used) (l .inv .1) _ (c .before .is-done2 .ensures) in
+    let full : c .before .is-done2 .result ≡ false → length (l .out) ≤ l .used = λ z. elim (c .before .before .before .before .loop-test .came) [
+      | inl p ↦
+          let q : true ≡ false = sym (not-false _ (p .4 .left)) ∙ p .3 .ensures ∙ sym (c .before .is-done2 .ensures) ∙ z in
+          let i : _≡_ {A = ℕ} 0 1 = cc in absurd (omega arith)
+      | inr q ↦ q .left
+    ] in
+    let r = running-ended (x .t) (x .trace .now) (x .out .now) (l .out) (placeOf (l .waiting) (l .admitted) (l .last) (l .allowance) (l .held) (l .line) (l .used)) (l .used) (l .inv .1 .running) _ full (sym e) in
+    (c .ended .ensures ∙ r .0, r .1)
 
 pub run-slots-spec : {M : Type 1} → statement M
 run-slots-spec =
@@ -110,14 +96,10 @@ run-slots-spec =
     (tie.spec
     Inv-loop
     μ-loop
-    (λ c. search needs)
     (λ c κs. search needs)
     (λ c κs. search needs)
     loop-holds
     (λ c κs. search needs)
-    cast-t32
-    same-length
-    returns
     cast-every
     cast-take-due
     take-due-requires
@@ -125,14 +107,13 @@ run-slots-spec =
     (λ c κs. search needs)
     slice-write-out
     add-used
-    cast-open-window
+    (λ c. search needs)
+    cast-open-window-2
     (λ c κs. search needs)
     loop-less
     loop-again
     (λ c κs. search needs)
-    cast-t62
-    same-length-2
-    returns-2
-    cast-t63
-    same-length-3
-    returns-3)
+    cast-ended
+    (λ c κs. search needs)
+    same-length
+    returns)

@@ -1,17 +1,20 @@
 -- `admit_held` meets its contract: the smallest of what is held and what both limits leave.
-use mathlib.Core.Path.{_≡_, ap, sym, _∙_, ap₂, subst}
-use Prim.Native.Nat.{ℕ, _<_, _-_, _+_, min}
+use mathlib.Core.Path.{_≡_, ap, sym, _∙_, ap₂}
+use Prim.Native.Nat.{_-_, min}
 use native.Mathlib.Omega.{arith}
 use borrow.Author.Needs.{needs}
-use Rattle.runner.proofs.offers.admit_held.Statement.{statement}
-use Rattle.runner.proofs.offers.admit_held.Tie as tie
+use borrow.Author.Tests.{eq-eqb, ne-eqb}
+use Rattle.model.proofs.Folds.{picked, passed}
+use Rattle.admit.specs.Admitting.{heldOffers}
+use Rattle.admit.proofs.admit_held.Statement.{statement}
+use Rattle.admit.proofs.admit_held.Tie as tie
 
 returns : tie.Need-returns
 returns c =
     let x = c .before .before .before .before .before .args in
     let e : c .before .smaller2 .result ≡ min (x .held) (min (x .limit - x .waiting) (x .budget - x .admitted)) =
     c .before .smaller2 .ensures ∙ ap (min (x .held)) (c .before .before .smaller .ensures ∙ ap₂ min (c .before .before .before .before .rest .ensures) (c .before .before .before .rest2 .ensures)) in
-    sym e ∙ c .if1 .taken
+    sym (picked _ _ _ (eq-eqb _ 0 (sym e ∙ c .if1 .taken)))
 
 cast-t12 : tie.Need-cast-t12
 cast-t12 c = omega (arith, c .before .before .smaller .ensures, c .before .before .before .before .rest .ensures)
@@ -20,15 +23,9 @@ returns-2 : tie.Need-returns-2
 returns-2 c =
     let x = c .before .before .before .before .before .args in
     let e : c .before .smaller2 .result ≡ min (x .held) (min (x .limit - x .waiting) (x .budget - x .admitted)) =
-    c .before .smaller2 .ensures ∙ ap (min (x .held)) (c .before .before .smaller .ensures ∙ ap₂ min (c .before .before .before .before .rest .ensures) (c .before .before .before .rest2 .ensures)) in (
-      subst (λ (n : ℕ). 0 < n) e (omega (arith, c .if1 .left)),
-      record {
-        count = e;
-        held = ap (λ (n : ℕ). x .held - n) e;
-        waiting = ap (λ (n : ℕ). x .waiting + n) e;
-        admitted = ap (λ (n : ℕ). x .admitted + n) e;
-      },
-    )
+    c .before .smaller2 .ensures ∙ ap (min (x .held)) (c .before .before .smaller .ensures ∙ ap₂ min (c .before .before .before .before .rest .ensures) (c .before .before .before .rest2 .ensures)) in
+    sym (passed _ _ _ (ne-eqb (c .before .smaller2 .result) 0 (c .if1 .left)))
+    ∙ ap (λ n. heldOffers n (x .held) (x .waiting) (x .admitted)) e
 
 pub admit-held-spec : {M : Type 1} → statement M
 admit-held-spec =

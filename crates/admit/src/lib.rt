@@ -1,10 +1,22 @@
-// The offers of a run before a slot.
-use crate::Admission;
-use crate::HeldOffers;
+// The offers of a run before a slot, on the arrays that it keeps in place of a state.
 use counts::along::add_along;
 ghost use mathlib.Core.Path.{_≡_};
 ghost use Prim.Native.Nat.{_-_, min};
-ghost use Rattle.runner.specs.Arrays.{OffersHeld, OffersAll, OffersEach, OffersBefore};
+ghost use Rattle.admit.specs.Admitting.{arrays, heldOffers, offersOf, offersBelow, offersBefore};
+
+// What is held, waiting and admitted once `count` of the held transactions are admitted.
+struct Admission {
+    count: u8,
+    held: u32,
+    waiting: u8,
+    admitted: u16,
+}
+
+// What the offers of one accelerator before a slot come to.
+enum HeldOffers {
+    NoneAdmitted,
+    Admitted(Admission),
+}
 
 fn smaller(x: u32, y: u32) -> u32
     ensures { λ r. ⌜ r ≡ min x y ⌝ }
@@ -27,7 +39,7 @@ fn rest(limit: u32, count: u32) -> u32
 
 // The offers of one accelerator: as many of the held transactions are admitted as are admitted one by one before one is refused.
 fn admit_held(held: u32, limit: u8, waiting: u8, budget: u16, admitted: u16) -> HeldOffers
-    ensures { λ r. ⌜ OffersHeld (min held (min (limit - waiting) (budget - admitted))) held waiting admitted r ⌝ }
+    ensures { λ r. ⌜ r ≡ heldOffers (min held (min (limit - waiting) (budget - admitted))) held waiting admitted ⌝ }
 {
     let outstanding = rest(limit as u32, waiting as u32);
     let unspent = rest(budget as u32, admitted as u32);
@@ -56,7 +68,7 @@ fn offer_held(
     under: &mut [u16; 120],
     live: &mut [u8; 15],
 )
-    ensures { λ _. ⌜ OffersAll a (now (limits .entry)) (now (budgets .entry)) (now (homes .entry)) (now (above .entry)) (now (waiting .entry)) (now (admitted .entry)) (now (held .entry)) (now (under .entry)) (now (live .entry)) (now (waiting .exit)) (now (admitted .exit)) (now (held .exit)) (now (under .exit)) (now (live .exit)) ⌝ }
+    ensures { λ _. ⌜ arrays (now (waiting .exit)) (now (admitted .exit)) (now (held .exit)) (now (under .exit)) (now (live .exit)) ≡ offersOf (now (limits .entry)) (now (budgets .entry)) (now (homes .entry)) (now (above .entry)) a (arrays (now (waiting .entry)) (now (admitted .entry)) (now (held .entry)) (now (under .entry)) (now (live .entry))) ⌝ }
 {
     let i = a as usize;
     if 31 < i {
@@ -85,7 +97,7 @@ fn offer_each(
     under: &mut [u16; 120],
     live: &mut [u8; 15],
 )
-    ensures { λ _. ⌜ OffersEach accs (now (limits .entry)) (now (budgets .entry)) (now (homes .entry)) (now (above .entry)) (now (waiting .entry)) (now (admitted .entry)) (now (held .entry)) (now (under .entry)) (now (live .entry)) (now (waiting .exit)) (now (admitted .exit)) (now (held .exit)) (now (under .exit)) (now (live .exit)) ⌝ }
+    ensures { λ _. ⌜ arrays (now (waiting .exit)) (now (admitted .exit)) (now (held .exit)) (now (under .exit)) (now (live .exit)) ≡ offersBelow (now (limits .entry)) (now (budgets .entry)) (now (homes .entry)) (now (above .entry)) accs (arrays (now (waiting .entry)) (now (admitted .entry)) (now (held .entry)) (now (under .entry)) (now (live .entry))) ⌝ }
 {
     let mut a: u8 = 0;
     while a < accs {
@@ -105,22 +117,22 @@ fn offer_each(
     }
 }
 
-// The offers before a slot. Unless every accelerator may have more admitted, only the one served last may.
-pub fn offer_before_slot(
+// The offers before a slot: of every accelerator, or only of the one served last, where no other may have more admitted.
+pub fn offer_before_slot<'a>(
     every: bool,
     served: u8,
     accs: u8,
-    limits: &[u8; 32],
-    budgets: &[u16; 32],
-    homes: &[u16; 32],
-    above: &[u16; 15],
+    limits: &'a [u8; 32],
+    budgets: &'a [u16; 32],
+    homes: &'a [u16; 32],
+    above: &'a [u16; 15],
     waiting: &mut [u8; 32],
     admitted: &mut [u16; 32],
     held: &mut [u32; 32],
     under: &mut [u16; 120],
     live: &mut [u8; 15],
 )
-    ensures { λ _. ⌜ OffersBefore every served accs (now (limits .entry)) (now (budgets .entry)) (now (homes .entry)) (now (above .entry)) (now (waiting .entry)) (now (admitted .entry)) (now (held .entry)) (now (under .entry)) (now (live .entry)) (now (waiting .exit)) (now (admitted .exit)) (now (held .exit)) (now (under .exit)) (now (live .exit)) ⌝ }
+    ensures { λ _. ⌜ arrays (now (waiting .exit)) (now (admitted .exit)) (now (held .exit)) (now (under .exit)) (now (live .exit)) ≡ offersBefore (now (limits .entry)) (now (budgets .entry)) (now (homes .entry)) (now (above .entry)) every served accs (arrays (now (waiting .entry)) (now (admitted .entry)) (now (held .entry)) (now (under .entry)) (now (live .entry))) ⌝ }
 {
     if every {
         offer_each(
