@@ -13,9 +13,10 @@ use Rattle.model.specs.Tree.{acceleratorOf, homeOf, levelOf}
 use Rattle.rules.specs.Rules.{treeKeeps, busKeeps, usedAccelerator}
 use Rattle.model.proofs.Folds.{tests, picked}
 use Rattle.rules.proofs.Sound.{sound}
-use Rattle.bounds.specs.Bounds.{interference, aloneRead, aloneWrite, slotRead, slotWrite, readTime, writeTime, responseOf, shareOf}
+use Rattle.shares.specs.Shares.{shareOf}
+use Rattle.shares.proofs.Shares.{share-bounds}
+use Rattle.bounds.specs.Bounds.{interference, aloneRead, aloneWrite, slotRead, slotWrite, readTime, writeTime, responseOf}
 use Rattle.bounds.specs.Limits.{Limited}
-use Rattle.bounds.proofs.Shares.{share-bounds}
 
 pub record Fitting (b : Bus) (x : Accelerator) (l share : ℕ) : Type 0 where
   pub slot-read : slotRead b ≤ 69630

@@ -7,7 +7,8 @@ use native.Mathlib.Nat.{mul-add, mul-assoc, mul-sub}
 use native.Mathlib.Omega.{arith}
 use Rattle.model.specs.declared.Tree.{Tree}
 use Rattle.model.specs.Tree.{Crossing, homeOf, homePortOf, above}
-use Rattle.bounds.specs.Bounds.{othersAt, shareAlong, shareOf, interference}
+use Rattle.shares.specs.Shares.{othersAt, shareAlong, shareOf}
+use Rattle.bounds.specs.Bounds.{interference}
 use Rattle.bounds.specs.Recursion.{upward, interferers}
 
 upward-grows : (t : Tree) (n y : ℕ) (xs : List Crossing) → n + upward t n y xs ≡ (n + y) * shareAlong t xs

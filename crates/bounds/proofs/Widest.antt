@@ -15,7 +15,8 @@ use Rattle.model.specs.Fold.{sum, all}
 use Rattle.model.specs.Tree.{noInterconnect, noAccelerator, above}
 use Rattle.model.specs.Beneath.{inside}
 use Rattle.rules.specs.Rules.{treeKeeps, busKeeps, carries, rootPlaced, childPlaced, usedInterconnect, unusedInterconnect, usedAccelerator, unusedAccelerator}
-use Rattle.bounds.specs.Bounds.{othersAt, shareAlong, Row, given, boundOf}
+use Rattle.shares.specs.Shares.{othersAt, shareAlong}
+use Rattle.bounds.specs.Bounds.{Row, given, boundOf}
 
 abbrev cell : Port → PortCell
 cell x = record { port = x }

@@ -1,13 +1,7 @@
--- The bounds of document 01, "Bounds", sentence by sentence. A count of interfering transactions is in slots; every time
--- is in clock cycles, and `cyclesOf` is the only step from the one to the other.
+-- The bounds of document 01, "Bounds", from interference on, sentence by sentence (capacity, D and share: `Shares.antt` of
+-- the crate `shares`). A count of interfering transactions is in slots; every time is in clock cycles, and `cyclesOf` is
+-- the only step from the one to the other.
 --
--- capacityOf t j p           the capacity of port p of interconnect j: "0 if empty, phi for an accelerator, for an
---                            interconnect the sum over everything beneath it, down to the accelerators"
--- counted t j p q            what port q of interconnect j counts for in D at port p: nothing if it is port p itself,
---                            else "the smaller of g and the capacity"
--- othersAt t j p             "D at an interconnect on an accelerator's path is the sum, over its other ports, .."
--- shareAlong t xs            "the product of (1 + D) along" the crossings xs
--- shareOf t a                "The share is the product of (1 + D) along the path"
 -- interference n share       "Interference of N transactions is N × (share - 1)", in slots
 -- aloneRead b l              "alone, read: tA + L × dA + pR + L × dD + B × tD"
 -- aloneWrite b l             "alone, write: tA + L × max(dA, dD) + B × tD + pW + tB + L × dB"
@@ -25,36 +19,19 @@
 -- Answer                     what a call of `bound` answers: refused by a number, or the row
 -- meaningOf r                the answer that the enum of the code stands for
 -- boundOf t a                "a bound 11, 7", else the row
-use Prim.Native.Nat.{ℕ, _+_, _*_, _-_, min, max}
+use Prim.Native.Nat.{ℕ, _+_, _*_, _-_, max}
 use mathlib.Core.Bool.{Bool, not}
-use mathlib.Core.List.{List, [], _∷_}
-use lib.Dec.{leb, eqb}
+use lib.Dec.{leb}
 use Rattle.model.specs.declared.Tree.{Tree}
 use Rattle.model.specs.declared.Bus.{Bus}
 use Rattle.model.specs.declared.Accelerator.{Accelerator}
-use Rattle.model.specs.Fold.{pick, sum}
-use Rattle.model.specs.Tree.{Crossing, granularityOf, limitOf, homeOf, levelOf, path, acceleratorOf}
-use Rattle.model.specs.Beneath.{weightUnder}
+use Rattle.model.specs.Fold.{pick}
+use Rattle.model.specs.Tree.{homeOf, levelOf, acceleratorOf}
 use Rattle.rules.specs.Rules.{treeKeeps}
+use Rattle.shares.specs.Shares.{shareOf}
 use Rattle.model.specs.Answer.{numberOf}
 use Rattle.bounds.specs.declared.BoundAnswer.{BoundAnswer}
 use Rattle.bounds.specs.declared.BoundAnswer.the-variants.{Refused, Bound}
-
-abbrev pub capacityOf : Tree → ℕ → ℕ → ℕ
-capacityOf t j p = weightUnder t (limitOf t) j p
-
-abbrev pub counted : Tree → ℕ → ℕ → ℕ → ℕ
-counted t j p q = pick (eqb q p) 0 (min (granularityOf t j) (capacityOf t j q))
-
-unfoldable pub othersAt : Tree → ℕ → ℕ → ℕ
-othersAt t j p = sum 8 (counted t j p)
-
-unfoldable pub shareAlong : Tree → List Crossing → ℕ
-shareAlong t [] = 1
-shareAlong t (x ∷ xs) = (1 + othersAt t (x .interconnect) (x .port)) * shareAlong t xs
-
-abbrev pub shareOf : Tree → ℕ → ℕ
-shareOf t a = shareAlong t (path t a)
 
 abbrev pub interference : ℕ → ℕ → ℕ
 interference n share = n * (share - 1)

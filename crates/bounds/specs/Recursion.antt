@@ -7,7 +7,7 @@ use Prim.Native.Nat.{ℕ, _+_, _*_}
 use mathlib.Core.List.{List, [], _∷_}
 use Rattle.model.specs.declared.Tree.{Tree}
 use Rattle.model.specs.Tree.{Crossing, homeOf, homePortOf, above}
-use Rattle.bounds.specs.Bounds.{othersAt}
+use Rattle.shares.specs.Shares.{othersAt}
 
 unfoldable pub upward : Tree → ℕ → ℕ → List Crossing → ℕ
 upward t n y [] = y

@@ -1,9 +1,7 @@
 // The bounds of document 01: for an accelerator of a configuration its share, the interference that its job meets, its
 // response and whether it meets its period.
-mod share;
 mod timing;
 
-use crate::share::share_of;
 use crate::timing::interference_of;
 use crate::timing::response_of;
 use model::Accelerator;
@@ -13,6 +11,7 @@ use model::Tree;
 use model::access::accelerator_at;
 use model::access::level_of;
 use rules::tree_keeps;
+use shares::share_of;
 ghost use mathlib.Core.Path.{_≡_};
 ghost use Rattle.bounds.specs.Bounds.{given, rowFrom, meaningOf, boundOf};
 ghost use Rattle.bounds.specs.Limits.{Limited};

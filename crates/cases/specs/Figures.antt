@@ -34,7 +34,8 @@ use Rattle.lines.specs.Lines.{kindOf, pushed, lineOf, shaped}
 use Rattle.trace.specs.TraceFile.{offerLine, readOffers, readTrace, requests}
 use Rattle.runner.specs.Offers.{offerHeld, offerEach}
 use Rattle.runner.specs.Run.{Ending, done, heldWith, leftAfter, next, trail, ranOf, bufferAfter}
-use Rattle.bounds.specs.Bounds.{Answer as Bound, given, aloneRead, aloneWrite, slotRead, slotWrite, othersAt, shareAlong, shareOf, boundOf}
+use Rattle.shares.specs.Shares.{othersAt, shareAlong, shareOf}
+use Rattle.bounds.specs.Bounds.{Answer as Bound, given, aloneRead, aloneWrite, slotRead, slotWrite, boundOf}
 use Rattle.put.specs.Decimal.{digits, decimalText}
 use Rattle.put.specs.Page.{bytes, ended, joined}
 use Rattle.listing.specs.Listing.{rowText, allLine, refusalText, reportText}

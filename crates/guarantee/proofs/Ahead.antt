@@ -23,7 +23,7 @@ use Rattle.rules.proofs.Beneath.{weight-mono}
 use Rattle.turns.specs.Turns.{hasPort, liveSet, nextPort, goesOn, turnPort, turnAllowance}
 use Rattle.turns.proofs.Next.{bit-of}
 use Rattle.turns.proofs.Descent.{Turn, Turned, Unturned}
-use Rattle.bounds.specs.Bounds.{capacityOf, counted, othersAt}
+use Rattle.shares.specs.Shares.{capacityOf, counted, othersAt}
 use Rattle.guarantee.proofs.Circle.{between, between-all, next-sooner, last-with}
 
 unfoldable pub aheadIn : (ℕ → ℕ) → ℕ → ℕ → ℕ → ℕ

@@ -14,7 +14,7 @@ use Rattle.rules.specs.Rules.{treeKeeps, stateKeeps, sized, recordKeeps, turnKe
 use Rattle.turns.specs.Turns.{who, after, turnPort, turnAllowance, seek, bitsBelow}
 use Rattle.machine.specs.Machine.{Answer, admitted, served, freshState, offered, slotted, tick}
 use Rattle.machine.specs.Calls.{Call, offer, slot, stateAfter}
-use Rattle.bounds.specs.Bounds.{othersAt, shareAlong}
+use Rattle.shares.specs.Shares.{othersAt, shareAlong}
 use Rattle.cases.specs.Trees.{chain}
 use Rattle.guarantee.specs.Guarantee.{Event, event, eventsOf, queueFrom, startingQueue, slotsIn, othersIn, admissionsFrom}
 use Rattle.guarantee.specs.Instances.{several, unreached, Sharp}

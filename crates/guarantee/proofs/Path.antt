@@ -21,7 +21,7 @@ use Rattle.rules.proofs.Sound.{Sound, Kept, above-root, above-step}
 use Rattle.rules.proofs.Beneath.{On, here, there, Below, lane, on?, rising, path-bounds, path-up, path-root, path-next, path-holds}
 use Rattle.turns.specs.Turns.{turnPort}
 use Rattle.turns.proofs.Descent.{Turned, Unturned}
-use Rattle.bounds.specs.Bounds.{othersAt, shareAlong, shareOf}
+use Rattle.shares.specs.Shares.{othersAt, shareAlong, shareOf}
 use Rattle.guarantee.proofs.Ahead.{aheadOf, ahead-same, ahead-most, ahead-turn, layer, layer-most, layer-least, layer-own, layer-other}
 
 abbrev pub layerOf : Tree → State → ℕ → ℕ → ℕ → ℕ

@@ -18,7 +18,7 @@ use Rattle.model.proofs.Folds.{picked}
 use Rattle.machine.specs.Machine.{admitted, served, idle, refused}
 use Rattle.machine.specs.Calls.{Call, offer, slot, step, stateAfter}
 use Rattle.machine.proofs.Cases.{sound-of, kept-of}
-use Rattle.bounds.specs.Bounds.{shareOf}
+use Rattle.shares.specs.Shares.{shareOf}
 use Rattle.guarantee.specs.Guarantee.{Event, event, eventsOf, Ticket, admittedBy, queueFrom, startingQueue, queueAfter, slotsIn, othersIn, upTo, Holds, StillWaits, Guarantee}
 use Rattle.guarantee.proofs.Path.{waitOf, wait-most}
 use Rattle.guarantee.proofs.Walk.{Does, admits, serves, idles, halts, Walk, go, walked, walk-start, Parts, parts, step-keeps}

@@ -44,7 +44,7 @@ use Rattle.model.specs.Tree.{windowOf, budgetOf, waitingOf, admittedOf}
 use Rattle.rules.specs.Rules.{keeps}
 use Rattle.machine.specs.Machine.{Answer, admitted, served, idle, refused}
 use Rattle.machine.specs.Calls.{Call, offer, slot, step, stateAfter}
-use Rattle.bounds.specs.Bounds.{shareOf}
+use Rattle.shares.specs.Shares.{shareOf}
 
 pub record Event : Type 0 where
   pub call : Call

@@ -28,7 +28,7 @@ use Rattle.model.specs.Tree.{budgetOf}
 use Rattle.rules.specs.Rules.{keeps}
 use Rattle.machine.specs.Machine.{served, refused, freshState}
 use Rattle.machine.specs.Calls.{Call, offer, slot, step, stateAfter}
-use Rattle.bounds.specs.Bounds.{shareOf}
+use Rattle.shares.specs.Shares.{shareOf}
 use Rattle.cases.specs.Trees.{ports, interconnect, block, tree, chain, pair, nested}
 use Rattle.guarantee.specs.Guarantee.{Event, event, eventsOf, Ticket, admittedBy, queueAfter, slotsIn, othersIn, admissionsIn, upTo}
 

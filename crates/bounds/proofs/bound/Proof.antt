@@ -1,12 +1,18 @@
--- `bound` meets its contract: the tests come in the order of the definition, and an accepted tree keeps every figure in its limits.
+-- `bound` meets its contract: the tests come in the order of the definition, an accepted tree keeps every figure in its
+-- limits, and no more than three crossings lie above the first.
+use mathlib.Core.Bool.{true}
 use mathlib.Core.Path.{_≡_, refl, ap, sym, _∙_, subst₃}
-use Prim.Native.Nat.{ℕ}
+use Prim.Native.Nat.{ℕ, _<_}
 use borrow.Author.Tests.{not-true, not-false}
 use borrow.Author.Needs.{needs}
 use Rattle.model.specs.declared.Tree.{Tree}
 use Rattle.model.specs.declared.Accelerator.{Accelerator}
 use Rattle.model.specs.Tree.{acceleratorOf, homeOf, levelOf}
-use Rattle.bounds.specs.Bounds.{shareOf, rowFrom, rowOf, given}
+use Rattle.rules.specs.Rules.{treeKeeps}
+use Rattle.rules.proofs.Sound.{sound}
+use Rattle.shares.specs.Shares.{shareOf, shareWithin}
+use Rattle.shares.proofs.Shares.{share-within}
+use Rattle.bounds.specs.Bounds.{rowFrom, rowOf, given}
 use Rattle.bounds.specs.Limits.{Limited}
 use Rattle.bounds.proofs.Limits.{limited}
 use Rattle.bounds.proofs.Answers.{bound-broken, bound-unknown, bound-given}
@@ -14,9 +20,10 @@ use Rattle.bounds.proofs.bound.Statement.{statement}
 use Rattle.bounds.proofs.bound.Tie as tie
 
 -- what holds of the figures that the definition reads holds of those that the callees give
-read : (t : Tree) (a : ℕ) (x : Accelerator) (l s : ℕ) (Q : Accelerator → ℕ → ℕ → Type 0) → x ≡ acceleratorOf t a → l ≡ levelOf t (x .interconnect) → s ≡ shareOf t a
-    → Q (acceleratorOf t a) (levelOf t (homeOf t a)) (shareOf t a) → Q x l s
-read t a x l s Q e f g = subst₃ Q (sym e) (sym (f ∙ ap (λ (y : Accelerator). levelOf t (y .interconnect)) e)) (sym g)
+read : (t : Tree) → treeKeeps t ≡ true → (a : ℕ) → a < t .accs → (x : Accelerator) (l s : ℕ) (Q : Accelerator → ℕ → ℕ → Type 0) → x ≡ acceleratorOf t a → l ≡ levelOf t (x .interconnect)
+    → s ≡ shareWithin 3 t a → Q (acceleratorOf t a) (levelOf t (homeOf t a)) (shareOf t a) → Q x l s
+read t k a b x l s Q e f g =
+    subst₃ Q (sym e) (sym (f ∙ ap (λ (y : Accelerator). levelOf t (y .interconnect)) e)) (sym (g ∙ share-within t (sound t k) a b))
 
 returns : tie.Need-returns
 returns c =
@@ -26,21 +33,21 @@ returns-2 : tie.Need-returns-2
 returns-2 c =
     sym (bound-unknown _ _ (sym (c .before .before .before .tree-keeps .ensures) ∙ not-false _ (c .before .before .if1 .left)) (c .if2 .taken))
 
-share-of-requires : tie.Need-share-of-requires
-share-of-requires c κs =
-    (sym (c .before .before .before .before .before .tree-keeps .ensures) ∙ not-false _ (c .before .before .before .before .if1 .left), c .before .before .if2 .left)
-
 figures-from-requires : tie.Need-figures-from-requires
 figures-from-requires c κs =
     let a = c .before .before .before .before .before .before .before .args in
-    read (a .t) (a .a) _ _ _ (Limited (a .t .bus)) (c .before .before .accelerator-at .ensures) (c .before .level-of .ensures) (c .share-of .ensures) (limited (a .t) (sym (c .before .before .before .before .before .before .tree-keeps .ensures) ∙ not-false _ (c .before .before .before .before .before .if1 .left)) (a .a) (c .before .before .before .if2 .left))
+    let k = sym (c .before .before .before .before .before .before .tree-keeps .ensures) ∙ not-false _ (c .before .before .before .before .before .if1 .left) in
+    let b = c .before .before .before .if2 .left in
+    read (a .t) k (a .a) b _ _ _ (Limited (a .t .bus)) (c .before .before .accelerator-at .ensures) (c .before .level-of .ensures) (c .share-of .ensures) (limited (a .t) k (a .a) b)
 
 returns-3 : tie.Need-returns-3
 returns-3 c =
     let a = c .before .before .before .before .before .before .before .before .args in
+    let k = sym (c .before .before .before .before .before .before .before .tree-keeps .ensures) ∙ not-false _ (c .before .before .before .before .before .before .if1 .left) in
+    let b = c .before .before .before .before .if2 .left in
     c .figures-from .ensures
-    ∙ read (a .t) (a .a) _ _ _ (λ x l s. given (rowFrom (a .t .bus) x l s) ≡ given (rowOf (a .t) (a .a))) (c .before .before .before .accelerator-at .ensures) (c .before .before .level-of .ensures) (c .before .share-of .ensures) refl
-    ∙ sym (bound-given (a .t) (a .a) (sym (c .before .before .before .before .before .before .before .tree-keeps .ensures) ∙ not-false _ (c .before .before .before .before .before .before .if1 .left)) (c .before .before .before .before .if2 .left))
+    ∙ read (a .t) k (a .a) b _ _ _ (λ x l s. given (rowFrom (a .t .bus) x l s) ≡ given (rowOf (a .t) (a .a))) (c .before .before .before .accelerator-at .ensures) (c .before .before .level-of .ensures) (c .before .share-of .ensures) refl
+    ∙ sym (bound-given (a .t) (a .a) k b)
 
 pub bound-spec : {M : Type 1} → statement M
-bound-spec = tie.close (tie.spec (λ c κs. search needs) returns returns-2 (λ c κs. search needs) (λ c κs. search needs) share-of-requires figures-from-requires returns-3)
+bound-spec = tie.close (tie.spec (λ c κs. search needs) returns returns-2 (λ c κs. search needs) (λ c κs. search needs) (λ c κs. search needs) figures-from-requires returns-3)

@@ -1,5 +1,6 @@
 -- The share is at least 1 and at most 163,047,361: seven other ports count for at most 16 each, and a path crosses at most
--- four interconnects. By induction on the number of ports and on the path.
+-- four interconnects, so that the walk over three parents is the whole path. By induction on the number of ports and on the
+-- path.
 use Prim.Native.Nat.{ℕ, zero, suc, _+_, _*_, _^_, _≤_, _<_, min}
 use mathlib.Core.Bool.{true}
 use mathlib.Core.List.{List, [], _∷_}
@@ -7,17 +8,17 @@ use mathlib.Core.Path.{_≡_, refl, sym, _∙_, ap}
 use native.Mathlib.Decide.{ℕ-discrete}
 use native.Mathlib.Nat.{suc-mul, mul-le-mul, one-le-mul, pow-zero, pow-succ', pow-le-pow-right, le-trans}
 use native.Mathlib.Omega.{arith}
-use lib.Dec.{eqb, lit<}
+use lib.Dec.{eqb, lit<, lit≤}
 use lib.ListN.{length}
 use borrow.Author.Tests.{eq-eqb, ne-eqb}
 use Rattle.model.specs.declared.Tree.{Tree}
 use Rattle.model.specs.Fold.{pick, sum}
-use Rattle.model.specs.Tree.{Crossing, granularityOf, homeOf, parentOf, parentPortOf, above, path}
+use Rattle.model.specs.Tree.{Crossing, granularityOf, homeOf, homePortOf, parentOf, parentPortOf, above, path}
 use Rattle.rules.specs.Rules.{treeKeeps}
 use Rattle.model.proofs.Folds.{picked, passed}
 use Rattle.rules.proofs.Sound.{Sound, sound}
 use Rattle.rules.proofs.Beneath.{On, here, there, path-bounds}
-use Rattle.bounds.specs.Bounds.{capacityOf, counted, othersAt, shareAlong, shareOf}
+use Rattle.shares.specs.Shares.{capacityOf, counted, othersAt, shareAlong, shareOf, shareWithin}
 
 -- n terms of at most b
 pub sum-most : (n b : ℕ) (f : ℕ → ℕ) → ((i : ℕ) → i < n → f i ≤ b) → sum n f ≤ n * b
@@ -83,6 +84,11 @@ module _ (t : Tree) (S : Sound t) where
   unfolding othersAt
   others-most j p l b =
       omega (arith, sum-without 8 16 p (counted t j p) b (counted-own t j p) (λ q _. omega (arith, counted-most t j p q, S .granularity j l)))
+
+  pub share-within : (a : ℕ) → a < t .accs → shareWithin 3 t a ≡ shareOf t a
+  share-within a l =
+      let k : length (above 15 t (homeOf t a)) ≤ 3 = omega (arith, S .level (homeOf t a) (S .home a l)) in
+      ap (λ xs. shareAlong t (record { interconnect = homeOf t a; port = homePortOf t a } ∷ xs)) (above-enough t 3 15 (homeOf t a) (lit≤ tt) k)
 
   pub share-most : (a : ℕ) → a < t .accs → shareOf t a ≤ 163047361
   share-most a l =

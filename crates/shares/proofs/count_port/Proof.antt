@@ -6,8 +6,8 @@ use borrow.Author.Tests.{eq-eqb, ne-eqb}
 use borrow.Author.Needs.{needs}
 use Rattle.model.specs.declared.Interconnect.{Interconnect}
 use Rattle.model.proofs.Folds.{picked, passed}
-use Rattle.bounds.proofs.share.count_port.Statement.{statement}
-use Rattle.bounds.proofs.share.count_port.Tie as tie
+use Rattle.shares.proofs.count_port.Statement.{statement}
+use Rattle.shares.proofs.count_port.Tie as tie
 
 returns : tie.Need-returns
 returns c = (sym (picked _ _ _ (eq-eqb _ _ (c .if1 .taken))), search needs)

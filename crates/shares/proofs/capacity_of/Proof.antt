@@ -3,8 +3,8 @@ use mathlib.Core.Path.{ap, _∙_}
 use borrow.Author.Needs.{needs}
 use Rattle.model.specs.Tree.{limitOf}
 use Rattle.model.specs.Beneath.{under, inside}
-use Rattle.bounds.proofs.share.capacity_of.Statement.{statement}
-use Rattle.bounds.proofs.share.capacity_of.Tie as tie
+use Rattle.shares.proofs.capacity_of.Statement.{statement}
+use Rattle.shares.proofs.capacity_of.Tie as tie
 
 returns : tie.Need-returns
 returns c =

@@ -16,8 +16,8 @@ use Rattle.rules.specs.Rules.{treeKeeps}
 use Rattle.model.proofs.Folds.{sum-zero, term-le}
 use Rattle.rules.proofs.Sound.{Sound, sound, above-step}
 use Rattle.rules.proofs.Beneath.{only, only-same, only-other, some-port, On, here, there, lane, at-port, path-bounds, path-unique, path-root, beneath-on, beneath-once}
-use Rattle.bounds.specs.Bounds.{capacityOf, counted, othersAt, shareAlong, shareOf}
-use Rattle.bounds.proofs.Shares.{counted-own, counted-other, share-least}
+use Rattle.shares.specs.Shares.{capacityOf, counted, othersAt, shareAlong, shareOf}
+use Rattle.shares.proofs.Shares.{counted-own, counted-other, share-least}
 
 factors-one : (d s : ℕ) → 1 ≤ s → (1 + d) * s ≡ 1 → (d ≡ 0) × (s ≡ 1)
 factors-one d s l e =

@@ -10,7 +10,7 @@ use borrow.Author.Tests.{eq-eqb, ne-eqb}
 use Rattle.model.specs.declared.Tree.{Tree}
 use Rattle.model.specs.Tree.{parentOf, parentPortOf, above}
 use Rattle.model.proofs.Folds.{picked, passed}
-use Rattle.bounds.specs.Bounds.{othersAt, shareAlong}
+use Rattle.shares.specs.Shares.{othersAt, shareAlong}
 
 module _ (t : Tree) where
   pub walk-none : (n j : ℕ) → n ≡ 0 → 1 ≡ shareAlong t (above n t j)

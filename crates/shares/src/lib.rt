@@ -1,4 +1,5 @@
-// Capacity, D and share.
+// Capacity, D and share of document 01. Each function answers on any configuration whatever: what is walked is bounded by
+// the number of levels, and not by the tables.
 use model::Port;
 use model::Tree;
 use model::access::accelerator_at;
@@ -6,12 +7,10 @@ use model::access::interconnect_at;
 use model::access::port_at;
 use rules::smaller;
 ghost use mathlib.Core.Path.{_≡_};
-ghost use mathlib.Core.Bool.{true};
-ghost use Prim.Native.Nat.{_+_, _*_, _^_, _≤_, _<_};
+ghost use Prim.Native.Nat.{_+_, _*_, _^_, _≤_};
 ghost use Rattle.model.specs.Tree.{limitOf, above};
 ghost use Rattle.model.specs.Beneath.{under, inside};
-ghost use Rattle.rules.specs.Rules.{treeKeeps};
-ghost use Rattle.bounds.specs.Bounds.{capacityOf, counted, othersAt, shareAlong, shareOf};
+ghost use Rattle.shares.specs.Shares.{capacityOf, counted, othersAt, shareAlong, shareWithin};
 
 // How many transactions of accelerator a may be outstanding.
 fn limit_of(t: Tree, a: u8) -> u32
@@ -97,10 +96,10 @@ fn share_above(t: Tree, n: u8, j: u8) -> u64
     factor_at(t, x.parent, x.port) * share_above(t, n - 1, x.parent)
 }
 
-// The share of accelerator a: at most three crossings lie above its own.
+// The share of accelerator a, over its own crossing and at most three above it: no more lie there where the configuration
+// keeps its rules.
 pub fn share_of(t: Tree, a: u8) -> u64
-    requires { ⌜ (treeKeeps t ≡ true) × (a < t .accs) ⌝ }
-    ensures { λ r. ⌜ r ≡ shareOf t a ⌝ }
+    ensures { λ r. ⌜ r ≡ shareWithin 3 t a ⌝ }
 {
     let x = accelerator_at(t, a);
     factor_at(t, x.interconnect, x.port) * share_above(t, 3, x.interconnect)

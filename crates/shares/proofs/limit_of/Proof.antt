@@ -2,8 +2,8 @@
 use mathlib.Core.Path.{ap}
 use borrow.Author.Needs.{needs}
 use Rattle.model.specs.declared.Accelerator.{Accelerator}
-use Rattle.bounds.proofs.share.limit_of.Statement.{statement}
-use Rattle.bounds.proofs.share.limit_of.Tie as tie
+use Rattle.shares.proofs.limit_of.Statement.{statement}
+use Rattle.shares.proofs.limit_of.Tie as tie
 
 returns : tie.Need-returns
 returns c =

@@ -8,15 +8,15 @@ use borrow.Fn.Kinds.{In}
 use borrow.Fn.PlainCycle.{Measures, is, falls, and}
 use Rattle.model.specs.declared.Interconnect.{Interconnect}
 use Rattle.model.specs.Tree.{above}
-use Rattle.bounds.specs.Bounds.{othersAt, shareAlong}
-use Rattle.bounds.proofs.Walks.{walk-none, walk-root, walk-step, walk-most, walk-room, walk-some}
-use Rattle.bounds.proofs.share.share_above.Reads as share-above
-use Rattle.bounds.proofs.share.share_above.Kinds as share-above-kinds
-use Rattle.bounds.proofs.share.+share_above.Lts-share_above as lts
+use Rattle.shares.specs.Shares.{othersAt, shareAlong}
+use Rattle.shares.proofs.Walks.{walk-none, walk-root, walk-step, walk-most, walk-room, walk-some}
+use Rattle.shares.proofs.share_above.Reads as share-above
+use Rattle.shares.proofs.share_above.Kinds as share-above-kinds
+use Rattle.shares.proofs.+share_above.Lts-share_above as lts
 use Rattle.model.proofs.access.interconnect_at.Reads as interconnect-at-reads
-use Rattle.bounds.proofs.share.factor_at.Reads as factor-at-reads
-use Rattle.bounds.proofs.share.+share_above.{statement}
-use Rattle.bounds.proofs.share.+share_above.Tie.{close}
+use Rattle.shares.proofs.factor_at.Reads as factor-at-reads
+use Rattle.shares.proofs.+share_above.{statement}
+use Rattle.shares.proofs.+share_above.Tie.{close}
 
 abbrev μ : Measures 0 share-above-kinds.ps ℕ
 μ κs a = a .1 .0

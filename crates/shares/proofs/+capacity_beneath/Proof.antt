@@ -12,13 +12,13 @@ use Rattle.model.specs.Fold.{sum as total}
 use Rattle.model.specs.Tree.{portOf, limitOf}
 use Rattle.model.specs.Beneath.{under, inside}
 use Rattle.model.proofs.Sums.{sum-none, inside-at-none, inside-step, add-port, eight-ports, sum-turn, sum-end, eight-at-most, room, byte-beneath}
-use Rattle.bounds.proofs.share.capacity_beneath.Reads as capacity-beneath
-use Rattle.bounds.proofs.share.capacity_beneath.Kinds as capacity-beneath-kinds
-use Rattle.bounds.proofs.share.+capacity_beneath.Lts-capacity_beneath as lts
-use Rattle.bounds.proofs.share.limit_of.Reads as limit-of-reads
+use Rattle.shares.proofs.capacity_beneath.Reads as capacity-beneath
+use Rattle.shares.proofs.capacity_beneath.Kinds as capacity-beneath-kinds
+use Rattle.shares.proofs.+capacity_beneath.Lts-capacity_beneath as lts
+use Rattle.shares.proofs.limit_of.Reads as limit-of-reads
 use Rattle.model.proofs.access.port_at.Reads as port-at-reads
-use Rattle.bounds.proofs.share.+capacity_beneath.{statement}
-use Rattle.bounds.proofs.share.+capacity_beneath.Tie.{close}
+use Rattle.shares.proofs.+capacity_beneath.{statement}
+use Rattle.shares.proofs.+capacity_beneath.Tie.{close}
 
 abbrev μ : Measures 0 capacity-beneath-kinds.ps ℕ
 μ κs a = a .1 .0

@@ -5,9 +5,9 @@ use native.Mathlib.Omega.{arith}
 use borrow.Author.Needs.{needs}
 use Rattle.model.specs.Fold.{sum as total}
 use Rattle.model.proofs.Sums.{sum-none, sum-turn, sum-end}
-use Rattle.bounds.specs.Bounds.{counted, othersAt}
-use Rattle.bounds.proofs.share.others_at.Statement.{statement}
-use Rattle.bounds.proofs.share.others_at.Tie as tie
+use Rattle.shares.specs.Shares.{counted, othersAt}
+use Rattle.shares.proofs.others_at.Statement.{statement}
+use Rattle.shares.proofs.others_at.Tie as tie
 
 abbrev Inv-loop : tie.InvT-loop
 Inv-loop t j p sum₀ q₀ sum q = (q ≤ 8) × (sum ≡ total q (counted t j p)) × (sum ≤ 255 * q)

@@ -1,0 +1,38 @@
+-- Capacity, D and share of document 01, "Bounds", sentence by sentence.
+--
+-- capacityOf t j p           the capacity of port p of interconnect j: "0 if empty, phi for an accelerator, for an
+--                            interconnect the sum over everything beneath it, down to the accelerators"
+-- counted t j p q            what port q of interconnect j counts for in D at port p: nothing if it is port p itself,
+--                            else "the smaller of g and the capacity"
+-- othersAt t j p             "D at an interconnect on an accelerator's path is the sum, over its other ports, .."
+-- shareAlong t xs            "the product of (1 + D) along" the crossings xs
+-- shareOf t a                "The share is the product of (1 + D) along the path"
+-- shareWithin n t a          the same product along the first crossing of the path and at most n above it: with n = 3 the
+--                            share, if the configuration keeps its rules (`share-within`), and 64 bits hold it on any other
+use Prim.Native.Nat.{ℕ, _+_, _*_, min}
+use mathlib.Core.List.{List, [], _∷_}
+use lib.Dec.{eqb}
+use Rattle.model.specs.declared.Tree.{Tree}
+use Rattle.model.specs.Fold.{pick, sum}
+use Rattle.model.specs.Tree.{Crossing, granularityOf, limitOf, homeOf, homePortOf, above, path}
+use Rattle.model.specs.Beneath.{weightUnder}
+
+abbrev pub capacityOf : Tree → ℕ → ℕ → ℕ
+capacityOf t j p = weightUnder t (limitOf t) j p
+
+abbrev pub counted : Tree → ℕ → ℕ → ℕ → ℕ
+counted t j p q = pick (eqb q p) 0 (min (granularityOf t j) (capacityOf t j q))
+
+unfoldable pub othersAt : Tree → ℕ → ℕ → ℕ
+othersAt t j p = sum 8 (counted t j p)
+
+unfoldable pub shareAlong : Tree → List Crossing → ℕ
+shareAlong t [] = 1
+shareAlong t (x ∷ xs) = (1 + othersAt t (x .interconnect) (x .port)) * shareAlong t xs
+
+abbrev pub shareOf : Tree → ℕ → ℕ
+shareOf t a = shareAlong t (path t a)
+
+abbrev pub shareWithin : ℕ → Tree → ℕ → ℕ
+shareWithin n t a =
+    shareAlong t (record { interconnect = homeOf t a; port = homePortOf t a } ∷ above n t (homeOf t a))
