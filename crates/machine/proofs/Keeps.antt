@@ -20,7 +20,7 @@ use Rattle.machine.specs.Machine.{freshState, admit, opens, tick, takeOn
 use Rattle.turns.proofs.Descent.{Turned, Unturned, Choice}
 
 -- a count stored at place a: what relates it to the count before, by one there and by nothing elsewhere
-stored : (Q : ℕ → ℕ → ℕ → Type 0) (l : List ℕ) (a x : ℕ) → a < length l → Q x (getD l a 0) 1 → ((y : ℕ) → Q y y 0)
+pub stored : (Q : ℕ → ℕ → ℕ → Type 0) (l : List ℕ) (a x : ℕ) → a < length l → Q x (getD l a 0) 1 → ((y : ℕ) → Q y y 0)
     → (b : ℕ) → Q (getD (set l a x) b 0) (getD l b 0) (only a b)
 stored Q l a x h own other b = elim (ℕ-discrete a b) [
   | yes e ↦ subst (λ i. Q (getD (set l a x) i 0) (getD l i 0) (only a i)) e

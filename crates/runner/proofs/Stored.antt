@@ -8,7 +8,6 @@ use native.Mathlib.Decide.{decLt, ℕ-discrete}
 use native.Mathlib.Omega.{arith}
 use lib.Dec.{eqb}
 use lib.ListN.{getD, length, set}
-use lib.Seq.{getD-set-same, getD-set-other}
 use borrow.Author.Tests.{eq-eqb, ne-eqb, eqb-true}
 use Rattle.model.specs.declared.Tree.{Tree}
 use Rattle.model.specs.declared.State.{State}
@@ -17,12 +16,12 @@ use Rattle.model.specs.Beneath.{inside}
 use Rattle.rules.specs.Rules.{keeps}
 use Rattle.model.proofs.Folds.{picked, passed, at-all, all-at}
 use Rattle.rules.proofs.Sound.{Sound, Kept}
-use Rattle.rules.proofs.Beneath.{only, only-same, only-other, root-zero}
+use Rattle.rules.proofs.Beneath.{root-zero}
 use Rattle.turns.specs.Turns.{who, after}
 use Rattle.machine.specs.Machine.{noneWaits, serve}
 use Rattle.machine.proofs.Cases.{sound-of, kept-of, zero-all}
 use Rattle.turns.proofs.Descent.{Choice, choice}
-use Rattle.machine.proofs.Keeps.{take-waiting}
+use Rattle.machine.proofs.Keeps.{stored, take-waiting}
 use Rattle.counts.specs.Wiring.{Lanes, Limits}
 use Rattle.counts.specs.Counts.{Counted, up, raised, opened, lowered, closed}
 use Rattle.counts.specs.Choice.{Chosen}
@@ -34,14 +33,6 @@ use Rattle.runner.specs.Arrays.{begins, servedFrom, Served}
 use Rattle.runner.proofs.Held.{held-kept}
 use Rattle.runner.proofs.Settled.{Settled, settled-one}
 use Rattle.runner.proofs.Together.{admitMany, room, none-admitted, together}
-
--- n more stand at place a of a list, and nothing else changes
-more-at : (l : List ℕ) (a n : ℕ) → a < length l → (b : ℕ) → getD (set l a (getD l a 0 + n)) b 0 ≡ getD l b 0 + n * only a b
-more-at l a n h b = elim (ℕ-discrete b a) [
-  | yes e ↦ subst (λ i. getD (set l a (getD l a 0 + n)) i 0 ≡ getD l i 0 + n * only a i) (sym e)
-      (getD-set-same l a _ 0 h ∙ ap (λ i. getD l a 0 + i) (omega (arith, ap (λ i. n * i) (only-same a a refl))))
-  | no d ↦ getD-set-other l a b _ 0 d ∙ omega (arith, ap (λ i. n * i) (only-other a b (λ e. d (sym e))))
-]
 
 -- w and m are the waiting and the admitted counts of state s, which keeps its rules, and c and v what waits under each port
 -- there and the live ports
@@ -96,7 +87,7 @@ module _ (t : Tree) (s : State) (l b y u w m h c v : List ℕ) (L : Limits t l b
           waiting = ap (λ (x : List ℕ). set x a (getD x a 0 + count)) (R .waiting);
           admitted = ap (λ (x : List ℕ). set x a (getD x a 0 + count)) (R .admitted);
           counts = counted-more t S u y N a la (waitingOf s) (waitingOf (admitMany s a count)) count z
-              (more-at (s .waiting) a count (omega (arith, K .waiting-size, known)))
+              (stored (λ new old k. new ≡ old + count * k) (s .waiting) a _ (omega (arith, K .waiting-size, known)) (omega arith) (λ i. omega arith))
               (weight-small t S (waitingOf (admitMany s a count)) (λ i li. omega (arith, kept-of t (admitMany s a count) kept-after .waiting i li, S .limit i li)))
               c v (R .counts);
         };

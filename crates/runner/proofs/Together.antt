@@ -34,9 +34,9 @@ admitMany s a n =
 set-as : (l : List ℕ) (i x : ℕ) → x ≡ getD l i 0 → set l i x ≡ l
 set-as l i x e = ap (set l i) e ∙ set-getD l i 0
 
--- what stands in a list is not past its end
-inside : (l : List ℕ) (i : ℕ) → 0 < getD l i 0 → i < length l
-inside l i h = elim (decLt i (length l)) [ yes b ↦ b | no d ↦ absurd (omega (arith, List·getD-eq-default l 0 {n = i} (omega arith))) ]
+-- where a list has more than 0, it does not end before
+not-past : (l : List ℕ) (i : ℕ) → 0 < getD l i 0 → i < length l
+not-past l i h = elim (decLt i (length l)) [ yes b ↦ b | no d ↦ absurd (omega (arith, List·getD-eq-default l 0 {n = i} (omega arith))) ]
 
 min-suc : (x y : ℕ) → min (suc x) (suc y) ≡ suc (min x y)
 min-suc x y = omega arith
@@ -96,7 +96,7 @@ module _ (t : Tree) (a : ℕ) (la : a < t .accs) where
           let S = sound-of t s e in
           let o = admitting s e w b in
           let lw : a < length (s .waiting) = omega (arith, K .waiting-size, S .most-accs) in
-          let lh : a < length h = inside h a (omega arith) in
+          let lh : a < length h = not-past h a (omega arith) in
           let lm : a < length (s .admitted) = omega (arith, K .admitted-size, S .most-accs) in
           held-more t s h a k (sym (ap (λ (x : Outcome). x .answer) o))
           ∙ ap (λ (r : State). offerHeld k t (offering r (release h a)) a) (sym (ap (λ (x : Outcome). x .state) o))
