@@ -19,7 +19,8 @@ use Rattle.model.proofs.Folds.{picked, passed, tests, joined, at-all}
 use Rattle.rules.proofs.Sound.{Sound, sound}
 use Rattle.placing.specs.declared.TreeRead.{TreeRead}
 use Rattle.lines.specs.Lines.{lineOf}
-use Rattle.placing.specs.Placing.{emptyTree, given, withBus, withAcc, complete, finish, treeLine}
+use Rattle.records.specs.Records.{emptyTree, withBus, withAcc}
+use Rattle.placing.specs.Placing.{given, complete, finish, treeLine}
 use Rattle.reader.specs.TreeFile.{onward, readLines, readTree}
 use Rattle.accepts.specs.TreeText.{numbers, busValues, accValues, busText, intText, accText, rows, treeLines, treeText}
 use mathlib.Core.Logic.{_↔_}

@@ -31,7 +31,8 @@ use Rattle.lines.specs.declared.Kind.{Kind}
 use Rattle.lines.specs.declared.Kind.the-variants.{AccLine}
 use Rattle.lines.specs.declared.Line.{Line}
 use Rattle.lines.specs.Lines.{lineOf, inTree, shaped, limitsKept}
-use Rattle.placing.specs.Placing.{emptyTree, refusedAt, given, carrying, accOf, withAcc, accLine, recordLine, treeLine}
+use Rattle.records.specs.Records.{emptyTree, carrying, accOf, withAcc}
+use Rattle.placing.specs.Placing.{refusedAt, given, accLine, recordLine, treeLine}
 use Rattle.reader.specs.TreeFile.{onward, readLines, readTree}
 use Rattle.lines.proofs.Limits.{least}
 use Rattle.placing.proofs.Tests.{acc-given, line-record}

@@ -23,7 +23,8 @@ use Rattle.model.proofs.Folds.{picked, passed, tests, joined}
 use Rattle.rules.proofs.Sound.{Sound, sound, level-step}
 use Rattle.lines.specs.declared.Kind.the-variants.{BusLine, IntLine, AccLine}
 use Rattle.lines.specs.Lines.{limitsKept, shaped}
-use Rattle.placing.specs.Placing.{emptyTree, given, withBus, busLine, withRoot, withChild, withAcc, intInOrder, treeLine}
+use Rattle.records.specs.Records.{emptyTree, withBus, withRoot, withChild, withAcc}
+use Rattle.placing.specs.Placing.{given, busLine, intInOrder, treeLine}
 use Rattle.accepts.specs.TreeText.{busValues}
 use Rattle.placing.proofs.Tests.{line-record, int-root, int-child, child-given, acc-given}
 use Rattle.accepts.proofs.Kept.{Partial, zero-one, partial-empty, level-same, new-here, root-size, root-ports, child-new, child-parent, child-parent-port, child-granularity, child-port-new, child-port-at, child-port-other, acc-new, acc-old, acc-at, stored-apart, stored-parent, stored-parent-port, stored-granularity, home-size, not-acc, not-int, is-empty, partial-bus, partial-root, partial-child, partial-acc}

@@ -1,14 +1,12 @@
 -- The answer of each chain of tests at each return, over any values: the same order of tests in code and definition.
-use Prim.Native.Nat.{ℕ, max, _+_, _≤_, _<_}
+use Prim.Native.Nat.{ℕ, _≤_, _<_}
 use mathlib.Core.Bool.{true, false, _&&_}
 use mathlib.Core.List.{List}
-use mathlib.Core.Path.{_≡_, _∙_, ap, ap₂}
+use mathlib.Core.Path.{_≡_, _∙_, ap}
 use lib.Dec.{ltb, eqb}
-use lib.ListN.{getD, set}
+use lib.ListN.{getD}
 use borrow.Author.Tests.{lt-ltb, le-ltb, le-leb, lt-leb, eq-eqb, ne-eqb, eqb-true}
 use Rattle.model.specs.declared.Tree.{Tree}
-use Rattle.model.specs.declared.Accelerator.{Accelerator}
-use Rattle.model.specs.declared.Port.the-variants.{Acc}
 use Rattle.model.specs.declared.Refusal.the-variants.{Shape, Limit, Order, Taken, Level}
 use Rattle.model.specs.Tree.{portOf, limitOf, levelOf}
 use Rattle.rules.specs.Rules.{isEmpty}
@@ -17,7 +15,8 @@ use Rattle.lines.specs.declared.Kind.{Kind}
 use Rattle.lines.specs.declared.Line.{Line}
 use Rattle.lines.specs.Lines.{limitsKept, valueAt, shaped, inTree}
 use Rattle.lines.proofs.Limits.{yes-not, no-not}
-use Rattle.placing.specs.Placing.{refusedAt, given, intInOrder, rootRule, withRoot, withPort, accOf, withChild, childLine, intLine, withAcc, accLine, recordLine, treeLine}
+use Rattle.records.specs.Records.{withRoot, withChild, withAcc}
+use Rattle.placing.specs.Placing.{refusedAt, given, intInOrder, rootRule, childLine, intLine, accLine, recordLine, treeLine}
 
 module _ (n : ℕ) (t : Tree) (v : List ℕ) where
   pub child-taken : isEmpty (portOf t (getD v 1 0) (getD v 2 0)) ≡ false → childLine n t v ≡ refusedAt Taken n
@@ -76,9 +75,3 @@ module _ (n : ℕ) (t : Tree) (l : Line) where
   pub line-record : (k : Kind) → l .kind ≡ k → inTree (l .kind) && shaped l ≡ true → limitsKept (l .kind) (l .values) ≡ true → treeLine n t l ≡ recordLine k n t l
   unfolding treeLine
   line-record k q e f = passed _ _ _ (no-not _ e) ∙ passed _ _ _ (no-not _ f) ∙ ap (λ (x : Kind). recordLine x n t l) q
-
--- an accelerator is stored in its port, its record and the count
-pub acc-stored : (t : Tree) (v : List ℕ) (w : Tree) (x : Accelerator) (k : ℕ) → w ≡ withPort t (getD v 1 0) (getD v 2 0) (Acc (getD v 0 0)) → x ≡ accOf v → k ≡ max (t .accs) (getD v 0 0 + 1) → record { bus = w .bus; interconnects = w .interconnects; accelerators = set (w .accelerators) (getD v 0 0) x; ints = w .ints; accs = k } ≡ withAcc t v
-acc-stored t v w x k e f g =
-    ap (λ (w : Tree). record { bus = w .bus; interconnects = w .interconnects; accelerators = set (w .accelerators) (getD v 0 0) x; ints = w .ints; accs = k }) e
-    ∙ ap₂ (λ (x : Accelerator) (k : ℕ). record { bus = t .bus; interconnects = withPort t (getD v 1 0) (getD v 2 0) (Acc (getD v 0 0)) .interconnects; accelerators = set (t .accelerators) (getD v 0 0) x; ints = t .ints; accs = k }) f g

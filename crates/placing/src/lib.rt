@@ -1,76 +1,35 @@
 // A line of a tree file placed in what is read so far, which is held as a tree: before the bus line its window is 0, and an
-// accelerator whose line is not read yet has phi 0.
+// accelerator whose line is not read yet has phi 0. What the line's fields make of the tree is in `records`.
 use lines::FileAnswer;
 use lines::Kind;
 use lines::Line;
 use lines::limits_kept;
 use lines::shape_kept;
-use model::Accelerator;
-use model::Bus;
-use model::Interconnect;
 use model::Port;
-use model::PortCell;
 use model::Refusal;
 use model::Tree;
 use model::access::accelerator_at;
 use model::access::level_of;
 use model::access::port_at;
+use records::empty_tree;
+use records::store_acc;
+use records::store_bus;
+use records::store_child;
+use records::store_root;
 ghost use mathlib.Core.Path.{_≡_};
 ghost use mathlib.Core.Bool.{true};
-ghost use Prim.Native.Nat.{_<_, max};
 ghost use lib.Dec.{ltb};
 ghost use Rattle.model.specs.Fold.{all};
 ghost use Rattle.rules.specs.Rules.{isEmpty};
 ghost use Rattle.model.specs.Tree.{portOf, limitOf};
 ghost use Rattle.lines.specs.Lines.{limitsKept, inTree};
-ghost use Rattle.placing.specs.Placing.{emptyTree, refusedAt, given, busOf, busLine, intInOrder, rootRule, withPort, withInterconnect, childLine, intLine, accOf, withAcc, accLine, finish, treeLine};
+ghost use Rattle.records.specs.Records.{hasRoom};
+ghost use Rattle.placing.specs.Placing.{refusedAt, given, busLine, intInOrder, rootRule, childLine, intLine, accLine, finish, treeLine};
 
 // A tree file's answer, with the tree that it gives. On a refusal the tree is empty.
 pub struct TreeRead {
     pub answer: FileAnswer,
     pub tree: Tree,
-}
-
-// The tree before the first line.
-pub fn empty_tree() -> Tree
-    ensures { λ r. ⌜ r ≡ emptyTree ⌝ }
-{
-    let bus = Bus {
-        window: 0,
-        ta: 0,
-        da: 0,
-        dd: 0,
-        db: 0,
-        pr: 0,
-        pw: 0,
-        td: 0,
-        tb: 0,
-        burst: 0,
-    };
-    let ports = [PortCell { port: Port::Empty }; 8];
-    let interconnect = Interconnect {
-        parent: 0,
-        port: 0,
-        granularity: 0,
-        ports: ports,
-    };
-    let accelerator = Accelerator {
-        interconnect: 0,
-        port: 0,
-        phi: 0,
-        budget: 0,
-        reads: 0,
-        writes: 0,
-        computing: 0,
-        period: 0,
-    };
-    Tree {
-        bus: bus,
-        interconnects: [interconnect; 15],
-        accelerators: [accelerator; 32],
-        ints: 0,
-        accs: 0,
-    }
 }
 
 // Refused at line n, with the empty tree.
@@ -93,24 +52,6 @@ fn accepted(t: Tree) -> TreeRead
     }
 }
 
-fn bus_of(v: [u64; 10]) -> Bus
-    requires { ⌜ limitsKept Kind.BusLine v ≡ true ⌝ }
-    ensures { λ r. ⌜ r ≡ busOf v ⌝ }
-{
-    Bus {
-        window: v[0] as u16,
-        ta: v[1] as u8,
-        da: v[2] as u8,
-        dd: v[3] as u8,
-        db: v[4] as u8,
-        pr: v[5] as u16,
-        pw: v[6] as u16,
-        td: v[7] as u8,
-        tb: v[8] as u8,
-        burst: v[9] as u16,
-    }
-}
-
 fn bus_line(n: u32, t: Tree, v: [u64; 10]) -> TreeRead
     requires { ⌜ limitsKept Kind.BusLine v ≡ true ⌝ }
     ensures { λ r. ⌜ r ≡ busLine n t v ⌝ }
@@ -118,10 +59,7 @@ fn bus_line(n: u32, t: Tree, v: [u64; 10]) -> TreeRead
     if 0 < t.bus.window {
         return refused(Refusal::Order, n);
     }
-    let b = bus_of(v);
-    let mut r = t;
-    r.bus = b;
-    accepted(r)
+    accepted(store_bus(t, v))
 }
 
 // Parent and port of the root are "-", those of any other interconnect numbers, the parent the smaller one.
@@ -151,41 +89,10 @@ fn is_free(t: Tree, j: u8, p: u8) -> bool
     }
 }
 
-fn with_port(t: Tree, j: u8, p: u8, x: Port) -> Tree
-    requires { ⌜ (j < 15) × (p < 8) ⌝ }
-    ensures { λ r. ⌜ r ≡ withPort t j p x ⌝ }
-{
-    let i = j as usize;
-    let q = p as usize;
-    let mut r = t;
-    let mut c = t.interconnects[i];
-    c.ports[q] = PortCell { port: x };
-    r.interconnects[i] = c;
-    r
-}
-
-fn with_interconnect(t: Tree, j: u8, parent: u8, port: u8, g: u8) -> Tree
-    requires { ⌜ (j < 15) × (t .ints < 255) ⌝ }
-    ensures { λ r. ⌜ r ≡ withInterconnect t j parent port g ⌝ }
-{
-    let i = j as usize;
-    let ports = [PortCell { port: Port::Empty }; 8];
-    let mut r = t;
-    r.interconnects[i] = Interconnect {
-        parent: parent,
-        port: port,
-        granularity: g,
-        ports: ports,
-    };
-    r.ints = t.ints + 1;
-    r
-}
-
 fn child_line(n: u32, t: Tree, v: [u64; 10]) -> TreeRead
-    requires { ⌜ (limitsKept Kind.IntLine v ≡ true) × (t .ints < 255) ⌝ }
+    requires { ⌜ hasRoom t v ≡ true ⌝ }
     ensures { λ r. ⌜ r ≡ childLine n t v ⌝ }
 {
-    let j = v[0] as u8;
     let parent = v[1] as u8;
     let port = v[2] as u8;
     if !is_free(t, parent, port) {
@@ -194,8 +101,7 @@ fn child_line(n: u32, t: Tree, v: [u64; 10]) -> TreeRead
     if 4 <= level_of(t, parent) {
         return refused(Refusal::Level, n);
     }
-    let above = with_port(t, parent, port, Port::Int(j));
-    accepted(with_interconnect(above, j, parent, port, v[3] as u8))
+    accepted(store_child(t, v))
 }
 
 fn int_line(n: u32, t: Tree, l: Line) -> TreeRead
@@ -207,47 +113,9 @@ fn int_line(n: u32, t: Tree, l: Line) -> TreeRead
         return refused(Refusal::Order, n);
     }
     if v[0] == 0 {
-        return accepted(with_interconnect(t, 0, 0, 0, v[3] as u8));
+        return accepted(store_root(t, v));
     }
     child_line(n, t, v)
-}
-
-fn acc_of(v: [u64; 10]) -> Accelerator
-    requires { ⌜ limitsKept Kind.AccLine v ≡ true ⌝ }
-    ensures { λ r. ⌜ r ≡ accOf v ⌝ }
-{
-    Accelerator {
-        interconnect: v[1] as u8,
-        port: v[2] as u8,
-        phi: v[3] as u8,
-        budget: v[4] as u16,
-        reads: v[5] as u16,
-        writes: v[6] as u16,
-        computing: v[7] as u32,
-        period: v[8] as u32,
-    }
-}
-
-fn larger(a: u8, b: u8) -> u8
-    ensures { λ r. ⌜ r ≡ max a b ⌝ }
-{
-    if a < b {
-        return b;
-    }
-    a
-}
-
-fn with_acc(t: Tree, v: [u64; 10]) -> Tree
-    requires { ⌜ limitsKept Kind.AccLine v ≡ true ⌝ }
-    ensures { λ r. ⌜ r ≡ withAcc t v ⌝ }
-{
-    let a = v[0] as u8;
-    let i = a as usize;
-    let x = acc_of(v);
-    let mut r = with_port(t, v[1] as u8, v[2] as u8, Port::Acc(a));
-    r.accelerators[i] = x;
-    r.accs = larger(t.accs, a + 1);
-    r
 }
 
 fn acc_line(n: u32, t: Tree, v: [u64; 10]) -> TreeRead
@@ -267,7 +135,7 @@ fn acc_line(n: u32, t: Tree, v: [u64; 10]) -> TreeRead
     if !is_free(t, j, p) {
         return refused(Refusal::Taken, n);
     }
-    accepted(with_acc(t, v))
+    accepted(store_acc(t, v))
 }
 
 // Each accelerator number below the highest was read.

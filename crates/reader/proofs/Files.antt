@@ -16,7 +16,8 @@ use Rattle.lines.specs.declared.FileAnswer.the-variants.{Accepted, Refused, Bro
 use Rattle.placing.specs.declared.TreeRead.{TreeRead}
 use Rattle.lines.specs.Lines.{lineOf}
 use Rattle.lines.proofs.Limits.{nonempty}
-use Rattle.placing.specs.Placing.{emptyTree, refusedAt, finish, treeLine}
+use Rattle.records.specs.Records.{emptyTree}
+use Rattle.placing.specs.Placing.{refusedAt, finish, treeLine}
 use Rattle.reader.specs.TreeFile.{onward, readLines, readTree}
 
 pub tree-size : (s : List ℕ) → 65536 < length s → readTree s ≡ refusedAt Limit 0

@@ -15,7 +15,8 @@ use Rattle.lines.specs.declared.FileAnswer.{FileAnswer}
 use Rattle.lines.specs.declared.FileAnswer.the-variants.{Accepted, Refused, Broken}
 use Rattle.lines.specs.Lines.{lineOf}
 use Rattle.placing.specs.declared.TreeRead.{TreeRead}
-use Rattle.placing.specs.Placing.{emptyTree, refusedAt, finish, treeLine}
+use Rattle.records.specs.Records.{emptyTree}
+use Rattle.placing.specs.Placing.{refusedAt, finish, treeLine}
 
 -- after a line that is accepted reading goes on with `next`; after a refusal it ends
 abbrev pub onward : FileAnswer → TreeRead → TreeRead → TreeRead

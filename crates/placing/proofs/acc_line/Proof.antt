@@ -7,8 +7,9 @@ use lib.Dec.{lit<}
 use borrow.Author.Needs.{needs}
 use Rattle.lines.specs.declared.Kind.the-variants.{AccLine}
 use Rattle.model.specs.declared.Accelerator.{Accelerator}
-use Rattle.placing.specs.Placing.{given}
 use Rattle.lines.proofs.Limits.{most}
+use Rattle.records.proofs.Stored.{acc-stored}
+use Rattle.placing.specs.Placing.{given}
 use Rattle.placing.proofs.Tests.{acc-unknown, acc-twice, acc-taken, acc-given}
 use Rattle.placing.proofs.acc_line.Statement.{statement}
 use Rattle.placing.proofs.acc_line.Tie as tie
@@ -35,7 +36,8 @@ returns-3 c =
 
 returns-4 : tie.Need-returns-4
 returns-4 c =
-    c .accepted .ensures ∙ ap given (c .before .with-acc .ensures) ∙ sym (acc-given _ _ _ (c .before .before .before .before .before .before .before .if1 .left) (subst (λ (x : Accelerator). x .phi ≤ 0) (c .before .before .before .before .before .before .accelerator-at .ensures) (c .before .before .before .before .if2 .left)) (sym (c .before .before .before .is-free .ensures) ∙ not-false _ (c .before .before .if3 .left)))
+    let s = c .before .before .before .before .before .before .before .before .before in
+    c .accepted .ensures ∙ ap given (c .before .store-acc .ensures ∙ acc-stored (s .args .t) (s .args .t3) (s .pre)) ∙ sym (acc-given _ _ _ (c .before .before .before .before .before .before .before .if1 .left) (subst (λ (x : Accelerator). x .phi ≤ 0) (c .before .before .before .before .before .before .accelerator-at .ensures) (c .before .before .before .before .if2 .left)) (sym (c .before .before .before .is-free .ensures) ∙ not-false _ (c .before .before .if3 .left)))
 
 pub acc-line-spec : {M : Type 1} → statement M
 acc-line-spec = tie.close (tie.spec (λ c. search needs) cast-a (λ c. search needs) cast-j (λ c. search needs) cast-p (λ c κs. search needs) returns (λ c κs. search needs) (λ c κs. search needs) returns-2 (λ c κs. search needs) (λ c κs. search needs) returns-3 (λ c κs. search needs) (λ c κs. search needs) returns-4)

@@ -2,9 +2,9 @@
 use mathlib.Core.Path.{ap, sym, _∙_}
 use borrow.Author.Tests.{le-ltb, lt-ltb}
 use borrow.Author.Needs.{needs}
-use Rattle.model.specs.declared.Bus.{Bus}
-use Rattle.placing.specs.Placing.{busLine, withBus, given}
 use Rattle.model.proofs.Folds.{picked, passed}
+use Rattle.records.proofs.Stored.{bus-stored}
+use Rattle.placing.specs.Placing.{busLine, given}
 use Rattle.placing.proofs.bus_line.Statement.{statement}
 use Rattle.placing.proofs.bus_line.Tie as tie
 
@@ -15,7 +15,8 @@ returns c = c .refused .ensures ∙ sym (picked _ _ _ (lt-ltb _ _ (c .before .if
 returns-2 : tie.Need-returns-2
 unfolding busLine
 returns-2 c =
-    c .accepted .ensures ∙ ap (λ (b : Bus). given (withBus (c .before .before .before .before .args .t) b)) (c .before .bus-of .ensures) ∙ sym (passed _ _ _ (le-ltb _ _ (c .before .before .if1 .left)))
+    let s = c .before .before .before .before in
+    c .accepted .ensures ∙ ap given (c .before .store-bus .ensures ∙ bus-stored (s .args .t) (s .args .v) (s .pre)) ∙ sym (passed _ _ _ (le-ltb _ _ (c .before .before .if1 .left)))
 
 pub bus-line-spec : {M : Type 1} → statement M
 bus-line-spec = tie.close (tie.spec (λ c κs. search needs) returns (λ c κs. search needs) (λ c κs. search needs) returns-2)

@@ -4,10 +4,10 @@ use lib.ListN.{set}
 use borrow.Author.Needs.{needs}
 use Rattle.model.specs.declared.Interconnect.{Interconnect}
 use Rattle.model.specs.Tree.{noInterconnect}
-use Rattle.placing.specs.Placing.{carrying}
+use Rattle.records.specs.Records.{carrying}
 use Rattle.model.proofs.Lists.{any-default, long}
-use Rattle.placing.proofs.with_port.Statement.{statement}
-use Rattle.placing.proofs.with_port.Tie as tie
+use Rattle.records.proofs.with_port.Statement.{statement}
+use Rattle.records.proofs.with_port.Tie as tie
 
 returns : tie.Need-returns
 returns c =

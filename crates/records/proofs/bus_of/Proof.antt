@@ -4,8 +4,8 @@ use lib.Dec.{lit<}
 use borrow.Author.Needs.{needs}
 use Rattle.lines.specs.declared.Kind.the-variants.{BusLine}
 use Rattle.lines.proofs.Limits.{most}
-use Rattle.placing.proofs.bus_of.Statement.{statement}
-use Rattle.placing.proofs.bus_of.Tie as tie
+use Rattle.records.proofs.bus_of.Statement.{statement}
+use Rattle.records.proofs.bus_of.Tie as tie
 
 cast-t6 : tie.Need-cast-t6
 cast-t6 c = omega (arith, most BusLine (c .args .t1) (c .pre) 0 (lit< tt))
