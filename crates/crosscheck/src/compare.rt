@@ -1,17 +1,4 @@
 // The library and the second implementation, side by side on one input.
-use crate::book::NOTHING;
-use crate::book::acc_row;
-use crate::book::accs;
-use crate::book::carried;
-use crate::book::cell;
-use crate::book::int_row;
-use crate::book::ints;
-use crate::queues::Ended;
-use crate::queues::run_end;
-use crate::queues::run_log;
-use crate::scan::Said;
-use crate::shares::Row;
-use crate::shares::figures;
 use bounds::BoundAnswer;
 use bounds::Figures;
 use lines::FileAnswer;
@@ -26,6 +13,20 @@ use model::access::accelerator_at;
 use model::access::interconnect_at;
 use model::access::port_at;
 use runner::RunAnswer;
+use second::Said;
+use second::book::NOTHING;
+use second::book::acc_row;
+use second::book::accs;
+use second::book::carried;
+use second::book::cell;
+use second::book::int_row;
+use second::book::ints;
+use second::queues::Ended;
+use second::queues::refused;
+use second::queues::run_end;
+use second::queues::run_trace;
+use second::shares::Row;
+use second::shares::figures;
 
 // Two buffers stand in one array: the library's at its start, and ours from here on.
 pub const OURS: usize = 65537;
@@ -36,13 +37,17 @@ pub fn same_said(answer: FileAnswer, s: Said) -> bool {
     (number == s.number) & (line == s.line)
 }
 
-fn same_bus(b: Bus, d: &[usize; 16384]) -> bool {
-    let window = b.window as usize == cell(d, 0, 0);
+fn same_delays(b: Bus, d: &[usize; 16384]) -> bool {
     let there = (b.ta as usize == cell(d, 0, 1)) & (b.da as usize == cell(d, 0, 2));
     let back = (b.dd as usize == cell(d, 0, 3)) & (b.db as usize == cell(d, 0, 4));
-    let memory = (b.pr as usize == cell(d, 0, 5)) & (b.pw as usize == cell(d, 0, 6));
+    there & back & (b.pr as usize == cell(d, 0, 5))
+}
+
+fn same_bus(b: Bus, d: &[usize; 16384]) -> bool {
+    let window = b.window as usize == cell(d, 0, 0);
     let data = (b.td as usize == cell(d, 0, 7)) & (b.tb as usize == cell(d, 0, 8));
-    window & there & back & memory & data & (b.burst as usize == cell(d, 0, 9))
+    let burst = (b.pw as usize == cell(d, 0, 6)) & (b.burst as usize == cell(d, 0, 9));
+    same_delays(b, d) & window & data & burst
 }
 
 // What a port of the library's tree carries, as the rows say it.
@@ -150,15 +155,6 @@ pub fn same_bounds(t: Tree, d: &[usize; 16384], wrong: usize) -> bool {
     same
 }
 
-fn refused(number: usize, line: usize) -> Ended {
-    Ended {
-        number: number,
-        line: line,
-        done: false,
-        slots: 0,
-    }
-}
-
 // The library's run, its answer in the second implementation's terms.
 fn run_library(t: Tree, trace: &[u8], out: &mut [u8]) -> Ended {
     match runner::run(t, trace, out) {
@@ -177,7 +173,7 @@ pub fn library_run(t: Tree, trace: &[u8], out: &mut [u8], n: usize) -> Ended {
     run_library(t, trace, &mut out[0..n])
 }
 
-// The second run, over n bytes from OURS on: the buffer's size comes before the trace.
+// The second run, over n bytes from OURS on.
 pub fn second_run(
     trace: Said,
     d: &mut [usize; 16384],
@@ -185,17 +181,14 @@ pub fn second_run(
     n: usize,
     wrong: usize,
 ) -> Ended {
-    if 65536 < n {
-        return refused(2, 0);
-    }
-    if trace.number != 0 {
-        return refused(trace.number, trace.line);
+    if 65537 < n {
+        return refused(0, 0);
     }
     let to = n + OURS;
     if out.len() < to {
         return refused(0, 0);
     }
-    run_log(d, &mut out[OURS..to], wrong)
+    run_trace(trace, d, &mut out[OURS..to], wrong)
 }
 
 pub fn same_end(x: Ended, y: Ended) -> bool {

@@ -1,8 +1,4 @@
 // One input at a time: both implementations are run on it, and what is found is counted.
-use crate::book::INTS;
-use crate::book::cell;
-use crate::book::level;
-use crate::book::read_book;
 use crate::compare::OURS;
 use crate::compare::fill;
 use crate::compare::library_run;
@@ -12,77 +8,41 @@ use crate::compare::same_end;
 use crate::compare::same_said;
 use crate::compare::same_tree;
 use crate::compare::second_run;
-use crate::memory::add;
-use crate::memory::get;
-use crate::queues::Ended;
-use crate::requests::read_log;
-use crate::scan::FALLING_FIRST;
-use crate::scan::NESTED;
-use crate::scan::NO_WRONG_RULE;
-use crate::scan::ORDER_FIRST;
-use crate::scan::OWN_PORT;
-use crate::scan::Said;
-use crate::scan::WHOLE_RUN;
+use crate::results::BOUNDS;
+use crate::results::BUFFERS;
+use crate::results::DIFFERENCES;
+use crate::results::DONE;
+use crate::results::LEVELS;
+use crate::results::REFUSED;
+use crate::results::SLOTS;
+use crate::results::STOPPED;
+use crate::results::TRACES;
+use crate::results::TREES;
+use crate::results::WINDOWS;
+use crate::results::WRONG;
 use model::Tree;
 use placing::TreeRead;
 use reader::read_tree;
+use second::FALLING_FIRST;
+use second::NESTED;
+use second::NO_WRONG_RULE;
+use second::ORDER_FIRST;
+use second::OWN_PORT;
+use second::Said;
+use second::WHOLE_RUN;
+use second::book::cell;
+use second::book::deepest;
+use second::book::read_book;
+use second::queues::Ended;
+use second::requests::read_log;
+use store::add;
 use trace::read_trace;
-
-// The counts. Trees by the number of their answer, 0 where accepted.
-pub const TREES: usize = 3072;
-
-// Traces by the number of their answer.
-pub const TRACES: usize = 3088;
-
-// Accepted trees by their deepest level.
-pub const LEVELS: usize = 3104;
-
-// Bounds, one past the last accelerator of each tree among them.
-pub const BOUNDS: usize = 3112;
-
-// Runs done, stopped and refused.
-pub const DONE: usize = 3113;
-
-pub const STOPPED: usize = 3114;
-
-pub const REFUSED: usize = 3115;
-
-// Slots and windows of the runs, and bytes lent to them.
-pub const SLOTS: usize = 3116;
-
-pub const WINDOWS: usize = 3117;
-
-pub const BUFFERS: usize = 3118;
-
-// Files of the edge list and of case 11.
-pub const EDGES: usize = 3119;
-
-pub const CASE11: usize = 3120;
-
-// For each wrong rule the inputs on which it is seen.
-pub const WRONG: usize = 3136;
-
-// The differences between the library and the second implementation.
-pub const DIFFERENCES: usize = 3152;
 
 // Counts a difference under `part`, at i.
 fn note(d: &mut [usize; 16384], part: usize, i: usize, same: bool) {
     if !same {
         add(d, part, i, 1);
     }
-}
-
-fn deepest(d: &[usize; 16384]) -> usize {
-    let mut most = 0;
-    for i in 0..15 {
-        if i < get(d, INTS, 0) {
-            let here = level(d, i);
-            if most < here {
-                most = here;
-            }
-        }
-    }
-    most
 }
 
 // An accepted tree: its entries and its bounds.

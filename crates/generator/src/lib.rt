@@ -1,0 +1,50 @@
+// The files that both implementations are run on: made at random from a fixed seed, damaged, at a limit, or listed.
+//
+// Test code, without contracts: it is proved that each function is safe and ends.
+mod damage;
+mod generate;
+pub mod limits;
+pub mod listed;
+pub mod pages;
+
+use crate::damage::copy_or_damage;
+use crate::generate::LENGTH;
+use crate::generate::SEED;
+use crate::generate::below;
+use crate::generate::make_trace;
+use crate::generate::make_tree;
+use store::get;
+use store::put;
+
+// The first random number.
+pub fn start(d: &mut [usize; 16384]) {
+    put(d, SEED, 0, 88172645463325252);
+}
+
+// A tree file, in the second half of w; one in four is damaged.
+pub fn tree_file(w: &mut [u8; 16384], d: &mut [usize; 16384]) {
+    make_tree(w, d);
+    copy_or_damage(w, d);
+}
+
+// A trace file, in the second half of w, for a tree with so many accelerators; one in four is damaged.
+pub fn trace_file(w: &mut [u8; 16384], d: &mut [usize; 16384], accs: usize) {
+    make_trace(w, d, accs);
+    copy_or_damage(w, d);
+}
+
+// The file in the second half of w.
+pub fn made<'a>(w: &'a [u8; 16384], d: &[usize; 16384]) -> &'a [u8] {
+    let to = 8192 + get(d, LENGTH, 0) % 8193;
+    let all = &w[..];
+    &all[8192..to]
+}
+
+// The size of a buffer, 0 to 500 bytes.
+pub fn buffer_size(d: &mut [usize; 16384]) -> usize {
+    let size = below(d, 501);
+    if below(d, 4) == 0 {
+        return below(d, 20);
+    }
+    size
+}

@@ -1,0 +1,282 @@
+// The second reader of a tree. The tree is its lines: row r of the store holds the numbers of the file's line r + 1, ten
+// to a row. Whatever a tree says is looked up by going through the rows.
+use crate::ORDER_FIRST;
+use crate::Said;
+use crate::scan::ACC;
+use crate::scan::BUS;
+use crate::scan::INT;
+use crate::scan::Scan;
+use crate::scan::answer;
+use crate::scan::any_dash;
+use crate::scan::begun;
+use crate::scan::close_field;
+use crate::scan::field;
+use crate::scan::field_byte;
+use crate::scan::is_dash;
+use crate::scan::line_start;
+use crate::scan::within;
+use store::add;
+use store::clear;
+use store::get;
+use store::put;
+
+// How many rows there are, how many of them are int lines and acc lines, and for each accelerator its row.
+const ROWS: usize = 480;
+
+const INTS: usize = 481;
+
+const ACCS: usize = 482;
+
+const ROW_OF: usize = 512;
+
+// What a port carries: an accelerator's number, 32 + an interconnect's number, or nothing.
+pub const NOTHING: usize = 255;
+
+// The number in a column of a row.
+pub fn cell(d: &[usize; 16384], row: usize, column: usize) -> usize {
+    get(d, (row % 48) * 10, column)
+}
+
+fn rows(d: &[usize; 16384]) -> usize {
+    get(d, ROWS, 0)
+}
+
+pub fn ints(d: &[usize; 16384]) -> usize {
+    get(d, INTS, 0)
+}
+
+pub fn accs(d: &[usize; 16384]) -> usize {
+    get(d, ACCS, 0)
+}
+
+// The row of an interconnect: int lines come right after the bus line, in order.
+pub fn int_row(i: usize) -> usize {
+    std::num::wrapping_add_usize(i, 1)
+}
+
+pub fn acc_row(d: &[usize; 16384], a: usize) -> usize {
+    get(d, ROW_OF, a % 32)
+}
+
+// What the port p of interconnect i carries.
+pub fn carried(d: &[usize; 16384], i: usize, p: usize) -> usize {
+    let mut found = NOTHING;
+    for row in 1..48 {
+        if row < rows(d) {
+            if (cell(d, row, 1) == i) & (cell(d, row, 2) == p) {
+                found = cell(d, row, 0);
+                if row <= ints(d) {
+                    found = std::num::wrapping_add_usize(found, 32);
+                }
+            }
+        }
+    }
+    found
+}
+
+// The level of an interconnect: one more than the steps from it up to the root.
+pub(crate) fn level(d: &[usize; 16384], i: usize) -> usize {
+    let mut here = i;
+    let mut steps = 1;
+    for _ in 0..14usize {
+        if here != 0 {
+            here = cell(d, int_row(here), 1);
+            steps = std::num::wrapping_add_usize(steps, 1);
+        }
+    }
+    steps
+}
+
+// The deepest level of the tree in the rows.
+pub fn deepest(d: &[usize; 16384]) -> usize {
+    let mut most = 0;
+    for i in 0..15 {
+        if i < ints(d) {
+            let here = level(d, i);
+            if most < here {
+                most = here;
+            }
+        }
+    }
+    most
+}
+
+fn shaped(s: Scan, d: &[usize; 16384]) -> bool {
+    if s.bad {
+        return false;
+    }
+    let name = s.name;
+    if name == BUS {
+        return (s.fields == 11) & !any_dash(d, 10);
+    }
+    if name == INT {
+        return (s.fields == 5) & !is_dash(d, 1) & !is_dash(d, 4);
+    }
+    if name == ACC {
+        return (s.fields == 10) & !any_dash(d, 9);
+    }
+    false
+}
+
+fn bus_limits(d: &[usize; 16384]) -> bool {
+    let window = within(d, 1, 1, 65535);
+    let address = within(d, 2, 1, 255) & within(d, 3, 0, 255);
+    let back = within(d, 4, 0, 255) & within(d, 5, 0, 255);
+    let memory = within(d, 6, 0, 4095) & within(d, 7, 0, 4095);
+    let data = within(d, 8, 1, 255) & within(d, 9, 1, 255);
+    window & address & back & memory & data & within(d, 10, 1, 256)
+}
+
+fn int_limits(d: &[usize; 16384]) -> bool {
+    let parent = is_dash(d, 2) | within(d, 2, 0, 14);
+    let port = is_dash(d, 3) | within(d, 3, 0, 7);
+    within(d, 1, 0, 14) & parent & port & within(d, 4, 1, 16)
+}
+
+fn acc_limits(d: &[usize; 16384]) -> bool {
+    let place = within(d, 1, 0, 31) & within(d, 2, 0, 14) & within(d, 3, 0, 7);
+    let limits = within(d, 4, 1, 16) & within(d, 5, 1, 1024);
+    let job = within(d, 6, 0, 65535) & within(d, 7, 0, 65535);
+    place & limits & job & within(d, 8, 0, 4294967295) & within(d, 9, 1, 4294967295)
+}
+
+fn limits(name: usize, d: &[usize; 16384]) -> bool {
+    if name == BUS {
+        return bus_limits(d);
+    }
+    if name == INT {
+        return int_limits(d);
+    }
+    acc_limits(d)
+}
+
+fn int_in_order(d: &[usize; 16384]) -> bool {
+    let number = field(d, 1);
+    let root = is_dash(d, 2) & is_dash(d, 3);
+    let child = !is_dash(d, 2) & !is_dash(d, 3) & (field(d, 2) < number);
+    let placed = ((number == 0) & root) | ((number != 0) & child);
+    (0 < rows(d)) & (accs(d) == 0) & (number == ints(d)) & placed
+}
+
+// Is there an acc line of this number?
+fn listed(d: &[usize; 16384], a: usize) -> bool {
+    let mut found = false;
+    for row in 2..48 {
+        if (ints(d) < row) & (row < rows(d)) {
+            found = found | (cell(d, row, 0) == a);
+        }
+    }
+    found
+}
+
+fn in_order(name: usize, d: &[usize; 16384]) -> bool {
+    if name == BUS {
+        return rows(d) == 0;
+    }
+    if name == INT {
+        return int_in_order(d);
+    }
+    (field(d, 2) < ints(d)) & !listed(d, field(d, 1))
+}
+
+// The line goes into the next row.
+fn enter(name: usize, d: &mut [usize; 16384]) {
+    let row = rows(d) % 48;
+    for i in 0..10 {
+        let x = field(d, std::num::wrapping_add_usize(i, 1));
+        put(d, row * 10, i, x);
+    }
+    add(d, ROWS, 0, 1);
+    if name == INT {
+        add(d, INTS, 0, 1);
+    }
+    if name == ACC {
+        add(d, ACCS, 0, 1);
+        let a = field(d, 1);
+        put(d, ROW_OF, a % 32, row);
+    }
+}
+
+// The refusals 4 and 5 of a line, or 0.
+fn misplaced(name: usize, d: &[usize; 16384]) -> usize {
+    if (name == BUS) | is_dash(d, 2) {
+        return 0;
+    }
+    let at = field(d, 2);
+    if carried(d, at, field(d, 3)) != NOTHING {
+        return 4;
+    }
+    if (name == INT) & (3 < level(d, at)) {
+        return 5;
+    }
+    0
+}
+
+// The refusal of a line, or 0 and the line is in its row.
+fn judge(s: Scan, d: &mut [usize; 16384], wrong: usize) -> usize {
+    let name = s.name;
+    if !shaped(s, d) {
+        return 1;
+    }
+    if (wrong == ORDER_FIRST) & !in_order(name, d) {
+        return 3;
+    }
+    if !limits(name, d) {
+        return 2;
+    }
+    if !in_order(name, d) {
+        return 3;
+    }
+    let number = misplaced(name, d);
+    if number == 0 {
+        enter(name, d);
+    }
+    number
+}
+
+// Is the number of some acc line not below their count? As no number is repeated, that is so exactly if one is missing.
+fn has_gap(d: &[usize; 16384]) -> bool {
+    let mut found = false;
+    for row in 2..48 {
+        if (ints(d) < row) & (row < rows(d)) {
+            found = found | (accs(d) <= cell(d, row, 0));
+        }
+    }
+    found
+}
+
+fn at_end(s: Scan, d: &[usize; 16384]) -> Said {
+    if begun(s) {
+        return answer(1, s.line);
+    }
+    if (accs(d) == 0) | has_gap(d) {
+        return answer(3, s.line);
+    }
+    answer(0, 0)
+}
+
+// Reads a tree file into the rows.
+pub fn read_book(s: &[u8], d: &mut [usize; 16384], wrong: usize) -> Said {
+    clear(d, 0, 1024);
+    if 65536 < s.len() {
+        return answer(2, 0);
+    }
+    let mut scan = line_start(1);
+    let mut at = 0;
+    while at < s.len() {
+        let b = s[at];
+        if b == 10 {
+            let number = judge(close_field(scan, d), d, wrong);
+            if number != 0 {
+                return answer(number, scan.line);
+            }
+            scan = line_start(std::num::wrapping_add_usize(scan.line, 1));
+        } else if b == 9 {
+            scan = close_field(scan, d);
+        } else {
+            scan = field_byte(scan, b);
+        }
+        at += 1;
+    }
+    at_end(scan, d)
+}

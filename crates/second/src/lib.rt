@@ -1,0 +1,34 @@
+// A second implementation of document 01's readers, machine, runner and bounds, written separately from the library and its
+// definitions: it shares no code with them.
+//
+// Test code, without contracts: it is proved that each function is safe and ends.
+pub mod book;
+pub mod queues;
+pub mod requests;
+mod scan;
+pub mod shares;
+
+// The rule that the second implementation breaks on purpose: none,
+pub const NO_WRONG_RULE: usize = 0;
+// 3 tested before 2,
+pub const ORDER_FIRST: usize = 1;
+// 6 tested before 7,
+pub const FALLING_FIRST: usize = 2;
+// budgets over the whole run,
+pub const WHOLE_RUN: usize = 3;
+// the turn circle restarted at port 0,
+pub const FROM_ZERO: usize = 4;
+// an allowance that grows while its turn runs,
+pub const GROWING: usize = 5;
+// a lower interconnect's turn reset when its parent moves on,
+pub const LOWER_RESET: usize = 6;
+// D that counts the accelerator's own port,
+pub const OWN_PORT: usize = 7;
+// a capacity that is taken through the granularity of a lower interconnect.
+pub const NESTED: usize = 8;
+
+// An answer on a file: 0 where it is accepted, or the number of a refusal; and the line.
+pub struct Said {
+    pub number: usize,
+    pub line: usize,
+}

@@ -1,0 +1,311 @@
+// The second machine and runner. Each accelerator has a queue of tickets; what waits under a port is counted by walking
+// up from each accelerator that has a ticket in its queue, and the next port is sought one by one.
+use crate::FROM_ZERO;
+use crate::GROWING;
+use crate::LOWER_RESET;
+use crate::Said;
+use crate::WHOLE_RUN;
+use crate::book::acc_row;
+use crate::book::carried;
+use crate::book::cell;
+use crate::book::int_row;
+use crate::requests::LINES;
+use crate::requests::LOG;
+use crate::requests::acc_in;
+use crate::requests::count_in;
+use crate::requests::slot_in;
+use store::add;
+use store::clear;
+use store::get;
+use store::least;
+use store::put;
+
+// For each accelerator how many transactions were requested since the start,
+const REQUESTED: usize = 2048;
+
+// admitted,
+const ADMITTED: usize = 2080;
+
+// and served,
+const SERVED: usize = 2112;
+
+// and how many were admitted in this window.
+const USED: usize = 2144;
+
+// For each interconnect its last port,
+const LAST: usize = 2176;
+
+// and its allowance.
+const ALLOWANCE: usize = 2192;
+
+// The slot,
+const SLOT: usize = 2208;
+
+// and the next line of the log.
+const NEXT: usize = 2209;
+
+// The queues, sixteen places to each accelerator: a ring of tickets, each the number of its transaction.
+const QUEUE: usize = 2560;
+
+// How a run ends: the number and line of a refusal, or 0; whether it is done; the slots used.
+pub struct Ended {
+    pub number: usize,
+    pub line: usize,
+    pub done: bool,
+    pub slots: usize,
+}
+
+// How many tickets are in the queue of accelerator a.
+fn queued(d: &[usize; 16384], a: usize) -> usize {
+    std::num::wrapping_sub_usize(get(d, ADMITTED, a), get(d, SERVED, a))
+}
+
+fn held(d: &[usize; 16384], a: usize) -> usize {
+    std::num::wrapping_sub_usize(get(d, REQUESTED, a), get(d, ADMITTED, a))
+}
+
+fn place_in_queue(a: usize, ticket: usize) -> usize {
+    (a % 32) * 16 + ticket % 16
+}
+
+// Puts the next ticket of accelerator a last in its queue.
+fn push(d: &mut [usize; 16384], a: usize) {
+    let ticket = get(d, ADMITTED, a);
+    put(d, QUEUE, place_in_queue(a, ticket), ticket);
+    add(d, ADMITTED, a, 1);
+    add(d, USED, a, 1);
+}
+
+// Takes the first ticket of the queue. Is it the oldest that is not served?
+fn pop(d: &mut [usize; 16384], a: usize) -> bool {
+    let oldest = get(d, SERVED, a);
+    let ticket = get(d, QUEUE, place_in_queue(a, oldest));
+    add(d, SERVED, a, 1);
+    ticket == oldest
+}
+
+// Does the way from accelerator a up to the root enter interconnect i by the port p?
+pub(crate) fn passes(d: &[usize; 16384], a: usize, i: usize, p: usize) -> bool {
+    let mut row = acc_row(d, a);
+    for _ in 0..4usize {
+        let above = cell(d, row, 1);
+        if above == i {
+            return cell(d, row, 2) == p;
+        }
+        if above == 0 {
+            return false;
+        }
+        row = int_row(above);
+    }
+    false
+}
+
+// How many transactions wait under the port p of interconnect i.
+fn waits(d: &[usize; 16384], i: usize, p: usize) -> usize {
+    let mut sum = 0;
+    for a in 0..32 {
+        let n = queued(d, a);
+        if n != 0 {
+            if passes(d, a, i, p) {
+                sum = std::num::wrapping_add_usize(sum, n);
+            }
+        }
+    }
+    sum
+}
+
+// The first port after `last`, going round, under which something waits; `last` itself comes last.
+fn seek(d: &[usize; 16384], i: usize, last: usize) -> usize {
+    let mut p = last % 8;
+    for _ in 0..8usize {
+        p = (p + 1) % 8;
+        if waits(d, i, p) != 0 {
+            return p;
+        }
+    }
+    p
+}
+
+// A new turn at interconnect i, on the port sought. With wrong wrong the circle begins at port 0, or the allowance is g.
+fn new_turn(d: &mut [usize; 16384], i: usize, wrong: usize) {
+    let mut last = get(d, LAST, i);
+    if wrong == FROM_ZERO {
+        last = 7;
+    }
+    let p = seek(d, i, last);
+    let grain = cell(d, int_row(i), 3);
+    let mut allowance = least(grain, waits(d, i, p));
+    if wrong == GROWING {
+        allowance = grain;
+    }
+    put(d, LAST, i, p);
+    put(d, ALLOWANCE, i, allowance);
+    let below = carried(d, i, p);
+    if (wrong == LOWER_RESET) & (31 < below) {
+        put(d, LAST, below % 16, 7);
+        put(d, ALLOWANCE, below % 16, 0);
+    }
+}
+
+// The port that interconnect i goes on with, one taken off its allowance.
+fn turn(d: &mut [usize; 16384], i: usize, wrong: usize) -> usize {
+    let mut over = get(d, ALLOWANCE, i) == 0;
+    if wrong == GROWING {
+        over = over | (waits(d, i, get(d, LAST, i)) == 0);
+    }
+    if over {
+        new_turn(d, i, wrong);
+    }
+    let left = std::num::wrapping_sub_usize(get(d, ALLOWANCE, i), 1);
+    put(d, ALLOWANCE, i, left);
+    get(d, LAST, i)
+}
+
+// The accelerator that is served, from the root down.
+fn choose(d: &mut [usize; 16384], wrong: usize) -> usize {
+    let mut i = 0;
+    for _ in 0..4usize {
+        let p = turn(d, i, wrong);
+        let below = carried(d, i, p);
+        if below < 32 {
+            return below;
+        }
+        i = below - 32;
+    }
+    255
+}
+
+fn all_queued(d: &[usize; 16384]) -> usize {
+    let mut sum = 0;
+    for a in 0..32 {
+        sum = std::num::wrapping_add_usize(sum, queued(d, a));
+    }
+    sum
+}
+
+fn all_held(d: &[usize; 16384]) -> usize {
+    let mut sum = 0;
+    for a in 0..32 {
+        sum = std::num::wrapping_add_usize(sum, held(d, a));
+    }
+    sum
+}
+
+// The lines whose slot has come are requested.
+fn take_due(d: &mut [usize; 16384], lines: usize) {
+    let now = get(d, SLOT, 0);
+    let mut next = get(d, NEXT, 0);
+    while next < lines {
+        let x = get(d, LOG, next % 8192);
+        if now < slot_in(x) {
+            break;
+        }
+        add(d, REQUESTED, acc_in(x) % 32, count_in(x));
+        next += 1;
+    }
+    put(d, NEXT, 0, next);
+}
+
+// Accelerator a offers until it holds none, phi of it wait or its budget is used.
+fn offer(d: &mut [usize; 16384], a: usize) {
+    let row = acc_row(d, a);
+    for _ in 0..16usize {
+        let room = (queued(d, a) < cell(d, row, 3)) & (get(d, USED, a) < cell(d, row, 4));
+        if room & (held(d, a) != 0) {
+            push(d, a);
+        }
+    }
+}
+
+fn offer_all(d: &mut [usize; 16384]) {
+    for a in 0..32 {
+        if held(d, a) != 0 {
+            offer(d, a);
+        }
+    }
+}
+
+fn reopen(d: &mut [usize; 16384]) {
+    for a in 0..32 {
+        put(d, USED, a, 0);
+    }
+}
+
+// The slot count rises, and where that opens a window the budgets begin anew. A wrong rule keeps them for the whole run.
+fn advance(d: &mut [usize; 16384], wrong: usize) {
+    add(d, SLOT, 0, 1);
+    let window = cell(d, 0, 0);
+    if window != 0 {
+        if (get(d, SLOT, 0) % window == 0) & (wrong != WHOLE_RUN) {
+            reopen(d);
+        }
+    }
+}
+
+// One slot: what it serves, or 255.
+fn one_slot(d: &mut [usize; 16384], wrong: usize) -> usize {
+    if all_queued(d) == 0 {
+        return 255;
+    }
+    let a = choose(d, wrong);
+    if pop(d, a) { a } else { 254 }
+}
+
+fn nothing_left(d: &[usize; 16384], lines: usize) -> bool {
+    (lines <= get(d, NEXT, 0)) & (all_held(d) == 0) & (all_queued(d) == 0)
+}
+
+fn start(d: &mut [usize; 16384]) {
+    clear(d, REQUESTED, 1024);
+    for i in 0..15 {
+        put(d, LAST, i, 7);
+    }
+}
+
+pub fn run_end(done: bool, slots: usize) -> Ended {
+    Ended {
+        number: 0,
+        line: 0,
+        done: done,
+        slots: slots,
+    }
+}
+
+pub fn refused(number: usize, line: usize) -> Ended {
+    Ended {
+        number: number,
+        line: line,
+        done: false,
+        slots: 0,
+    }
+}
+
+// Runs the lines of the log on the tree in the rows.
+fn run_log(d: &mut [usize; 16384], out: &mut [u8], wrong: usize) -> Ended {
+    let lines = get(d, LINES, 0);
+    start(d);
+    let mut used = 0;
+    while used < out.len() {
+        if nothing_left(d, lines) {
+            return run_end(true, used);
+        }
+        take_due(d, lines);
+        offer_all(d);
+        let a = one_slot(d, wrong);
+        advance(d, wrong);
+        out[used] = (a % 256) as u8;
+        used += 1;
+    }
+    run_end(nothing_left(d, lines), used)
+}
+
+// Runs the trace that the log has, if it was accepted: the buffer's size comes before the trace.
+pub fn run_trace(trace: Said, d: &mut [usize; 16384], out: &mut [u8], wrong: usize) -> Ended {
+    if 65536 < out.len() {
+        return refused(2, 0);
+    }
+    if trace.number != 0 {
+        return refused(trace.number, trace.line);
+    }
+    run_log(d, out, wrong)
+}

@@ -1,0 +1,31 @@
+// One block of numbers, the store, holds all that the second implementation, the generator and the counts keep, in parts that
+// begin at fixed places: those of `second` lie below 3072 and from 8192 on, the counts of `crosscheck` from 3072 on, those of
+// `generator` from 4096 on. There are no structs for a tree, a state or their records. A place past the end goes round.
+//
+// Test code, without contracts: it is proved that each function is safe and ends.
+
+pub fn get(d: &[usize; 16384], part: usize, i: usize) -> usize {
+    let at = std::num::wrapping_add_usize(part, i) % 16384;
+    d[at]
+}
+
+pub fn put(d: &mut [usize; 16384], part: usize, i: usize, x: usize) {
+    let at = std::num::wrapping_add_usize(part, i) % 16384;
+    d[at] = x;
+}
+
+pub fn add(d: &mut [usize; 16384], part: usize, i: usize, x: usize) {
+    let at = std::num::wrapping_add_usize(part, i) % 16384;
+    d[at] = std::num::wrapping_add_usize(d[at], x);
+}
+
+// Sets n numbers of a part to 0.
+pub fn clear(d: &mut [usize; 16384], part: usize, n: usize) {
+    for i in 0..n {
+        put(d, part, i, 0);
+    }
+}
+
+pub fn least(x: usize, y: usize) -> usize {
+    if x < y { x } else { y }
+}
