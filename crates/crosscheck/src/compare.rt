@@ -29,7 +29,7 @@ use second::shares::Row;
 use second::shares::figures;
 
 // Two buffers stand in one array: the library's at its start, and ours from here on.
-pub const OURS: usize = 65537;
+const OURS: usize = 65537;
 
 pub fn same_said(answer: FileAnswer, s: Said) -> bool {
     let number = answer_number(answer) as usize;
@@ -155,8 +155,16 @@ pub fn same_bounds(t: Tree, d: &[usize; 16384], wrong: usize) -> bool {
     same
 }
 
+// Puts a pattern that no run writes into a buffer.
+fn fill(out: &mut [u8]) {
+    for i in 0..out.len() {
+        out[i] = (i % 199 + 40) as u8;
+    }
+}
+
 // The library's run, its answer in the second implementation's terms.
 fn run_library(t: Tree, trace: &[u8], out: &mut [u8]) -> Ended {
+    fill(out);
     match runner::run(t, trace, out) {
         RunAnswer::Refused(r, line) => refused(model::number(r) as usize, line as usize),
         RunAnswer::Broken => refused(11, 0),
@@ -173,6 +181,11 @@ pub fn library_run(t: Tree, trace: &[u8], out: &mut [u8], n: usize) -> Ended {
     run_library(t, trace, &mut out[0..n])
 }
 
+fn run_second(trace: Said, d: &mut [usize; 16384], out: &mut [u8], wrong: usize) -> Ended {
+    fill(out);
+    run_trace(trace, d, out, wrong)
+}
+
 // The second run, over n bytes from OURS on.
 pub fn second_run(
     trace: Said,
@@ -181,39 +194,15 @@ pub fn second_run(
     n: usize,
     wrong: usize,
 ) -> Ended {
-    if 65537 < n {
-        return refused(0, 0);
-    }
-    let to = n + OURS;
+    let to = OURS + n % 65538;
     if out.len() < to {
         return refused(0, 0);
     }
-    run_trace(trace, d, &mut out[OURS..to], wrong)
+    run_second(trace, d, &mut out[OURS..to], wrong)
 }
 
 pub fn same_end(x: Ended, y: Ended) -> bool {
     (x.number == y.number) & (x.line == y.line) & (x.done == y.done) & (x.slots == y.slots)
-}
-
-// Puts a pattern that no run writes into a buffer.
-fn fill_all(out: &mut [u8]) {
-    for i in 0..out.len() {
-        out[i] = (i % 199 + 40) as u8;
-    }
-}
-
-// The pattern in n bytes from a place on, at most 65,537 of each.
-pub fn fill(out: &mut [u8], from: usize, n: usize) {
-    if 65537 < from {
-        return;
-    }
-    if 65537 < n {
-        return;
-    }
-    let to = from + n;
-    if to <= out.len() {
-        fill_all(&mut out[from..to]);
-    }
 }
 
 // Are n bytes of the library's the same as ours?

@@ -71,7 +71,7 @@ fn try_long_file(page: &mut [u8], i: usize, d: &mut [usize; 16384], out: &mut [u
     }
 }
 
-// Files and buffers at the size limits.
+// Files at the limits of sizes and totals, and a trace with a late line, over buffers at the size limit.
 pub fn try_long(page: &mut [u8], d: &mut [usize; 16384], out: &mut [u8; 131074]) {
     for i in 0..7 {
         try_long_file(page, i, d, out);

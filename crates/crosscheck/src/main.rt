@@ -1,5 +1,5 @@
-// A second implementation of document 01's readers, machine, runner and bounds, run beside the library on generated and on
-// listed inputs. It writes how many inputs of each kind there were, how often each of several wrong rules, followed on
+// The library's readers, machine, runner and bounds, run beside those of `second` on the generated and the listed inputs of
+// `generator`. It writes how many inputs of each kind there were, how often each of several wrong rules, followed on
 // purpose, was seen, and last how many differences there are.
 mod compare;
 mod edges;

@@ -1,6 +1,4 @@
 // One input at a time: both implementations are run on it, and what is found is counted.
-use crate::compare::OURS;
-use crate::compare::fill;
 use crate::compare::library_run;
 use crate::compare::same_bounds;
 use crate::compare::same_bytes;
@@ -103,7 +101,7 @@ fn count_run(e: Ended, d: &mut [usize; 16384]) {
     }
 }
 
-// The wrong wrong of a run over n bytes, against what the library did.
+// A run over n bytes by each wrong rule, against what the library did.
 fn try_wrong_runs(
     said: Said,
     d: &mut [usize; 16384],
@@ -112,7 +110,6 @@ fn try_wrong_runs(
     n: usize,
 ) {
     for wrong in WHOLE_RUN..OWN_PORT {
-        fill(out, OURS, n);
         let e = second_run(said, d, out, n, wrong);
         note(d, WRONG, wrong, same_end(e, right) & same_bytes(out, n));
     }
@@ -127,8 +124,6 @@ fn try_run(
     out: &mut [u8; 131074],
     n: usize,
 ) -> usize {
-    fill(out, 0, n);
-    fill(out, OURS, n);
     let right = library_run(t, s, out, n);
     let e = second_run(said, d, out, n, NO_WRONG_RULE);
     note(d, DIFFERENCES, 0, same_end(e, right) & same_bytes(out, n));

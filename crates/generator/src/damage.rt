@@ -77,24 +77,28 @@ fn damage_byte(w: &mut [u8; 16384], d: &mut [usize; 16384], n: usize, kind: usiz
     }
 }
 
+// The line at `from` changes places with the next one, at `to`.
+fn exchange(w: &mut [u8; 16384], d: &mut [usize; 16384], from: usize, to: usize, n: usize) {
+    let past = line_to(w, to, n);
+    copy(w, d, 0, from);
+    copy(w, d, to, past);
+    copy(w, d, from, to);
+    copy(w, d, past, n);
+}
+
 // A line is doubled, left out, or changes places with the next one.
 fn damage_line(w: &mut [u8; 16384], d: &mut [usize; 16384], n: usize, kind: usize) {
     let p = below(d, n);
     let from = line_from(w, p);
     let to = line_to(w, p, n);
-    let past = line_to(w, to, n);
-    copy(w, d, 0, from);
     if kind == 3 {
-        copy(w, d, from, to);
+        copy(w, d, 0, to);
         copy(w, d, from, n);
-    }
-    if kind == 4 {
+    } else if kind == 4 {
+        copy(w, d, 0, from);
         copy(w, d, to, n);
-    }
-    if kind == 5 {
-        copy(w, d, to, past);
-        copy(w, d, from, to);
-        copy(w, d, past, n);
+    } else {
+        exchange(w, d, from, to, n);
     }
 }
 

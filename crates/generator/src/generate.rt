@@ -24,6 +24,11 @@ const TAKEN: usize = 4160;
 // No port is free.
 const NONE: usize = 120;
 
+// The limits of the bus line's numbers after the window.
+const LOWS: [usize; 9] = [1, 0, 0, 0, 0, 0, 1, 1, 1];
+
+const HIGHS: [usize; 9] = [255, 255, 255, 255, 4095, 4095, 255, 255, 256];
+
 // A number below n, by Marsaglia's xorshift.
 pub fn below(d: &mut [usize; 16384], n: usize) -> usize {
     let x = get(d, SEED, 0);
@@ -70,6 +75,12 @@ pub fn put_number(w: &mut [u8; 16384], d: &mut [usize; 16384], n: usize) {
     put_text(w, d, &text[..digits]);
 }
 
+// A tab and x.
+pub fn put_column(w: &mut [u8; 16384], d: &mut [usize; 16384], x: usize) {
+    put_byte(w, d, 9);
+    put_number(w, d, x);
+}
+
 // A number past one of its limits.
 fn beyond(d: &mut [usize; 16384], low: usize, high: usize) -> usize {
     if (low != 0) & once_in(d, 2) {
@@ -82,13 +93,11 @@ fn beyond(d: &mut [usize; 16384], low: usize, high: usize) -> usize {
 fn put_field(w: &mut [u8; 16384], d: &mut [usize; 16384], x: usize, low: usize, high: usize) {
     let left = get(d, FLAW, 0);
     put(d, FLAW, 0, std::num::wrapping_sub_usize(left, 1));
-    put_byte(w, d, 9);
+    let mut y = x;
     if left == 0 {
-        let y = beyond(d, low, high);
-        put_number(w, d, y);
-    } else {
-        put_number(w, d, x);
+        y = beyond(d, low, high);
     }
+    put_column(w, d, y);
 }
 
 // A tab and a number from low to high.
@@ -104,18 +113,18 @@ fn put_mostly(w: &mut [u8; 16384], d: &mut [usize; 16384], few: usize, n: usize,
     put_field(w, d, x, 1, high);
 }
 
+// A number below `many`, mostly small.
+fn put_mixed(w: &mut [u8; 16384], d: &mut [usize; 16384], few: usize, n: usize, many: usize) {
+    let x = mixed(d, few, n, many);
+    put_field(w, d, x, 0, std::num::wrapping_sub_usize(many, 1));
+}
+
 fn bus_line(w: &mut [u8; 16384], d: &mut [usize; 16384]) {
     put_text(w, d, b"bus");
     put_mostly(w, d, 14, 12, 65535);
-    put_any(w, d, 1, 255);
-    put_any(w, d, 0, 255);
-    put_any(w, d, 0, 255);
-    put_any(w, d, 0, 255);
-    put_any(w, d, 0, 4095);
-    put_any(w, d, 0, 4095);
-    put_any(w, d, 1, 255);
-    put_any(w, d, 1, 255);
-    put_any(w, d, 1, 256);
+    for i in 0..9 {
+        put_any(w, d, LOWS[i], HIGHS[i]);
+    }
     put_byte(w, d, 10);
 }
 
@@ -180,12 +189,9 @@ fn acc_line(w: &mut [u8; 16384], d: &mut [usize; 16384], a: usize) {
     put_place(w, d, at);
     put_mostly(w, d, 4, 3, 16);
     put_mostly(w, d, 5, 4, 1024);
-    let reads = mixed(d, 20, 3, 65536);
-    put_field(w, d, reads, 0, 65535);
-    let writes = mixed(d, 20, 3, 65536);
-    put_field(w, d, writes, 0, 65535);
-    let computing = mixed(d, 5000, 3, 4294967296);
-    put_field(w, d, computing, 0, 4294967295);
+    put_mixed(w, d, 20, 3, 65536);
+    put_mixed(w, d, 20, 3, 65536);
+    put_mixed(w, d, 5000, 3, 4294967296);
     put_mostly(w, d, 1000000, 3, 4294967295);
     put_byte(w, d, 10);
 }
@@ -256,6 +262,14 @@ fn stride(d: &mut [usize; 16384]) -> usize {
     mixed(d, 50, 40, 4000000000)
 }
 
+fn put_request(w: &mut [u8; 16384], d: &mut [usize; 16384], slot: usize, a: usize) {
+    put_byte(w, d, 111);
+    put_field(w, d, slot, 0, 4294967294);
+    put_column(w, d, a);
+    put_mostly(w, d, 5, 4, 16);
+    put_byte(w, d, 10);
+}
+
 fn request_line(w: &mut [u8; 16384], d: &mut [usize; 16384], slot: usize, accs: usize) {
     let mut at = slot;
     let mut a = below(d, accs);
@@ -266,12 +280,7 @@ fn request_line(w: &mut [u8; 16384], d: &mut [usize; 16384], slot: usize, accs: 
         at = below(d, slot);
         a = below(d, std::num::wrapping_add_usize(accs, 1));
     }
-    put_byte(w, d, 111);
-    put_field(w, d, at, 0, 4294967294);
-    put_byte(w, d, 9);
-    put_number(w, d, a);
-    put_mostly(w, d, 5, 4, 16);
-    put_byte(w, d, 10);
+    put_request(w, d, at, a);
 }
 
 // A trace file, in the first half of w, for a tree with so many accelerators.

@@ -1,7 +1,7 @@
 // The six tree files of document 01's case 11, each in the second half of w.
 use crate::generate::LENGTH;
 use crate::generate::SIDE;
-use crate::generate::put_byte;
+use crate::generate::put_column;
 use crate::generate::put_number;
 use crate::generate::put_text;
 use store::put;
@@ -15,22 +15,18 @@ fn put_bus(w: &mut [u8; 16384], d: &mut [usize; 16384], burst: usize) {
 }
 
 fn put_int(w: &mut [u8; 16384], d: &mut [usize; 16384], i: usize, parent: usize, port: usize) {
-    put_text(w, d, b"int\t");
-    put_number(w, d, i);
-    put_byte(w, d, 9);
-    put_number(w, d, parent);
-    put_byte(w, d, 9);
-    put_number(w, d, port);
+    put_text(w, d, b"int");
+    put_column(w, d, i);
+    put_column(w, d, parent);
+    put_column(w, d, port);
     put_text(w, d, b"\t1\n");
 }
 
 fn put_acc(w: &mut [u8; 16384], d: &mut [usize; 16384], a: usize, i: usize, port: usize) {
-    put_text(w, d, b"acc\t");
-    put_number(w, d, a);
-    put_byte(w, d, 9);
-    put_number(w, d, i);
-    put_byte(w, d, 9);
-    put_number(w, d, port);
+    put_text(w, d, b"acc");
+    put_column(w, d, a);
+    put_column(w, d, i);
+    put_column(w, d, port);
     put_text(w, d, b"\t4\t8\t1\t1\t0\t1000\n");
 }
 

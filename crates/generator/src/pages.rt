@@ -51,15 +51,9 @@ pub fn long_file(page: &mut [u8], i: usize) -> usize {
     if i < 3 {
         return total_file(page, i);
     }
-    let line = b"o\t0\t0\t1\n";
-    if i == 3 {
-        return filled(page, line, b"", 65536);
+    let n = 65536 + (i - 3) % 2;
+    if i < 5 {
+        return filled(page, b"o\t0\t0\t1\n", b"", n);
     }
-    if i == 4 {
-        return filled(page, line, b"", 65537);
-    }
-    if i == 5 {
-        return filled(page, b"x", b"", 65536);
-    }
-    filled(page, b"x", b"", 65537)
+    filled(page, b"x", b"", n)
 }

@@ -126,7 +126,7 @@ fn seek(d: &[usize; 16384], i: usize, last: usize) -> usize {
     p
 }
 
-// A new turn at interconnect i, on the port sought. With wrong wrong the circle begins at port 0, or the allowance is g.
+// A new turn at interconnect i, on the port sought. A wrong rule has the circle begin at port 0, or the allowance g.
 fn new_turn(d: &mut [usize; 16384], i: usize, wrong: usize) {
     let mut last = get(d, LAST, i);
     if wrong == FROM_ZERO {
@@ -206,12 +206,17 @@ fn take_due(d: &mut [usize; 16384], lines: usize) {
     put(d, NEXT, 0, next);
 }
 
+// Has accelerator a a transaction to offer, and room for it: fewer than phi wait and its budget is not used?
+fn may_offer(d: &[usize; 16384], a: usize) -> bool {
+    let row = acc_row(d, a);
+    let room = (queued(d, a) < cell(d, row, 3)) & (get(d, USED, a) < cell(d, row, 4));
+    room & (held(d, a) != 0)
+}
+
 // Accelerator a offers until it holds none, phi of it wait or its budget is used.
 fn offer(d: &mut [usize; 16384], a: usize) {
-    let row = acc_row(d, a);
     for _ in 0..16usize {
-        let room = (queued(d, a) < cell(d, row, 3)) & (get(d, USED, a) < cell(d, row, 4));
-        if room & (held(d, a) != 0) {
+        if may_offer(d, a) {
             push(d, a);
         }
     }

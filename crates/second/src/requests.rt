@@ -85,6 +85,15 @@ fn enter(d: &mut [usize; 16384]) {
     put(d, BEFORE, 0, slot);
 }
 
+// The refusal of a line, or 0 and the line is in the log.
+fn judge(s: Scan, d: &mut [usize; 16384], known: usize, wrong: usize) -> usize {
+    let number = fault(s, d, known, wrong);
+    if number == 0 {
+        enter(d);
+    }
+    number
+}
+
 // Reads a trace file, for the tree in the rows, into the log.
 pub fn read_log(s: &[u8], d: &mut [usize; 16384], wrong: usize) -> Said {
     clear(d, TOTAL, 64);
@@ -97,11 +106,10 @@ pub fn read_log(s: &[u8], d: &mut [usize; 16384], wrong: usize) -> Said {
     while at < s.len() {
         let b = s[at];
         if b == 10 {
-            let number = fault(close_field(scan, d), d, known, wrong);
+            let number = judge(close_field(scan, d), d, known, wrong);
             if number != 0 {
                 return answer(number, scan.line);
             }
-            enter(d);
             scan = line_start(std::num::wrapping_add_usize(scan.line, 1));
         } else if b == 9 {
             scan = close_field(scan, d);
