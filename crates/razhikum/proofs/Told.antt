@@ -4,7 +4,7 @@ use mathlib.Core.Bool.{Bool, true, false, not}
 use mathlib.Core.Path.{_≡_, refl, ap, sym, _∙_}
 use Rattle.model.specs.Fold.{pick}
 use Rattle.placing.specs.declared.TreeRead.{TreeRead}
-use Rattle.razhikum.specs.Exports.{isAccepted}
+use Rattle.answers.specs.Numbers.{isAccepted}
 
 abbrev chosen : {A : Type 0} → (TreeRead → A) → (TreeRead → A) → TreeRead → A
 chosen f g q = pick (isAccepted (q .answer)) (f q) (g q)

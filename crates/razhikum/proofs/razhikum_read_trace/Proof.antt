@@ -3,7 +3,8 @@ use mathlib.Core.Path.{ap, _∙_}
 use borrow.Author.Needs.{needs}
 use Rattle.trace.specs.TraceFile.{readTrace}
 use Rattle.placing.specs.declared.TreeRead.{TreeRead}
-use Rattle.razhikum.specs.Exports.{readingOf, treeReading}
+use Rattle.answers.specs.Numbers.{readingOf}
+use Rattle.razhikum.specs.Exports.{treeReading}
 use Rattle.razhikum.proofs.Told.{of-accepted, of-refused}
 use Rattle.razhikum.proofs.razhikum_read_trace.Statement.{statement}
 use Rattle.razhikum.proofs.razhikum_read_trace.Tie as tie

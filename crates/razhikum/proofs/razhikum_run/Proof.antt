@@ -7,8 +7,8 @@ use lib.ListN.{length}
 use borrow.Author.Needs.{needs}
 use Rattle.placing.specs.declared.TreeRead.{TreeRead}
 use Rattle.runner.specs.Run.{ranOf, bufferAfter}
-use Rattle.razhikum.specs.declared.Outcome.{Outcome}
-use Rattle.razhikum.specs.Exports.{outcomeOf, treeRefused}
+use Rattle.answers.specs.declared.Outcome.{Outcome}
+use Rattle.answers.specs.Numbers.{outcomeOf, treeRefused}
 use Rattle.razhikum.proofs.Told.{of-accepted, of-refused}
 use Rattle.razhikum.proofs.razhikum_run.Statement.{statement}
 use Rattle.razhikum.proofs.razhikum_run.Tie as tie

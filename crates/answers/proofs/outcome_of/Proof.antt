@@ -4,10 +4,10 @@ use Prim.Native.Nat.{ℕ}
 use borrow.Author.Needs.{needs}
 use Rattle.runner.specs.Answers.{runMeans}
 use Rattle.runner.specs.declared.RunAnswer.{RunAnswer}
-use Rattle.razhikum.specs.declared.Outcome.{Outcome}
-use Rattle.razhikum.specs.Exports.{refusedBy, outcomeOf}
-use Rattle.razhikum.proofs.outcome_of.Statement.{statement}
-use Rattle.razhikum.proofs.outcome_of.Tie as tie
+use Rattle.answers.specs.declared.Outcome.{Outcome}
+use Rattle.answers.specs.Numbers.{refusedBy, outcomeOf}
+use Rattle.answers.proofs.outcome_of.Statement.{statement}
+use Rattle.answers.proofs.outcome_of.Tie as tie
 
 abbrev meant : RunAnswer → Outcome
 meant a = outcomeOf (runMeans a)

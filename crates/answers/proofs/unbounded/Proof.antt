@@ -1,8 +1,8 @@
 -- `unbounded` meets its contract: the fields are those of the definition.
 use mathlib.Core.Path.{refl}
 use borrow.Author.Needs.{needs}
-use Rattle.razhikum.proofs.unbounded.Statement.{statement}
-use Rattle.razhikum.proofs.unbounded.Tie as tie
+use Rattle.answers.proofs.unbounded.Statement.{statement}
+use Rattle.answers.proofs.unbounded.Tie as tie
 
 returns : tie.Need-returns
 returns c = refl

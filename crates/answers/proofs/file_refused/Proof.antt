@@ -2,8 +2,8 @@
 use mathlib.Core.Path.{sym, _∙_}
 use borrow.Author.Needs.{needs}
 use Rattle.model.proofs.Folds.{picked, passed}
-use Rattle.razhikum.proofs.file_refused.Statement.{statement}
-use Rattle.razhikum.proofs.file_refused.Tie as tie
+use Rattle.answers.proofs.file_refused.Statement.{statement}
+use Rattle.answers.proofs.file_refused.Tie as tie
 
 returns : tie.Need-returns
 returns c = sym (picked _ _ _ (sym (c .before .is-accepted .ensures) ∙ c .if1 .taken))

@@ -2,9 +2,9 @@
 use mathlib.Core.Path.{_≡_, ap, _∙_}
 use Prim.Native.Nat.{ℕ}
 use borrow.Author.Needs.{needs}
-use Rattle.razhikum.specs.declared.Reading.{Reading}
-use Rattle.razhikum.proofs.reading_of.Statement.{statement}
-use Rattle.razhikum.proofs.reading_of.Tie as tie
+use Rattle.answers.specs.declared.Reading.{Reading}
+use Rattle.answers.proofs.reading_of.Statement.{statement}
+use Rattle.answers.proofs.reading_of.Tie as tie
 
 joined : {f g n m l k : ℕ} → f ≡ g → n ≡ m → l ≡ k → _≡_ {A = Reading} (record { file = f; number = n; line = l }) (record { file = g; number = m; line = k })
 joined {f} {g} {n} {m} {l} {k} p q r =

@@ -1,0 +1,63 @@
+-- What a reader, a run and a bound answer, as numbers, from the definitions of document 01 that the libraries below cite.
+--
+-- isAccepted x          a reader's answer x is "accepted"
+-- fileRefused f x       0 if so, else f, the file that is refused
+-- readingOf f x         a reader's answer x as numbers, with f for the file that is refused: 1 the tree, 2 the trace
+-- refusedBy k n l       an outcome of kind k, refused by number n at line l
+-- outcomeOf x           how a run ended, as numbers: kind 0 done, 1 stopped, 3 refused
+-- treeRefused x         the outcome where the tree's reading answers the refusal x: kind 2
+-- unbounded n l         no bounds, refused by number n at line l
+-- rowOf x               what a bound answers, as numbers; 7 and 11 have no line
+use Prim.Native.Nat.{ℕ}
+use mathlib.Core.Bool.{Bool, true, false}
+use Rattle.model.specs.Fold.{pick}
+use Rattle.lines.specs.Answer.{answerNumber, answerLine}
+use Rattle.lines.specs.declared.FileAnswer.{FileAnswer}
+use Rattle.lines.specs.declared.FileAnswer.the-variants.{Accepted, Refused, Broken}
+use Rattle.runner.specs.Run.{Ending, refusedAt, broken, done, stopped}
+use Rattle.bounds.specs.Bounds.{Answer, refused, given}
+use Rattle.answers.specs.declared.Reading.{Reading}
+use Rattle.answers.specs.declared.Outcome.{Outcome}
+use Rattle.answers.specs.declared.Row.{Row}
+
+abbrev pub isAccepted : FileAnswer → Bool
+isAccepted Accepted = true
+isAccepted (Refused r n) = false
+isAccepted Broken = false
+
+abbrev pub fileRefused : ℕ → FileAnswer → ℕ
+fileRefused f x = pick (isAccepted x) 0 f
+
+abbrev pub readingOf : ℕ → FileAnswer → Reading
+readingOf f x = record { file = fileRefused f x; number = answerNumber x; line = answerLine x }
+
+abbrev pub refusedBy : ℕ → ℕ → ℕ → Outcome
+refusedBy k n l = record { kind = k; number = n; line = l; slots = 0 }
+
+abbrev pub outcomeOf : Ending → Outcome
+outcomeOf (refusedAt n l) = refusedBy 3 n l
+outcomeOf (broken n) = refusedBy 3 n 0
+outcomeOf (done n) = record { kind = 0; number = 0; line = 0; slots = n }
+outcomeOf (stopped n) = record { kind = 1; number = 0; line = 0; slots = n }
+
+abbrev pub treeRefused : FileAnswer → Outcome
+treeRefused x = refusedBy 2 (answerNumber x) (answerLine x)
+
+abbrev pub unbounded : ℕ → ℕ → Row
+unbounded n l =
+    record { number = n; line = l; level = 0; meets = false; share = 0; reads = 0; writes = 0; response = 0; period = 0 }
+
+abbrev pub rowOf : Answer → Row
+rowOf (refused n) = unbounded n 0
+rowOf (given r) =
+    record {
+      number = 0;
+      line = 0;
+      level = r .level;
+      meets = r .meets;
+      share = r .share;
+      reads = r .reads;
+      writes = r .writes;
+      response = r .response;
+      period = r .period;
+    }

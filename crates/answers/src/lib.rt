@@ -1,0 +1,153 @@
+// What a reader, a run and a bound answer, as numbers: an enum cannot cross to C, so each exported function of `razhikum`
+// answers a struct of these.
+//
+// Every answer carries document 01's number of a refusal, 0 where nothing is refused, and the refusal's line, 0 where it
+// has none.
+use bounds::BoundAnswer;
+use lines::FileAnswer;
+use lines::answer_line;
+use lines::answer_number;
+use model::number;
+use runner::RunAnswer;
+ghost use mathlib.Core.Path.{_≡_};
+ghost use Rattle.runner.specs.Answers.{runMeans};
+ghost use Rattle.bounds.specs.Bounds.{meaningOf};
+ghost use Rattle.answers.specs.Numbers.{isAccepted, fileRefused, readingOf, outcomeOf, treeRefused, rowOf, unbounded};
+
+// What a reader answers. `file` says which file is refused: 0 neither, 1 the tree, 2 the trace.
+#[repr(C)]
+pub struct Reading {
+    pub file: u8,
+    pub number: u8,
+    pub line: u32,
+}
+
+// How a run ended. `kind` is 0 for done, 1 for stopped, 2 where the tree is refused, 3 where the trace or the size of the
+// buffer is. `slots` is the number of slots used, 0 on a refusal.
+#[repr(C)]
+pub struct Outcome {
+    pub kind: u8,
+    pub number: u8,
+    pub line: u32,
+    pub slots: u32,
+}
+
+// The bounds of an accelerator: all 0 and not met on a refusal.
+#[repr(C)]
+pub struct Row {
+    pub number: u8,
+    pub line: u32,
+    pub level: u8,
+    pub meets: bool,
+    pub share: u64,
+    pub reads: u64,
+    pub writes: u64,
+    pub response: u64,
+    pub period: u64,
+}
+
+pub fn is_accepted(answer: FileAnswer) -> bool
+    ensures { λ r. ⌜ r ≡ isAccepted answer ⌝ }
+{
+    match answer {
+        FileAnswer::Accepted => true,
+        FileAnswer::Refused(_, _) => false,
+        FileAnswer::Broken => false,
+    }
+}
+
+fn file_refused(file: u8, answer: FileAnswer) -> u8
+    ensures { λ r. ⌜ r ≡ fileRefused file answer ⌝ }
+{
+    if is_accepted(answer) {
+        return 0;
+    }
+    file
+}
+
+pub fn reading_of(file: u8, answer: FileAnswer) -> Reading
+    ensures { λ r. ⌜ r ≡ readingOf file answer ⌝ }
+{
+    Reading {
+        file: file_refused(file, answer),
+        number: answer_number(answer),
+        line: answer_line(answer),
+    }
+}
+
+pub fn outcome_of(answer: RunAnswer) -> Outcome
+    ensures { λ r. ⌜ r ≡ outcomeOf (runMeans answer) ⌝ }
+{
+    match answer {
+        RunAnswer::Refused(r, n) => Outcome {
+            kind: 3,
+            number: number(r),
+            line: n,
+            slots: 0,
+        },
+        RunAnswer::Broken => Outcome {
+            kind: 3,
+            number: 11,
+            line: 0,
+            slots: 0,
+        },
+        RunAnswer::Done(n) => Outcome {
+            kind: 0,
+            number: 0,
+            line: 0,
+            slots: n,
+        },
+        RunAnswer::Stopped(n) => Outcome {
+            kind: 1,
+            number: 0,
+            line: 0,
+            slots: n,
+        },
+    }
+}
+
+pub fn tree_refused(answer: FileAnswer) -> Outcome
+    ensures { λ r. ⌜ r ≡ treeRefused answer ⌝ }
+{
+    Outcome {
+        kind: 2,
+        number: answer_number(answer),
+        line: answer_line(answer),
+        slots: 0,
+    }
+}
+
+pub fn unbounded(number: u8, line: u32) -> Row
+    ensures { λ r. ⌜ r ≡ unbounded number line ⌝ }
+{
+    Row {
+        number: number,
+        line: line,
+        level: 0,
+        meets: false,
+        share: 0,
+        reads: 0,
+        writes: 0,
+        response: 0,
+        period: 0,
+    }
+}
+
+pub fn row_of(answer: BoundAnswer) -> Row
+    ensures { λ r. ⌜ r ≡ rowOf (meaningOf answer) ⌝ }
+{
+    match answer {
+        BoundAnswer::Refused(r) => unbounded(number(r), 0),
+        BoundAnswer::Bound(f) => Row {
+            number: 0,
+            line: 0,
+            level: f.level,
+            meets: f.meets,
+            share: f.share,
+            reads: f.reads.0,
+            writes: f.writes.0,
+            response: f.response.0,
+            period: f.period.0,
+        },
+    }
+}
