@@ -1,10 +1,10 @@
 -- Laws of the offers on a run's arrays, by their definitions.
-use Prim.Native.Nat.{ℕ, zero, suc, _+_, _-_, _<_}
+use Prim.Native.Nat.{ℕ, zero, suc, _+_, _-_, _<_, min}
 use mathlib.Core.Bool.{Bool, true, false, _||_}
 use mathlib.Core.List.{List}
 use mathlib.Core.Path.{_≡_, refl, sym, _∙_, ap, ap₂}
 use native.Mathlib.Omega.{arith}
-use native.Mathlib.Numerals.{add-one}
+use native.Mathlib.Decide.{decLt}
 use lib.Dec.{ltb, eqb}
 use lib.ListN.{getD, set}
 use borrow.Author.Tests.{lt-ltb, le-ltb, eq-eqb, ne-eqb, eqb-true, eqb-false}
@@ -14,7 +14,7 @@ use Rattle.counts.specs.Counts.{up, raised, opened}
 use Rattle.admit.specs.declared.Admission.{Admission}
 use Rattle.admit.specs.declared.HeldOffers.{HeldOffers}
 use Rattle.admit.specs.declared.HeldOffers.the-variants.{NoneAdmitted, Admitted}
-use Rattle.admit.specs.Admitting.{Arrays, arrays, admission, heldOffers, fits, admitted, offersOf, offersBelow}
+use Rattle.admit.specs.Admitting.{Arrays, arrays, admission, heldOffers, fits, admitted, offersOf, offersBelow, offersBefore}
 
 -- what the answer of an accelerator's offers says, by its cases
 pub none-told : (n h w m : ℕ) → heldOffers n h w m ≡ NoneAdmitted → n ≡ 0
@@ -57,11 +57,41 @@ module _ (l b y u : List ℕ) (a : ℕ) (d : Arrays) where
         ∙ ap (λ (r : Admission). arrays (set (d .waiting) a (r .waiting)) (set (d .admitted) a (r .admitted)) (set (d .held) a (r .held)) (raised (up 4 u (getD y a 0)) (r .count) (d .under)) (opened (up 4 u (getD y a 0)) (d .live))) (sym f)
         ∙ sym (offers-some e)
 
-module _ (l b y u : List ℕ) (d : Arrays) where
-  pub below-none : offersBelow l b y u 0 d ≡ d
-  unfolding offersBelow
-  below-none = refl
+-- the offers of k accelerators from number a on, the first of them first
+module _ (l b y u : List ℕ) where
+  unfoldable pub offersFrom : ℕ → ℕ → Arrays → Arrays
+  offersFrom zero a d = d
+  offersFrom (suc k) a d = offersFrom k (a + 1) (offersOf l b y u a d)
 
-  pub below-next : (n : ℕ) → offersBelow l b y u (n + 1) d ≡ offersOf l b y u n (offersBelow l b y u n d)
-  unfolding offersBelow
-  below-next n = ap (λ k. offersBelow l b y u k d) (add-one n)
+  -- one more at the end
+  from-next : (k a : ℕ) (d : Arrays) → offersFrom (suc k) a d ≡ offersOf l b y u (a + k) (offersFrom k a d)
+  unfolding offersFrom
+  from-next zero a d = let e : a ≡ a + 0 = omega arith in ap (λ i. offersOf l b y u i d) e
+  from-next (suc k) a d =
+      let e : a + 1 + k ≡ a + suc k = omega arith in
+      from-next k (a + 1) (offersOf l b y u a d) ∙ ap (λ i. offersOf l b y u i (offersFrom k (a + 1) (offersOf l b y u a d))) e
+
+  from-below : (n : ℕ) (d : Arrays) → offersFrom n 0 d ≡ offersBelow l b y u n d
+  unfolding offersFrom offersBelow
+  from-below zero d = refl
+  from-below (suc n) d =
+      let e : 0 + n ≡ n = omega arith in
+      from-next n 0 d ∙ ap₂ (offersOf l b y u) e (from-below n d)
+
+  pub from-none : (k a : ℕ) (d : Arrays) → k ≡ 0 → offersFrom k a d ≡ d
+  unfolding offersFrom
+  from-none k a d e = ap (λ i. offersFrom i a d) e
+
+  pub from-turn : (n k a : ℕ) (d : Arrays) → n ≡ suc k → offersFrom n a d ≡ offersFrom k (a + 1) (offersOf l b y u a d)
+  unfolding offersFrom
+  from-turn n k a d e = ap (λ i. offersFrom i a d) e
+
+  -- from the first that offers to the last, those are the offers before a slot
+  pub from-first : (e : Bool) (x n : ℕ) (d : Arrays)
+      → offersFrom (pick e n (min 255 (x + 1)) - pick e 0 x) (pick e 0 x) d ≡ offersBefore l b y u e x n d
+  unfolding offersFrom
+  from-first true x n d = let e : n - 0 ≡ n = omega arith in ap (λ k. offersFrom k 0 d) e ∙ from-below n d
+  from-first false x n d = elim (decLt x 255) [
+    | yes h ↦ let i : min 255 (x + 1) - x ≡ 1 = omega arith in ap (λ k. offersFrom k x d) i
+    | no h ↦ from-none (min 255 (x + 1) - x) x d (omega arith) ∙ sym (offers-unknown l b y u x d (omega arith))
+  ]

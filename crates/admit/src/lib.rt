@@ -1,8 +1,9 @@
 // The offers of a run before a slot, on the arrays that it keeps in place of a state.
 use counts::along::add_along;
 ghost use mathlib.Core.Path.{_≡_};
-ghost use Prim.Native.Nat.{_-_, min};
-ghost use Rattle.admit.specs.Admitting.{arrays, heldOffers, offersOf, offersBelow, offersBefore};
+ghost use Prim.Native.Nat.{_+_, _-_, min};
+ghost use Rattle.model.specs.Fold.{pick};
+ghost use Rattle.admit.specs.Admitting.{arrays, heldOffers, offersOf, offersBefore};
 
 // What is held, waiting and admitted once `count` of the held transactions are admitted.
 struct Admission {
@@ -84,40 +85,31 @@ fn offer_held(
     add_along(above, homes[i], x.count, under, live);
 }
 
-// The accelerators offer in rising number.
-fn offer_each(
-    accs: u8,
-    limits: &[u8; 32],
-    budgets: &[u16; 32],
-    homes: &[u16; 32],
-    above: &[u16; 15],
-    waiting: &mut [u8; 32],
-    admitted: &mut [u16; 32],
-    held: &mut [u32; 32],
-    under: &mut [u16; 120],
-    live: &mut [u8; 15],
-)
-    ensures { λ _. ⌜ arrays (now (waiting .exit)) (now (admitted .exit)) (now (held .exit)) (now (under .exit)) (now (live .exit)) ≡ offersBelow (now (limits .entry)) (now (budgets .entry)) (now (homes .entry)) (now (above .entry)) accs (arrays (now (waiting .entry)) (now (admitted .entry)) (now (held .entry)) (now (under .entry)) (now (live .entry))) ⌝ }
+// The first accelerator that offers.
+fn first_of(every: bool, served: u8) -> u8
+    ensures { λ r. ⌜ r ≡ pick every 0 served ⌝ }
 {
-    let mut a: u8 = 0;
-    while a < accs {
-        offer_held(
-            a,
-            limits,
-            budgets,
-            homes,
-            above,
-            waiting,
-            admitted,
-            held,
-            under,
-            live,
-        );
-        a += 1;
+    if every {
+        return 0;
     }
+    served
 }
 
-// The offers before a slot: of every accelerator, or only of the one served last, where no other may have more admitted.
+// The number after the last accelerator that offers.
+fn end_of(every: bool, served: u8, accs: u8) -> u8
+    ensures { λ r. ⌜ r ≡ pick every accs (min 255 (served + 1)) ⌝ }
+{
+    if every {
+        return accs;
+    }
+    if served == 255 {
+        return served;
+    }
+    served + 1
+}
+
+// The offers before a slot, in rising number: of every accelerator, or only of the one served last, where no other may have
+// more admitted.
 pub fn offer_before_slot<'a>(
     every: bool,
     served: u8,
@@ -134,9 +126,11 @@ pub fn offer_before_slot<'a>(
 )
     ensures { λ _. ⌜ arrays (now (waiting .exit)) (now (admitted .exit)) (now (held .exit)) (now (under .exit)) (now (live .exit)) ≡ offersBefore (now (limits .entry)) (now (budgets .entry)) (now (homes .entry)) (now (above .entry)) every served accs (arrays (now (waiting .entry)) (now (admitted .entry)) (now (held .entry)) (now (under .entry)) (now (live .entry))) ⌝ }
 {
-    if every {
-        offer_each(
-            accs,
+    let mut a = first_of(every, served);
+    let end = end_of(every, served, accs);
+    while a < end {
+        offer_held(
+            a,
             limits,
             budgets,
             homes,
@@ -147,18 +141,6 @@ pub fn offer_before_slot<'a>(
             under,
             live,
         );
-        return;
+        a += 1;
     }
-    offer_held(
-        served,
-        limits,
-        budgets,
-        homes,
-        above,
-        waiting,
-        admitted,
-        held,
-        under,
-        live,
-    );
 }
