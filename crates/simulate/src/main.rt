@@ -30,6 +30,13 @@ fn usage() {
     );
 }
 
+// Whether bytes can be read from an opened file: a directory opens, but a read of it fails.
+fn is_readable(fd: i32) -> bool {
+    let mut byte = [0u8; 1];
+    let none: &mut [u8] = &mut byte[..0];
+    0 <= fd && 0 <= libc::read(fd, none)
+}
+
 // Reads the file that argument i names, or says on standard error why it cannot be read.
 fn load(i: usize, buf: &mut [u8]) -> Loaded
     ensures { λ r. ⌜ r .bytes ≤ length (now (buf .exit)) ⌝ }
@@ -37,7 +44,7 @@ fn load(i: usize, buf: &mut [u8]) -> Loaded
     let mut name = [0u8; 4096];
     let n = os::arg(i, &mut name);
     let fd = os::open_read(&name[..n]);
-    if fd < 0 {
+    if !is_readable(fd) {
         os::fail(&name[..n]);
         return Loaded {
             ok: false,
