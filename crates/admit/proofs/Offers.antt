@@ -6,15 +6,16 @@ use mathlib.Core.Path.{_≡_, refl, sym, _∙_, ap, ap₂}
 use native.Mathlib.Omega.{arith}
 use native.Mathlib.Decide.{decLt}
 use lib.Dec.{ltb, eqb}
-use lib.ListN.{getD, set}
+use lib.ListN.{getD, set, take, drop}
+use lib.Seq.{getD-take, getD-drop, take-set-le, take-set-lt, drop-set-add, drop-set-lt}
 use borrow.Author.Tests.{lt-ltb, le-ltb, eq-eqb, ne-eqb, eqb-true, eqb-false}
 use Rattle.model.specs.Fold.{pick}
 use Rattle.model.proofs.Folds.{picked, passed}
-use Rattle.counts.specs.Counts.{up, raised, opened}
+use Rattle.counts.specs.Wiring.{limits, budgets}
+use Rattle.counts.specs.Counts.{lives, up, raised, opened}
 use Rattle.admit.specs.declared.Admission.{Admission}
-use Rattle.admit.specs.declared.HeldOffers.{HeldOffers}
 use Rattle.admit.specs.declared.HeldOffers.the-variants.{NoneAdmitted, Admitted}
-use Rattle.admit.specs.Admitting.{Arrays, arrays, admission, heldOffers, fits, admitted, offersOf, offersBelow, offersBefore}
+use Rattle.admit.specs.Admitting.{Arrays, arrays, waitings, admitteds, helds, arraysOf, admission, heldOffers, fits, admitted, offersOf, offersBelow, offersBefore}
 
 -- what the answer of an accelerator's offers says, by its cases
 pub none-told : (n h w m : ℕ) → heldOffers n h w m ≡ NoneAdmitted → n ≡ 0
@@ -56,6 +57,42 @@ module _ (l b y u : List ℕ) (a : ℕ) (d : Arrays) where
         ap₂ (arrays (set (d .waiting) a (x .waiting)) (set (d .admitted) a (x .admitted)) (set (d .held) a (x .held))) g i
         ∙ ap (λ (r : Admission). arrays (set (d .waiting) a (r .waiting)) (set (d .admitted) a (r .admitted)) (set (d .held) a (r .held)) (raised (up 4 u (getD y a 0)) (r .count) (d .under)) (opened (up 4 u (getD y a 0)) (d .live))) (sym f)
         ∙ sym (offers-some e)
+
+-- the counts of accelerator a, by the parts of the arrays
+module _ (b w : List ℕ) (a : ℕ) (h : a < 32) where
+  pub same-reads : heldOffers (min (getD b (64 + a) 0) (min (getD w (182 + a) 0 - getD b a 0) (getD w (214 + a) 0 - getD b (32 + a) 0))) (getD b (64 + a) 0) (getD b a 0) (getD b (32 + a) 0)
+      ≡ heldOffers (min (getD (helds b) a 0) (min (getD (limits w) a 0 - getD (waitings b) a 0) (getD (budgets w) a 0 - getD (admitteds b) a 0))) (getD (helds b) a 0) (getD (waitings b) a 0) (getD (admitteds b) a 0)
+  same-reads =
+      ap₂ (λ (x l : ℕ). heldOffers (min x (min (l - getD b a 0) (getD w (214 + a) 0 - getD b (32 + a) 0))) x (getD b a 0) (getD b (32 + a) 0)) (sym (getD-drop 64 b a 0)) (sym (getD-drop 182 w a 0))
+      ∙ ap₂ (λ (y m : ℕ). heldOffers (min (getD (helds b) a 0) (min (getD (limits w) a 0 - y) (m - getD b (32 + a) 0))) (getD (helds b) a 0) y (getD b (32 + a) 0)) (sym (getD-take 32 b a 0 h)) (sym (getD-drop 214 w a 0))
+      ∙ ap (λ (z : ℕ). heldOffers (min (getD (helds b) a 0) (min (getD (limits w) a 0 - getD (waitings b) a 0) (getD (budgets w) a 0 - z))) (getD (helds b) a 0) (getD (waitings b) a 0) z) (sym (getD-take 32 (drop 32 b) a 0 h ∙ getD-drop 32 b a 0))
+
+  module _ (x y z : ℕ) where
+    abbrev pub stored : List ℕ
+    stored = set (set (set b (64 + a) x) a y) (32 + a) z
+
+    pub stored-waiting : waitings stored ≡ set (waitings b) a y
+    stored-waiting =
+        take-set-le 32 (set (set b (64 + a) x) a y) (32 + a) z (omega arith) ∙ take-set-lt 32 (set b (64 + a) x) a y h
+        ∙ ap (λ (l : List ℕ). set l a y) (take-set-le 32 b (64 + a) x (omega arith))
+
+    pub stored-admitted : admitteds stored ≡ set (admitteds b) a z
+    stored-admitted =
+        let e : 64 + a ≡ 32 + (32 + a) = omega arith in
+        ap (take 32) (drop-set-add 32 (set (set b (64 + a) x) a y) a z)
+        ∙ take-set-lt 32 (drop 32 (set (set b (64 + a) x) a y)) a z h
+        ∙ ap (λ (l : List ℕ). set (take 32 l) a z) (drop-set-lt 32 (set b (64 + a) x) a y h ∙ ap (λ (k : ℕ). drop 32 (set b k x)) e ∙ drop-set-add 32 b (32 + a) x)
+        ∙ ap (λ (l : List ℕ). set l a z) (take-set-le 32 (drop 32 b) (32 + a) x (omega arith))
+
+    pub stored-held : helds stored ≡ set (helds b) a x
+    stored-held =
+        drop-set-lt 64 (set (set b (64 + a) x) a y) (32 + a) z (omega arith) ∙ drop-set-lt 64 (set b (64 + a) x) a y (omega arith)
+        ∙ drop-set-add 64 b a x
+
+    pub stored-arrays : (c r : List ℕ) → arraysOf stored c r ≡ arrays (set (waitings b) a y) (set (admitteds b) a z) (set (helds b) a x) c (lives r)
+    stored-arrays c r =
+        ap₂ (λ (i j : List ℕ). arrays i j (helds stored) c (lives r)) stored-waiting stored-admitted
+        ∙ ap (λ (i : List ℕ). arrays (set (waitings b) a y) (set (admitteds b) a z) i c (lives r)) stored-held
 
 -- the offers of k accelerators from number a on, the first of them first
 module _ (l b y u : List ℕ) where

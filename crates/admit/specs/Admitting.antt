@@ -3,6 +3,8 @@
 --
 -- Arrays                what waits, what is admitted and what is held for each accelerator, what waits under each port, and
 --                       the live ports; arrays w m h c v: these five
+-- waitings b, admitteds b, helds b   the counts of each accelerator in the array b of these, thirty-two each
+-- arraysOf b c r        the five in b, c and r, as a run holds them
 -- admission n h w m     n of the h held transactions admitted, beside w waiting and m admitted ones
 -- heldOffers n h w m    the same, or that none is admitted if n is 0
 -- fits l b a d          how many held transactions of accelerator a are admitted before one is refused: as many as it holds
@@ -16,9 +18,9 @@ use Prim.Native.Nat.{ℕ, zero, suc, _+_, _-_, min}
 use mathlib.Core.Bool.{Bool, _||_}
 use mathlib.Core.List.{List}
 use lib.Dec.{ltb, eqb}
-use lib.ListN.{getD, set}
+use lib.ListN.{getD, set, take, drop}
 use Rattle.model.specs.Fold.{pick}
-use Rattle.counts.specs.Counts.{up, raised, opened}
+use Rattle.counts.specs.Counts.{lives, up, raised, opened}
 use Rattle.admit.specs.declared.Admission.{Admission}
 use Rattle.admit.specs.declared.HeldOffers.{HeldOffers}
 use Rattle.admit.specs.declared.HeldOffers.the-variants.{NoneAdmitted, Admitted}
@@ -32,6 +34,18 @@ pub record Arrays : Type 0 where
 
 abbrev pub arrays : (w m h c v : List ℕ) → Arrays
 arrays w m h c v = record { waiting = w; admitted = m; held = h; under = c; live = v }
+
+abbrev pub waitings : List ℕ → List ℕ
+waitings b = take 32 b
+
+abbrev pub admitteds : List ℕ → List ℕ
+admitteds b = take 32 (drop 32 b)
+
+abbrev pub helds : List ℕ → List ℕ
+helds b = drop 64 b
+
+abbrev pub arraysOf : (b c r : List ℕ) → Arrays
+arraysOf b c r = arrays (waitings b) (admitteds b) (helds b) c (lives r)
 
 abbrev pub admission : (n h w m : ℕ) → Admission
 admission n h w m = record { count = n; held = h - n; waiting = w + n; admitted = m + n }

@@ -1,16 +1,26 @@
 // The offers of a run before a slot, on the arrays that it keeps in place of a state.
+use counts::BUDGET;
+use counts::HOME;
+use counts::LIMIT;
 use counts::along::add_along;
 ghost use mathlib.Core.Path.{_≡_};
 ghost use Prim.Native.Nat.{_+_, _-_, min};
 ghost use Rattle.model.specs.Fold.{pick};
-ghost use Rattle.admit.specs.Admitting.{arrays, heldOffers, offersOf, offersBefore};
+ghost use lib.ListN.{take};
+ghost use Rattle.counts.specs.Wiring.{limits, budgets, homes, aboves};
+ghost use Rattle.admit.specs.Admitting.{arraysOf, heldOffers, offersOf, offersBefore};
+
+// In the array of the counts of each accelerator, after the waiting counts: the admitted counts.
+pub const ADMITTED: usize = 32;
+// The held counts.
+pub const HELD: usize = 64;
 
 // What is held, waiting and admitted once `count` of the held transactions are admitted.
 struct Admission {
-    count: u8,
+    count: u16,
     held: u32,
-    waiting: u8,
-    admitted: u16,
+    waiting: u32,
+    admitted: u32,
 }
 
 // What the offers of one accelerator before a slot come to.
@@ -39,50 +49,52 @@ fn rest(limit: u32, count: u32) -> u32
 }
 
 // The offers of one accelerator: as many of the held transactions are admitted as are admitted one by one before one is refused.
-fn admit_held(held: u32, limit: u8, waiting: u8, budget: u16, admitted: u16) -> HeldOffers
+fn admit_held(held: u32, limit: u16, waiting: u32, budget: u16, admitted: u32) -> HeldOffers
     ensures { λ r. ⌜ r ≡ heldOffers (min held (min (limit - waiting) (budget - admitted))) held waiting admitted ⌝ }
 {
-    let outstanding = rest(limit as u32, waiting as u32);
-    let unspent = rest(budget as u32, admitted as u32);
+    let outstanding = rest(limit as u32, waiting);
+    let unspent = rest(budget as u32, admitted);
     let n = smaller(held, smaller(outstanding, unspent));
     if n == 0 {
         return HeldOffers::NoneAdmitted;
     }
     HeldOffers::Admitted(Admission {
-        count: n as u8,
+        count: n as u16,
         held: held - n,
-        waiting: waiting + n as u8,
-        admitted: admitted + n as u16,
+        waiting: waiting + n,
+        admitted: admitted + n,
     })
 }
 
 // Accelerator a offers its held transactions until one is refused, which stays held, or none is left.
 fn offer_held(
     a: u8,
-    limits: &[u8; 32],
-    budgets: &[u16; 32],
-    homes: &[u16; 32],
-    above: &[u16; 15],
-    waiting: &mut [u8; 32],
-    admitted: &mut [u16; 32],
-    held: &mut [u32; 32],
+    wires: &[u16; 246],
+    blocks: &mut [u32; 96],
     under: &mut [u16; 120],
-    live: &mut [u8; 15],
+    turns: &mut [u8; 45],
 )
-    ensures { λ _. ⌜ arrays (now (waiting .exit)) (now (admitted .exit)) (now (held .exit)) (now (under .exit)) (now (live .exit)) ≡ offersOf (now (limits .entry)) (now (budgets .entry)) (now (homes .entry)) (now (above .entry)) a (arrays (now (waiting .entry)) (now (admitted .entry)) (now (held .entry)) (now (under .entry)) (now (live .entry))) ⌝ }
+    ensures offers { λ _. ⌜ arraysOf (now (blocks .exit)) (now (under .exit)) (now (turns .exit)) ≡ offersOf (limits (now (wires .entry))) (budgets (now (wires .entry))) (homes (now (wires .entry))) (aboves (now (wires .entry))) a (arraysOf (now (blocks .entry)) (now (under .entry)) (now (turns .entry))) ⌝ }
+    ensures rest { λ _. ⌜ take 30 (now (turns .exit)) ≡ take 30 (now (turns .entry)) ⌝ }
 {
     let i = a as usize;
     if 31 < i {
         return;
     }
-    let offers = admit_held(held[i], limits[i], waiting[i], budgets[i], admitted[i]);
+    let offers = admit_held(
+        blocks[HELD + i],
+        wires[LIMIT + i],
+        blocks[i],
+        wires[BUDGET + i],
+        blocks[ADMITTED + i],
+    );
     let HeldOffers::Admitted(x) = offers else {
         return;
     };
-    held[i] = x.held;
-    waiting[i] = x.waiting;
-    admitted[i] = x.admitted;
-    add_along(above, homes[i], x.count, under, live);
+    blocks[HELD + i] = x.held;
+    blocks[i] = x.waiting;
+    blocks[ADMITTED + i] = x.admitted;
+    add_along(wires, wires[HOME + i], x.count, under, turns);
 }
 
 // The first accelerator that offers.
@@ -110,37 +122,22 @@ fn end_of(every: bool, served: u8, accs: u8) -> u8
 
 // The offers before a slot, in rising number: of every accelerator, or only of the one served last, where no other may have
 // more admitted.
-pub fn offer_before_slot<'a>(
+pub fn offer_before_slot(
     every: bool,
     served: u8,
     accs: u8,
-    limits: &'a [u8; 32],
-    budgets: &'a [u16; 32],
-    homes: &'a [u16; 32],
-    above: &'a [u16; 15],
-    waiting: &mut [u8; 32],
-    admitted: &mut [u16; 32],
-    held: &mut [u32; 32],
+    wires: &[u16; 246],
+    blocks: &mut [u32; 96],
     under: &mut [u16; 120],
-    live: &mut [u8; 15],
+    turns: &mut [u8; 45],
 )
-    ensures { λ _. ⌜ arrays (now (waiting .exit)) (now (admitted .exit)) (now (held .exit)) (now (under .exit)) (now (live .exit)) ≡ offersBefore (now (limits .entry)) (now (budgets .entry)) (now (homes .entry)) (now (above .entry)) every served accs (arrays (now (waiting .entry)) (now (admitted .entry)) (now (held .entry)) (now (under .entry)) (now (live .entry))) ⌝ }
+    ensures offers { λ _. ⌜ arraysOf (now (blocks .exit)) (now (under .exit)) (now (turns .exit)) ≡ offersBefore (limits (now (wires .entry))) (budgets (now (wires .entry))) (homes (now (wires .entry))) (aboves (now (wires .entry))) every served accs (arraysOf (now (blocks .entry)) (now (under .entry)) (now (turns .entry))) ⌝ }
+    ensures rest { λ _. ⌜ take 30 (now (turns .exit)) ≡ take 30 (now (turns .entry)) ⌝ }
 {
     let mut a = first_of(every, served);
     let end = end_of(every, served, accs);
     while a < end {
-        offer_held(
-            a,
-            limits,
-            budgets,
-            homes,
-            above,
-            waiting,
-            admitted,
-            held,
-            under,
-            live,
-        );
+        offer_held(a, wires, blocks, under, turns);
         a += 1;
     }
 }

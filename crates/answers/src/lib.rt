@@ -46,6 +46,7 @@ pub struct Row {
     pub period: u64,
 }
 
+// Whether the file is accepted.
 pub fn is_accepted(answer: FileAnswer) -> bool
     ensures { λ r. ⌜ r ≡ isAccepted answer ⌝ }
 {
@@ -56,6 +57,7 @@ pub fn is_accepted(answer: FileAnswer) -> bool
     }
 }
 
+// Which file is refused: `file`, or 0 where it is accepted.
 fn file_refused(file: u8, answer: FileAnswer) -> u8
     ensures { λ r. ⌜ r ≡ fileRefused file answer ⌝ }
 {
@@ -65,6 +67,7 @@ fn file_refused(file: u8, answer: FileAnswer) -> u8
     file
 }
 
+// What a reader answers of that file.
 pub fn reading_of(file: u8, answer: FileAnswer) -> Reading
     ensures { λ r. ⌜ r ≡ readingOf file answer ⌝ }
 {
@@ -75,6 +78,7 @@ pub fn reading_of(file: u8, answer: FileAnswer) -> Reading
     }
 }
 
+// How a run ended.
 pub fn outcome_of(answer: RunAnswer) -> Outcome
     ensures { λ r. ⌜ r ≡ outcomeOf (runMeans answer) ⌝ }
 {
@@ -106,6 +110,7 @@ pub fn outcome_of(answer: RunAnswer) -> Outcome
     }
 }
 
+// A run that does not begin, because the tree is refused.
 pub fn tree_refused(answer: FileAnswer) -> Outcome
     ensures { λ r. ⌜ r ≡ treeRefused answer ⌝ }
 {
@@ -117,6 +122,7 @@ pub fn tree_refused(answer: FileAnswer) -> Outcome
     }
 }
 
+// No bounds: refused by that number, at that line.
 pub fn unbounded(number: u8, line: u32) -> Row
     ensures { λ r. ⌜ r ≡ unbounded number line ⌝ }
 {
@@ -133,6 +139,7 @@ pub fn unbounded(number: u8, line: u32) -> Row
     }
 }
 
+// The bounds of an accelerator.
 pub fn row_of(answer: BoundAnswer) -> Row
     ensures { λ r. ⌜ r ≡ rowOf (meaningOf answer) ⌝ }
 {

@@ -6,7 +6,8 @@ use mathlib.Core.List.{List}
 use mathlib.Core.Logic.{_⊎_, inl, inr}
 use mathlib.Core.Path.{_≡_, refl, sym, _∙_, ap, ap₂, subst}
 use native.Mathlib.Omega.{arith}
-use lib.ListN.{getD, set}
+use lib.ListN.{getD, set, drop}
+use lib.Seq.{getD-take, getD-drop}
 use lib.Dec.{ltb, eqb}
 use borrow.Author.Tests.{ltb-true, ltb-false, eqb-true, eqb-false}
 use Rattle.model.specs.declared.Tree.{Tree}
@@ -14,7 +15,7 @@ use Rattle.model.specs.declared.State.{State}
 use Rattle.model.specs.declared.Port.{Port}
 use Rattle.model.specs.declared.Port.the-variants.{Empty, Acc, Int}
 use Rattle.model.specs.Fold.{pick}
-use Rattle.model.specs.Tree.{portOf, waitingOf, lastOf, allowanceOf}
+use Rattle.model.specs.Tree.{portOf, granularityOf, waitingOf, lastOf, allowanceOf}
 use Rattle.model.specs.Beneath.{under, inside}
 use Rattle.rules.proofs.Sound.{Sound, Kept}
 use Rattle.rules.proofs.Beneath.{at-port, child-level, settled}
@@ -23,7 +24,8 @@ use Rattle.turns.proofs.Next.{bits-bound}
 use Rattle.turns.proofs.Descent.{Turn, turn}
 use Rattle.machine.proofs.Cases.{sound-of, kept-of}
 use Rattle.turns.proofs.Steps.{who-none, after-none, who-step, after-step}
-use Rattle.counts.specs.Wiring.{portNumber, carriedNumber}
+use Rattle.counts.specs.Wiring.{portNumber, carriedNumber, grants}
+use Rattle.counts.specs.Counts.{lasts, allowances, lives}
 use Rattle.counts.specs.Choice.{Board, Chosen, Chooses}
 
 -- the port of a turn and its allowance, read from the arrays
@@ -31,7 +33,26 @@ abbrev pub portFrom : (n v l o : List ℕ) (j : ℕ) → ℕ
 portFrom n v l o j = pick (ltb 0 (getD o j 0)) (getD l j 0) (getD n (getD v j 0 * 8 + getD l j 0 % 8) 0)
 
 abbrev pub allowanceFrom : (g u o : List ℕ) (j p : ℕ) → ℕ
-allowanceFrom g u o j p = pick (ltb 0 (getD o j 0)) (getD o j 0) (min (getD g j 0) (getD u (portNumber j p) 0))
+allowanceFrom g u o j p = pick (ltb 0 (getD o j 0)) (getD o j 0) (min (getD g j 0 % 256) (getD u (portNumber j p) 0))
+
+-- the same, read from the array of last ports, allowances and live ports, and from the table
+module _ (n w u r : List ℕ) (j : ℕ) (h : j < 15) where
+  last-at : getD r j 0 ≡ getD (lasts r) j 0
+  last-at = sym (getD-take 15 r j 0 h)
+
+  allowance-at : getD r (15 + j) 0 ≡ getD (allowances r) j 0
+  allowance-at = sym (getD-take 15 (drop 15 r) j 0 h ∙ getD-drop 15 r j 0)
+
+  pub port-parts : pick (ltb 0 (getD r (15 + j) 0)) (getD r j 0) (getD n (getD r (30 + j) 0 * 8 + getD r j 0 % 8) 0)
+      ≡ portFrom n (lives r) (lasts r) (allowances r) j
+  port-parts =
+      ap₂ (λ (a v : ℕ). pick (ltb 0 a) (getD r j 0) (getD n (v * 8 + getD r j 0 % 8) 0)) allowance-at (sym (getD-drop 30 r j 0))
+      ∙ ap (λ (l : ℕ). pick (ltb 0 (getD (allowances r) j 0)) l (getD n (getD (lives r) j 0 * 8 + l % 8) 0)) last-at
+
+  pub allowance-parts : (p : ℕ) → pick (ltb 0 (getD r (15 + j) 0)) (getD r (15 + j) 0) (min (getD w (120 + j) 0 % 256) (getD u (portNumber j p) 0))
+      ≡ allowanceFrom (grants w) u (allowances r) j p
+  allowance-parts p =
+      ap₂ (λ (a g : ℕ). pick (ltb 0 a) a (min (g % 256) (getD u (portNumber j p) 0))) allowance-at (sym (getD-drop 120 w j 0))
 
 either : (a b : Bool) → (a || b) ≡ true → (a ≡ true) ⊎ (b ≡ true)
 either true b e = inl refl
@@ -117,11 +138,14 @@ module _ (t : Tree) (s : State) (n c g u v l o : List ℕ) (B : Board t s n c g 
       ap (λ (a : ℕ). pick (ltb 0 a) (getD l j 0) (getD n (getD v j 0 * 8 + getD l j 0 % 8) 0)) allowance-same
       ∙ ap₂ (λ (x y : ℕ). pick (goesOn s j) x y) last-same next-same
 
+  granted-same : getD g j 0 % 256 ≡ granularityOf t j
+  granted-same = omega (arith, B .ports .granted j (omega (arith, S .most-ints)), S .granularity j h .1)
+
   allowance-from : allowanceFrom g u o j (turnPort t s j) ≡ turnAllowance t s j
   unfolding turnAllowance
   allowance-from =
-      ap (λ (a : ℕ). pick (ltb 0 a) a (min (getD g j 0) (getD u (portNumber j (turnPort t s j)) 0))) allowance-same
-      ∙ ap₂ (λ (x y : ℕ). pick (goesOn s j) (allowanceOf s j) (min x y)) (B .ports .granted j (omega (arith, S .most-ints)))
+      ap (λ (a : ℕ). pick (ltb 0 a) a (min (getD g j 0 % 256) (getD u (portNumber j (turnPort t s j)) 0))) allowance-same
+      ∙ ap₂ (λ (x y : ℕ). pick (goesOn s j) (allowanceOf s j) (min x y)) granted-same
       (B .counts .count j (turnPort t s j) h (T .port))
 
   read : {p a x : ℕ} → p ≡ portFrom n v l o j → (portNumber j p < 120 → a ≡ allowanceFrom g u o j p)

@@ -4,6 +4,8 @@
 -- Counted t w u v       u has the sum of the weight w beneath each port of t, and v the set of the ports of each
 --                       interconnect beneath which it is above 0; with what waits for the weight: the number waiting
 --                       under each port, and the live ports
+-- lasts r, allowances r, lives r   the last port, the allowance and the live ports of each interconnect, in the array r of
+--                       these, fifteen each
 -- up n u c              the ports from port number c on up to the root, at most n of them, where u has the port above
 --                       each interconnect
 -- withPort v p          the set v with port p in it; withoutPort v p: the set v without port p
@@ -15,7 +17,7 @@
 use Prim.Native.Nat.{ℕ, zero, suc, _+_, _-_, _/_, _%_, _^_, _<_}
 use mathlib.Core.List.{List, [], _∷_}
 use mathlib.Core.Path.{_≡_}
-use lib.ListN.{getD, set, length}
+use lib.ListN.{getD, set, length, take, drop}
 use lib.Dec.{ltb, eqb}
 use Rattle.model.specs.declared.Tree.{Tree}
 use Rattle.model.specs.Fold.{pick}
@@ -28,6 +30,15 @@ pub record Counted (t : Tree) (w : ℕ → ℕ) (u v : List ℕ) : Type 0 where
   pub sets-size : length v ≡ 15
   pub count : (j p : ℕ) → j < t .ints → p < 8 → getD u (portNumber j p) 0 ≡ weightUnder t w j p
   pub live : (j : ℕ) → j < t .ints → getD v j 0 ≡ bitsBelow 8 (λ p. ltb 0 (weightUnder t w j p))
+
+abbrev pub lasts : List ℕ → List ℕ
+lasts r = take 15 r
+
+abbrev pub allowances : List ℕ → List ℕ
+allowances r = take 15 (drop 15 r)
+
+abbrev pub lives : List ℕ → List ℕ
+lives r = drop 30 r
 
 unfoldable pub up : ℕ → List ℕ → ℕ → List ℕ
 up zero u c = []

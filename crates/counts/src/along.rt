@@ -1,9 +1,13 @@
 // The counts and the live ports brought up to date along a path, from a port up to the root.
+use crate::ABOVE;
+use crate::LIVE;
 ghost use mathlib.Core.Path.{_≡_};
 ghost use Prim.Native.Nat.{_+_, _%_, _-_};
 ghost use lib.Dec.{eqb};
 ghost use Rattle.model.specs.Fold.{pick};
-ghost use Rattle.counts.specs.Counts.{up, withPort, withoutPort, raised, opened, lowered, closed};
+ghost use lib.ListN.{take};
+ghost use Rattle.counts.specs.Wiring.{aboves};
+ghost use Rattle.counts.specs.Counts.{lives, up, withPort, withoutPort, raised, opened, lowered, closed};
 
 // The set with port p in it.
 fn with_port(set: u8, p: u8) -> u8
@@ -33,7 +37,7 @@ fn less_one(n: u16) -> u16
 }
 
 // The count with n more, as 16 bits hold it.
-fn more(waiting: u16, n: u8) -> u16
+fn more(waiting: u16, n: u16) -> u16
     ensures { λ r. ⌜ r ≡ (waiting + n) % 65536 ⌝ }
 {
     ((waiting as u32 + n as u32) % 65536) as u16
@@ -47,9 +51,15 @@ fn wide(c: u16) -> usize
 }
 
 // n more wait under the ports from `place` up to the root.
-pub fn add_along(above: &[u16; 15], place: u16, n: u8, under: &mut [u16; 120], live: &mut [u8; 15])
-    ensures counts { λ _. ⌜ now (under .exit) ≡ raised (up 4 (now (above .entry)) place) n (now (under .entry)) ⌝ }
-    ensures sets { λ _. ⌜ now (live .exit) ≡ opened (up 4 (now (above .entry)) place) (now (live .entry)) ⌝ }
+pub fn add_along(
+    wires: &[u16; 246],
+    place: u16,
+    n: u16,
+    under: &mut [u16; 120],
+    turns: &mut [u8; 45],
+)
+    ensures counts { λ _. ⌜ now (under .exit) ≡ raised (up 4 (aboves (now (wires .entry))) place) n (now (under .entry)) ⌝ }
+    ensures sets { λ _. ⌜ (lives (now (turns .exit)) ≡ opened (up 4 (aboves (now (wires .entry))) place) (lives (now (turns .entry)))) × (take 30 (now (turns .exit)) ≡ take 30 (now (turns .entry))) ⌝ }
 {
     let mut c = place as usize;
     let mut left: u8 = 4;
@@ -59,19 +69,19 @@ pub fn add_along(above: &[u16; 15], place: u16, n: u8, under: &mut [u16; 120], l
         }
         let j = c / 8;
         under[c] = more(under[c], n);
-        live[j] = with_port(live[j], (c % 8) as u8);
+        turns[LIVE + j] = with_port(turns[LIVE + j], (c % 8) as u8);
         if j == 0 {
             return;
         }
-        c = wide(above[j]);
+        c = wide(wires[ABOVE + j]);
         left -= 1;
     }
 }
 
 // One less waits under the ports from `place` up to the root.
-pub fn take_along(above: &[u16; 15], place: u16, under: &mut [u16; 120], live: &mut [u8; 15])
-    ensures counts { λ _. ⌜ now (under .exit) ≡ lowered (up 4 (now (above .entry)) place) (now (under .entry)) ⌝ }
-    ensures sets { λ _. ⌜ now (live .exit) ≡ closed (up 4 (now (above .entry)) place) (now (under .entry)) (now (live .entry)) ⌝ }
+pub fn take_along(wires: &[u16; 246], place: u16, under: &mut [u16; 120], turns: &mut [u8; 45])
+    ensures counts { λ _. ⌜ now (under .exit) ≡ lowered (up 4 (aboves (now (wires .entry))) place) (now (under .entry)) ⌝ }
+    ensures sets { λ _. ⌜ (lives (now (turns .exit)) ≡ closed (up 4 (aboves (now (wires .entry))) place) (now (under .entry)) (lives (now (turns .entry)))) × (take 30 (now (turns .exit)) ≡ take 30 (now (turns .entry))) ⌝ }
 {
     let mut c = place as usize;
     let mut left: u8 = 4;
@@ -82,11 +92,11 @@ pub fn take_along(above: &[u16; 15], place: u16, under: &mut [u16; 120], live: &
         let j = c / 8;
         let waiting = less_one(under[c]);
         under[c] = waiting;
-        live[j] = if_waiting(live[j], (c % 8) as u8, waiting);
+        turns[LIVE + j] = if_waiting(turns[LIVE + j], (c % 8) as u8, waiting);
         if j == 0 {
             return;
         }
-        c = wide(above[j]);
+        c = wide(wires[ABOVE + j]);
         left -= 1;
     }
 }

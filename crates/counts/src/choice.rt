@@ -1,4 +1,7 @@
 // The choice of a slot from the kept counts: no sum is taken anew.
+use crate::ALLOWANCE;
+use crate::GRANULARITY;
+use crate::LIVE;
 use turns::Turn;
 use turns::grant;
 use turns::less_one;
@@ -8,7 +11,8 @@ ghost use Prim.Native.Nat.{_+_, _*_, _-_, _%_, _<_, min};
 ghost use lib.Dec.{ltb};
 ghost use lib.ListN.{getD, set};
 ghost use Rattle.model.specs.Fold.{pick};
-ghost use Rattle.counts.specs.Wiring.{portNumber};
+ghost use Rattle.counts.specs.Wiring.{portNumber, grants};
+ghost use Rattle.counts.specs.Counts.{lasts, allowances, lives};
 ghost use Rattle.counts.specs.Choice.{Chooses};
 
 // What waits under port p of interconnect j; nothing is said of a port past the last one.
@@ -23,12 +27,12 @@ fn count_at(under: &[u16; 120], j: u8, p: u8) -> u16
 }
 
 // What port p of interconnect j carries; nothing is said of a port past the last one.
-fn carried_at(carries: &[u16; 120], j: u8, p: u8) -> u16
-    ensures { λ r. ⌜ (portNumber j p < 120 → r ≡ getD (now (carries .entry)) (portNumber j p) 0) ⌝ }
+fn carried_at(wires: &[u16; 246], j: u8, p: u8) -> u16
+    ensures { λ r. ⌜ (portNumber j p < 120 → r ≡ getD (now (wires .entry)) (portNumber j p) 0) ⌝ }
 {
     let c = j as usize * 8 + p as usize;
     if c < 120 {
-        return carries[c];
+        return wires[c];
     }
     0
 }
@@ -60,53 +64,49 @@ fn turn_of(
 }
 
 // Takes one off the allowance of the turn at interconnect j.
-fn take_turn(last: &mut [u8; 15], allowance: &mut [u8; 15], j: u8, port: u8, left: u8)
+fn take_turn(turns: &mut [u8; 45], j: u8, port: u8, left: u8)
     requires { ⌜ j < 15 ⌝ }
-    ensures port { λ _. ⌜ now (last .exit) ≡ set (now (last .entry)) j port ⌝ }
-    ensures left { λ _. ⌜ now (allowance .exit) ≡ set (now (allowance .entry)) j (left - 1) ⌝ }
+    ensures { λ _. ⌜ now (turns .exit) ≡ set (set (now (turns .entry)) j port) (15 + j) (left - 1) ⌝ }
 {
     let i = j as usize;
-    last[i] = port;
-    allowance[i] = less_one(left);
+    turns[i] = port;
+    turns[ALLOWANCE + i] = less_one(left);
 }
 
 // The choice from interconnect j, over at most `levels` levels: the accelerator served, 255 for none. The last ports and
 // the allowances on the way down are brought up to date. Something waits under the port of a turn, so that it is not empty.
 pub fn choose(
     next: &[u8; 2048],
-    carries: &[u16; 120],
-    grants: &[u8; 15],
+    wires: &[u16; 246],
     under: &[u16; 120],
-    live: &[u8; 15],
     levels: u8,
     j: u8,
-    last: &mut [u8; 15],
-    allowance: &mut [u8; 15],
+    turns: &mut [u8; 45],
 ) -> u8
-    ensures { λ r. ⌜ Chooses (now (next .entry)) (now (carries .entry)) (now (grants .entry)) (now (under .entry)) (now (live .entry)) levels j (now (last .entry)) (now (allowance .entry)) r (now (last .exit)) (now (allowance .exit)) ⌝ }
+    ensures chosen { λ r. ⌜ Chooses (now (next .entry)) (now (wires .entry)) (grants (now (wires .entry))) (now (under .entry)) (lives (now (turns .entry))) levels j (lasts (now (turns .entry))) (allowances (now (turns .entry))) r (lasts (now (turns .exit))) (allowances (now (turns .exit))) ⌝ }
+    ensures sets { λ r. ⌜ lives (now (turns .exit)) ≡ lives (now (turns .entry)) ⌝ }
 {
     let i = j as usize;
     if (levels == 0) | (14 < i) {
         return 255;
     }
-    let turn = turn_of(next, under, j, grants[i], live[i], last[i], allowance[i]);
-    let carried = carried_at(carries, j, turn.port);
+    let granularity = (wires[GRANULARITY + i] % 256) as u8;
+    let turn = turn_of(
+        next,
+        under,
+        j,
+        granularity,
+        turns[LIVE + i],
+        turns[i],
+        turns[ALLOWANCE + i],
+    );
+    let carried = carried_at(wires, j, turn.port);
     if carried < 256 {
-        take_turn(last, allowance, j, turn.port, turn.allowance);
+        take_turn(turns, j, turn.port, turn.allowance);
         return carried as u8;
     }
     let below = ((carried - 256) % 256) as u8;
-    let served = choose(
-        next,
-        carries,
-        grants,
-        under,
-        live,
-        levels - 1,
-        below,
-        last,
-        allowance,
-    );
-    take_turn(last, allowance, j, turn.port, turn.allowance);
+    let served = choose(next, wires, under, levels - 1, below, turns);
+    take_turn(turns, j, turn.port, turn.allowance);
     served
 }

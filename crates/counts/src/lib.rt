@@ -1,16 +1,23 @@
 // What a run keeps beside the state, so that a slot costs one path and not the whole tree: what a slot reads of the
 // configuration as plain numbers, what waits under each port, and the live ports of each interconnect.
+//
+// The parts of an array lie one after another; the constants say where each but the first begins.
 pub mod along;
 pub mod choice;
 pub mod tables;
 
-// What a slot reads of a configuration: what each port carries, the granularities, the port above each interconnect and
-// above each accelerator, the outstanding limits and the budgets.
-pub struct Wiring {
-    pub carries: [u16; 120],
-    pub grants: [u8; 15],
-    pub above: [u16; 15],
-    pub homes: [u16; 32],
-    pub limits: [u8; 32],
-    pub budgets: [u16; 32],
-}
+// In the table of a configuration, after what each port carries: the granularities.
+pub const GRANULARITY: usize = 120;
+// The port above each interconnect.
+pub const ABOVE: usize = 135;
+// The port of each accelerator.
+pub const HOME: usize = 150;
+// The outstanding limits.
+pub const LIMIT: usize = 182;
+// The budgets.
+pub const BUDGET: usize = 214;
+
+// In the array of the turns, after the last ports: the allowances.
+pub const ALLOWANCE: usize = 15;
+// The sets of live ports.
+pub const LIVE: usize = 30;

@@ -1,12 +1,17 @@
 // The wiring of a configuration.
-use crate::Wiring;
+use crate::ABOVE;
+use crate::BUDGET;
+use crate::GRANULARITY;
+use crate::HOME;
+use crate::LIMIT;
 use model::Port;
 use model::Tree;
 use model::access::accelerator_at;
 use model::access::interconnect_at;
 use model::access::port_at;
 ghost use mathlib.Core.Path.{_≡_};
-ghost use Rattle.counts.specs.Wiring.{portNumber, carriedNumber, Carries, Ports, Lanes, Limits};
+ghost use Prim.Native.Nat.{_<_};
+ghost use Rattle.counts.specs.Wiring.{portNumber, carriedNumber, wireOf, Wired};
 
 fn carried_number(port: Port) -> u16
     ensures { λ r. ⌜ r ≡ carriedNumber port ⌝ }
@@ -24,52 +29,44 @@ fn port_number(j: u8, p: u8) -> u16
     j as u16 * 8 + p as u16
 }
 
-// What each port carries, eight ports to an interconnect.
-fn carries_of(t: Tree) -> [u16; 120]
-    ensures { λ r. ⌜ Carries t r ⌝ }
+// Entry n of the table.
+fn wire_at(t: Tree, n: usize) -> u16
+    requires { ⌜ n < 246 ⌝ }
+    ensures { λ r. ⌜ r ≡ wireOf t n ⌝ }
 {
-    let mut carries = [0u16; 120];
-    let mut c: usize = 0;
-    while c < 120 {
-        carries[c] = carried_number(port_at(t, (c / 8) as u8, (c % 8) as u8));
-        c += 1;
+    if n < GRANULARITY {
+        return carried_number(port_at(t, (n / 8) as u8, (n % 8) as u8));
     }
-    carries
+    if n < HOME {
+        if n < ABOVE {
+            let x = interconnect_at(t, (n - GRANULARITY) as u8);
+            return x.granularity as u16;
+        }
+        let x = interconnect_at(t, (n - ABOVE) as u8);
+        return port_number(x.parent, x.port);
+    }
+    if n < LIMIT {
+        let x = accelerator_at(t, (n - HOME) as u8);
+        return port_number(x.interconnect, x.port);
+    }
+    if n < BUDGET {
+        let x = accelerator_at(t, (n - LIMIT) as u8);
+        return x.phi as u16;
+    }
+    let x = accelerator_at(t, (n - BUDGET) as u8);
+    x.budget
 }
 
-// What a slot reads of the configuration.
-pub fn wiring_of(t: Tree) -> Wiring
-    ensures { λ r. ⌜ Ports t (r .carries) (r .grants) × Lanes t (r .above) (r .homes) × Limits t (r .limits) (r .budgets) ⌝ }
+// What a slot reads of the configuration: what each port carries, the granularities, the port above each interconnect and
+// above each accelerator, the outstanding limits and the budgets.
+pub fn wires_of(t: Tree) -> [u16; 246]
+    ensures { λ r. ⌜ Wired t r ⌝ }
 {
-    let carries = carries_of(t);
-    let mut grants = [0u8; 15];
-    let mut above = [0u16; 15];
-    let mut j: u8 = 0;
-    while j < 15 {
-        let i = j as usize;
-        let x = interconnect_at(t, j);
-        grants[i] = x.granularity;
-        above[i] = port_number(x.parent, x.port);
-        j += 1;
+    let mut wires = [0u16; 246];
+    let mut n: usize = 0;
+    while n < 246 {
+        wires[n] = wire_at(t, n);
+        n += 1;
     }
-    let mut homes = [0u16; 32];
-    let mut limits = [0u8; 32];
-    let mut budgets = [0u16; 32];
-    let mut a: u8 = 0;
-    while a < 32 {
-        let i = a as usize;
-        let x = accelerator_at(t, a);
-        homes[i] = port_number(x.interconnect, x.port);
-        limits[i] = x.phi;
-        budgets[i] = x.budget;
-        a += 1;
-    }
-    Wiring {
-        carries: carries,
-        grants: grants,
-        above: above,
-        homes: homes,
-        limits: limits,
-        budgets: budgets,
-    }
+    wires
 }

@@ -1,6 +1,6 @@
 -- Computed from the definitions: a refused offer has no place in the queue, a refused slot is no slot, and what one window
 -- admits does not count in the next.
-use mathlib.Core.List.{List, [], _∷_}
+use mathlib.Core.List.{[], _∷_}
 use mathlib.Core.Path.{_≡_, refl}
 use Rattle.machine.specs.Machine.{admitted, served, refused}
 use Rattle.machine.specs.Calls.{offer, slot}

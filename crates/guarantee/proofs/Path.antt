@@ -6,7 +6,7 @@
 -- waitAlong t s xs w    the slots until the w-th service beneath the first of the crossings xs, as their turns stand in
 --                       state s: the wait at each crossing is what is counted at the crossing above it
 -- waitOf t s a m        the slots until the m-th of the transactions of accelerator a is served, at most
-use Prim.Native.Nat.{ℕ, zero, suc, _+_, _*_, _≤_, _<_}
+use Prim.Native.Nat.{ℕ, suc, _+_, _*_, _≤_, _<_}
 use mathlib.Core.List.{List, [], _∷_}
 use mathlib.Core.Logic.{_⊎_, inl, inr}
 use mathlib.Core.Path.{_≡_, refl, _∙_, ap, subst}

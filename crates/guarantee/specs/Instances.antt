@@ -23,7 +23,7 @@ use mathlib.Core.Path.{_≡_}
 use lib.ListN.{length, replicate}
 use Rattle.model.specs.declared.Tree.{Tree}
 use Rattle.model.specs.declared.State.{State}
-use Rattle.model.specs.declared.Port.the-variants.{Empty, Acc, Int}
+use Rattle.model.specs.declared.Port.the-variants.{Acc, Int}
 use Rattle.model.specs.Tree.{budgetOf}
 use Rattle.rules.specs.Rules.{keeps}
 use Rattle.machine.specs.Machine.{served, refused, freshState}

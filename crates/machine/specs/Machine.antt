@@ -21,7 +21,7 @@
 -- serve t s            the state once the chosen accelerator's oldest transaction is served, before the slot count rises
 -- slottedWithin t s    one slot once configuration and state have passed: 10, or idle, or the accelerator served
 -- slotted t s          one slot: 11, 10 in this order, or idle, or the accelerator served
-use Prim.Native.Nat.{ℕ, suc, _+_, _-_}
+use Prim.Native.Nat.{ℕ, _+_, _-_}
 use mathlib.Core.Bool.{Bool, not}
 use mathlib.Core.List.{_++_}
 use lib.ListN.{set, replicate}

@@ -1,8 +1,6 @@
 // The check of a configuration and of a state: each clause of the rules is a function that answers on any value
 // whatever.
-use model::Accelerator;
 use model::Bus;
-use model::Interconnect;
 use model::Port;
 use model::State;
 use model::Tree;
@@ -16,9 +14,9 @@ use model::access::port_at;
 use model::access::waiting_of;
 use model::access::waits_under;
 ghost use mathlib.Core.Path.{_≡_};
-ghost use Prim.Native.Nat.{_≤_, min};
+ghost use Prim.Native.Nat.{min};
 ghost use Rattle.model.specs.Fold.{all, within};
-ghost use Rattle.model.specs.Tree.{portOf, interconnectOf, acceleratorOf};
+ghost use Rattle.model.specs.Tree.{portOf};
 ghost use Rattle.rules.specs.Rules.{busKeeps, isEmpty, isAcc, isInt, carries, rootPlaced, childPlaced, isPlaced, usedInterconnect, unusedInterconnect, interconnectKeeps, usedAccelerator, unusedAccelerator, acceleratorKeeps, treeKeeps, recordKeeps, turnKeeps, stateKeeps, keeps};
 
 fn in_limits(low: u64, x: u64, high: u64) -> bool

@@ -25,8 +25,7 @@ use Rattle.machine.proofs.Keeps.{zeros, take-waiting}
 use Rattle.machine.proofs.Laws.{offer-others}
 use Rattle.machine.proofs.Steps.{slot-idle, slot-serves}
 use Rattle.machine.proofs.Windows.{window-opens}
-use Rattle.counts.specs.declared.Wiring.{Wiring}
-use Rattle.counts.specs.Wiring.{Ports, Lanes, Limits}
+use Rattle.counts.specs.Wiring.{Wired}
 use Rattle.counts.specs.Counts.{Counted}
 use Rattle.counts.proofs.Counted.{counted-none}
 use Rattle.runner.specs.declared.NextLine.{NextLine}
@@ -71,11 +70,9 @@ abbrev pub placeOf : (w m l o h : List ℕ) → NextLine → ℕ → Place
 placeOf w m l o h x n = record { state = stateOf w m l o n; held = h; at = x .at }
 
 -- what the loop does not change
-pub record Fixed (t : Tree) (w : Wiring) (k : List ℕ) : Type 0 where
+pub record Fixed (t : Tree) (w k : List ℕ) : Type 0 where
   pub rules : treeKeeps t ≡ true
-  pub ports : Ports t (w .carries) (w .grants)
-  pub lanes : Lanes t (w .above) (w .homes)
-  pub limits : Limits t (w .limits) (w .budgets)
+  pub wired : Wired t w
   pub table : NextPorts k
 
 -- where the loop stands after n slots: d is the buffer, which was d₀; w m l o h are the state and the held counts, c v the
@@ -86,12 +83,12 @@ pub record Going (t : Tree) (s d₀ d w m l o c v h : List ℕ) (x : NextLine) (
   pub due : x .due ≤ dueOf (leftAt s (x .at))
   pub settled : q ≡ false → (r ≡ 255 → ⊥) → (r < t .accs) × Settled t (stateOf w m l o n) h r
 
-pub going-start : (t : Tree) (s d : List ℕ) (f : State) → treeKeeps t ≡ true → f ≡ freshState t → Accepts s 0
-    → Going t s d d (f .waiting) (f .admitted) (f .last) (f .allowance) (replicate 120 0) (replicate 15 0) (replicate 32 0)
-    (record { at = 0; due = 0 }) 255 true 0
-going-start t s d f k e A = record {
-  running = running-start t s d _ k (ap (λ (x : State). stateOf (x .waiting) (x .admitted) (x .last) (x .allowance) 0) e) A;
-  counts = counted-none t (sound t k) _ (λ a _. ap (λ (x : State). waitingOf x a) e ∙ zeros 32 a);
+pub going-start : (t : Tree) (s d l o v : List ℕ) (f : State) → treeKeeps t ≡ true → f ≡ freshState t → Accepts s 0
+    → l ≡ f .last → o ≡ replicate 15 0 → v ≡ replicate 15 0
+    → Going t s d d (replicate 32 0) (replicate 32 0) l o (replicate 120 0) v (replicate 32 0) (record { at = 0; due = 0 }) 255 true 0
+going-start t s d l o v f k e A el eo ev = record {
+  running = running-start t s d _ k (ap₂ (λ (x y : List ℕ). stateOf (replicate 32 0) (replicate 32 0) x y 0) (el ∙ ap (λ (x : State). x .last) e) eo) A;
+  counts = subst (Counted t _ (replicate 120 0)) (sym ev) (counted-none t (sound t k) _ (λ a _. zeros 32 a));
   due = omega arith;
   settled = λ z. let y : _≡_ {A = ℕ} 0 1 = cc in absurd (omega arith);
 }
@@ -152,8 +149,8 @@ module _ (t : Tree) (s d₀ d w m l o c v h : List ℕ) (x : NextLine) (r : ℕ)
   rules : keeps t (stateOf w m l o n) ≡ true
   rules = G .running .stands .keeps-rules
 
-  pub going-stored : Stored t (stateOf w m l o n) w m c v
-  going-stored = record { rules = rules; waiting = refl; admitted = refl; counts = G .counts }
+  pub going-stored : (w′ m′ : List ℕ) → w′ ≡ w → m′ ≡ m → Stored t (stateOf w m l o n) w′ m′ c v
+  going-stored w′ m′ e f = record { rules = rules; waiting = e; admitted = f; counts = G .counts }
 
   -- the test of the loop is the definition's
   pub going-done : (b : Bool) → b ≡ (eqb (x .at) (length s) && noneHeld h && eqb (getD v 0 0) 0) → b ≡ isDone (runAt s (placeOf w m l o h x n))

@@ -5,6 +5,8 @@ pub mod Endings
 pub mod Laws
 pub mod Asked
 pub mod Together
+pub mod Parts
 pub mod Stored
 pub mod Settled
 pub mod Going
+pub mod Looping

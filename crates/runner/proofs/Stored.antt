@@ -7,7 +7,7 @@ use mathlib.Core.Path.{_≡_, refl, sym, _∙_, ap, ap₂, subst}
 use native.Mathlib.Decide.{decLt, ℕ-discrete}
 use native.Mathlib.Omega.{arith}
 use lib.Dec.{eqb}
-use lib.ListN.{getD, length, set}
+use lib.ListN.{getD, set}
 use borrow.Author.Tests.{eq-eqb, ne-eqb, eqb-true}
 use Rattle.model.specs.declared.Tree.{Tree}
 use Rattle.model.specs.declared.State.{State}
@@ -23,7 +23,7 @@ use Rattle.machine.proofs.Cases.{sound-of, kept-of, zero-all}
 use Rattle.turns.proofs.Descent.{Choice, choice}
 use Rattle.machine.proofs.Keeps.{stored, take-waiting}
 use Rattle.counts.specs.Wiring.{Lanes, Limits}
-use Rattle.counts.specs.Counts.{Counted, up, raised, opened, lowered, closed}
+use Rattle.counts.specs.Counts.{Counted, up, lowered, closed}
 use Rattle.counts.specs.Choice.{Chosen}
 use Rattle.counts.proofs.Counted.{counted-more, counted-less, none-live, weight-small}
 use Rattle.runner.specs.Offers.{Offering, heldOf, offering, offerAll, offerEach}

@@ -3,7 +3,7 @@
 mod steps;
 
 use admit::offer_before_slot;
-use counts::tables::wiring_of;
+use counts::tables::wires_of;
 use lines::FileAnswer;
 use machine::FreshAnswer;
 use machine::fresh;
@@ -14,6 +14,7 @@ use steps::is_done;
 use steps::open_window;
 use steps::serve;
 use steps::take_due;
+use steps::turns_of;
 use trace::read_requests;
 use turns::next_ports;
 ghost use mathlib.Core.Path.{_≡_};
@@ -61,53 +62,34 @@ fn run_slots(t: Tree, fresh: State, trace: &[u8], out: &mut [u8]) -> RunAnswer
     ensures answer { λ r. ⌜ runMeans r ≡ endOf (runFor t (leftAt (now (trace .entry)) 0) (length (now (out .entry)))) ⌝ }
     ensures bytes { λ r. ⌜ now (out .exit) ≡ over (runFor t (leftAt (now (trace .entry)) 0) (length (now (out .entry)))) (now (out .entry)) ⌝ }
 {
-    let wiring = wiring_of(t);
+    let wires = wires_of(t);
     let next = next_ports();
-    let mut waiting = fresh.waiting;
-    let mut admitted = fresh.admitted;
-    let mut last = fresh.last;
-    let mut allowance = fresh.allowance;
+    let last = fresh.last;
+    let mut blocks = [0u32; 96];
     let mut under = [0u16; 120];
-    let mut live = [0u8; 15];
-    let mut held = [0u32; 32];
+    let mut turns = turns_of(last);
     let mut line = NextLine { at: 0, due: 0 };
     let mut served = IDLE;
     let mut opened = true;
     let mut used: usize = 0;
-    while used < out.len() && !is_done(trace, line.at, &held, &live) {
+    while used < out.len() && !is_done(trace, line.at, &blocks, &turns) {
         let every = opened | (line.due <= used as u32) | (served == IDLE);
-        line = take_due(trace, used as u32, line, &mut held);
+        line = take_due(trace, used as u32, line, &mut blocks);
         offer_before_slot(
             every,
             served,
             t.accs,
-            &wiring.limits,
-            &wiring.budgets,
-            &wiring.homes,
-            &wiring.above,
-            &mut waiting,
-            &mut admitted,
-            &mut held,
+            &wires,
+            &mut blocks,
             &mut under,
-            &mut live,
+            &mut turns,
         );
-        served = serve(
-            &next,
-            &wiring.carries,
-            &wiring.grants,
-            &wiring.above,
-            &wiring.homes,
-            &mut waiting,
-            &mut last,
-            &mut allowance,
-            &mut under,
-            &mut live,
-        );
+        served = serve(&next, &wires, &mut blocks, &mut under, &mut turns);
         out[used] = served;
         used += 1;
-        opened = open_window(t.bus.window as u32, used as u32, &mut admitted);
+        opened = open_window(t.bus.window as u32, used as u32, &mut blocks);
     }
-    ended(is_done(trace, line.at, &held, &live), used as u32)
+    ended(is_done(trace, line.at, &blocks, &turns), used as u32)
 }
 
 // Runs the trace on the configuration and writes one byte a slot into `out`.

@@ -1,7 +1,7 @@
 -- Computed from the definitions: the calls of a slot in which an offer is refused; that an offer writes no byte and a refused
 -- one admits nothing; and what the lines due before a slot ask.
 use Prim.Native.Nat.{ℕ}
-use mathlib.Core.List.{List, [], _∷_}
+use mathlib.Core.List.{[], _∷_}
 use mathlib.Core.Path.{_≡_, refl}
 use Rattle.model.specs.declared.Tree.{Tree}
 use Rattle.model.specs.Fold.{sum, all}

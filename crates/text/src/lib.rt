@@ -2,7 +2,7 @@
 ghost use mathlib.Core.Path.{_≡_};
 ghost use Prim.Native.Nat.{_+_, _≤_};
 ghost use lib.ListN.{length, drop};
-ghost use Rattle.text.specs.Text.{partLength, fieldLength, same, decimal, digitsOf, fieldOf};
+ghost use Rattle.text.specs.Text.{partLength, fieldLength, same, digitsOf, fieldOf};
 
 // What a field says: "-", a number, or neither.
 pub enum Field {

@@ -1,7 +1,7 @@
 -- An allowance does not grow while its turn runs: computed at a root of granularity 2 whose last port, 0, has one left of
 -- its turn while three wait under it and one under port 1.
 use Prim.Native.Nat.{ℕ}
-use mathlib.Core.List.{List, [], _∷_}
+use mathlib.Core.List.{[], _∷_}
 use mathlib.Core.Path.{_≡_, refl}
 use Rattle.model.specs.declared.Tree.{Tree}
 use Rattle.model.specs.declared.State.{State}

@@ -1,7 +1,6 @@
 -- `admit_held` meets its contract: the smallest of what is held and what both limits leave.
 use mathlib.Core.Path.{_≡_, ap, sym, _∙_, ap₂}
 use Prim.Native.Nat.{_-_, min}
-use native.Mathlib.Omega.{arith}
 use borrow.Author.Needs.{needs}
 use borrow.Author.Tests.{eq-eqb, ne-eqb}
 use Rattle.model.proofs.Folds.{picked, passed}
@@ -16,9 +15,6 @@ returns c =
     c .before .smaller2 .ensures ∙ ap (min (x .held)) (c .before .before .smaller .ensures ∙ ap₂ min (c .before .before .before .before .rest .ensures) (c .before .before .before .rest2 .ensures)) in
     sym (picked _ _ _ (eq-eqb _ 0 (sym e ∙ c .if1 .taken)))
 
-cast-t12 : tie.Need-cast-t12
-cast-t12 c = omega (arith, c .before .before .smaller .ensures, c .before .before .before .before .rest .ensures)
-
 returns-2 : tie.Need-returns-2
 returns-2 c =
     let x = c .before .before .before .before .before .args in
@@ -28,18 +24,4 @@ returns-2 c =
     ∙ ap (λ n. heldOffers n (x .held) (x .waiting) (x .admitted)) e
 
 pub admit-held-spec : {M : Type 1} → statement M
-admit-held-spec =
-    tie.close
-    (tie.spec
-    (λ c κs. search needs)
-    (λ c κs. search needs)
-    (λ c κs. search needs)
-    (λ c κs. search needs)
-    returns
-    cast-t12
-    (λ c. search needs)
-    (λ c. search needs)
-    (λ c. search needs)
-    (λ c. search needs)
-    (λ c. search needs)
-    returns-2)
+admit-held-spec = tie.close (tie.spec (λ c κs. search needs) (λ c κs. search needs) (λ c κs. search needs) (λ c κs. search needs) returns (λ c. search needs) (λ c. search needs) (λ c. search needs) (λ c. search needs) returns-2)

@@ -1,5 +1,5 @@
 -- `end_of` meets its contract: by its tests.
-use Prim.Native.Nat.{ℕ, _+_, min}
+use Prim.Native.Nat.{_+_, min}
 use mathlib.Core.Path.{_≡_, sym, _∙_}
 use native.Mathlib.Omega.{arith}
 use borrow.Author.Needs.{needs}

@@ -1,6 +1,5 @@
 -- `unbounded` meets its contract: the fields are those of the definition.
 use mathlib.Core.Path.{refl}
-use borrow.Author.Needs.{needs}
 use Rattle.answers.proofs.unbounded.Statement.{statement}
 use Rattle.answers.proofs.unbounded.Tie as tie
 

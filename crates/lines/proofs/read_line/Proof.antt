@@ -5,7 +5,7 @@ use native.Mathlib.Omega.{arith}
 use lib.ListN.{length}
 use borrow.Author.Needs.{needs}
 use Rattle.lines.specs.declared.Line.{Line}
-use Rattle.lines.specs.Lines.{push, pushed, lineOf, named, kindOf}
+use Rattle.lines.specs.Lines.{push, pushed, lineOf, named}
 use Rattle.lines.proofs.Fields.{later, line-begun, line-next, line-end, push-count}
 use Rattle.text.proofs.Parts.{part-fits}
 use Rattle.lines.proofs.read_line.Statement.{statement}
