@@ -3,6 +3,7 @@ use counts::BUDGET;
 use counts::HOME;
 use counts::LIMIT;
 use counts::along::add_along;
+use rules::smaller;
 ghost use mathlib.Core.Path.{_≡_};
 ghost use Prim.Native.Nat.{_+_, _-_, min};
 ghost use Rattle.model.specs.Fold.{pick};
@@ -27,15 +28,6 @@ struct Admission {
 enum HeldOffers {
     NoneAdmitted,
     Admitted(Admission),
-}
-
-fn smaller(x: u32, y: u32) -> u32
-    ensures { λ r. ⌜ r ≡ min x y ⌝ }
-{
-    if x < y {
-        return x;
-    }
-    y
 }
 
 // What a limit leaves beside a count.

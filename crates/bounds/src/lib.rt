@@ -34,6 +34,7 @@ pub struct Figures {
     pub meets: bool,
 }
 
+// What the analysis answers of an accelerator.
 pub enum BoundAnswer {
     Refused(Refusal),
     Bound(Figures),

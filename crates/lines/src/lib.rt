@@ -126,6 +126,7 @@ const ROOT_DASHES: [bool; 10] = [
     false,
 ];
 
+// The form of each kind of line.
 pub fn form_of(kind: Kind) -> Form
     ensures { λ r. ⌜ r ≡ formOf kind ⌝ }
 {

@@ -17,21 +17,25 @@ ghost use Rattle.model.specs.Tree.{waitingOf, admittedOf};
 ghost use Rattle.machine.specs.Machine.{freshState, zeroState, freshened, admit, offeredWithin, offered, noneWaits, tick, takeOne, lastSlot, slottedWithin, slotted};
 ghost use Rattle.machine.specs.Answers.{freshOutcome, offerOutcome, slotOutcome};
 
+// What the start answers.
 pub enum FreshAnswer {
     Started,
     Refused(Refusal),
 }
 
+// The start's answer with the fresh state, or with zeros on a refusal.
 pub struct FreshReply {
     pub answer: FreshAnswer,
     pub state: State,
 }
 
+// What the offer of one transaction answers.
 pub enum OfferAnswer {
     Admitted,
     Refused(Refusal),
 }
 
+// An offer's answer with the next state.
 pub struct OfferReply {
     pub answer: OfferAnswer,
     pub state: State,
@@ -44,6 +48,7 @@ pub enum SlotAnswer {
     Refused(Refusal),
 }
 
+// A slot's answer with the next state.
 pub struct SlotReply {
     pub answer: SlotAnswer,
     pub state: State,

@@ -113,6 +113,7 @@ fn parents(t: Tree, n: u8, j: u8) -> u8
     parents(t, n - 1, x.parent) + 1
 }
 
+// The level of interconnect j, the root's being 1.
 pub fn level_of(t: Tree, j: u8) -> u8
     ensures { λ r. ⌜ r ≡ levelOf t j ⌝ }
 {
@@ -148,6 +149,7 @@ fn waiting_beneath(t: Tree, s: State, levels: u8, port: Port) -> u32
     }
 }
 
+// What waits under port p of interconnect j.
 pub fn waits_under(t: Tree, s: State, j: u8, p: u8) -> u32
     ensures { λ r. ⌜ r ≡ waitsUnder t s j p ⌝ }
 {

@@ -14,6 +14,7 @@ pub enum Port {
     Int(u8),
 }
 
+// A port as an element of an array.
 pub struct PortCell {
     pub port: Port,
 }

@@ -14,6 +14,7 @@ pub struct Printed {
     pub line: u32,
 }
 
+// Reads the tree in `input` and writes its report into `out`, or the refusal's text.
 pub fn report(input: &[u8], out: &mut [u8; 65536]) -> Printed
     ensures { λ r. ⌜ Printing (readTree (now (input .entry))) (now (out .entry)) (now (out .exit)) (r .bytes) (r .number) (r .line) ⌝ }
 {

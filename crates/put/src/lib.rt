@@ -7,6 +7,7 @@ ghost use lib.ListN.{length};
 ghost use Rattle.put.specs.Decimal.{decimalText};
 ghost use Rattle.put.specs.Put.{Put};
 
+// One byte.
 pub fn put_byte(out: &mut [u8], at: usize, b: u8) -> usize
     ensures { λ r. ⌜ Put 1 (now (out .entry)) at (b ∷ []) (now (out .exit)) r ⌝ }
 {
@@ -17,6 +18,7 @@ pub fn put_byte(out: &mut [u8], at: usize, b: u8) -> usize
     at
 }
 
+// The bytes of s.
 pub fn put_bytes(out: &mut [u8], at: usize, s: &[u8]) -> usize
     ensures { λ r. ⌜ Put (length (now (s .entry))) (now (out .entry)) at (now (s .entry)) (now (out .exit)) r ⌝ }
 {

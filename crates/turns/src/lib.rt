@@ -81,6 +81,7 @@ pub fn grant(granularity: u8, waiting: u32) -> u8
     granularity
 }
 
+// One less, 0 for 0.
 pub fn less_one(n: u8) -> u8
     ensures { λ r. ⌜ r ≡ n - 1 ⌝ }
 {
@@ -90,6 +91,7 @@ pub fn less_one(n: u8) -> u8
     n - 1
 }
 
+// The turn of interconnect j: its last port where its allowance is above 0, else the next live port after it.
 pub fn turn_at(t: Tree, s: State, j: u8) -> Turn
     ensures { λ r. ⌜ (r .port ≡ turnPort t s j) × (r .allowance ≡ turnAllowance t s j) ⌝ }
 {
