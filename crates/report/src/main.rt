@@ -4,7 +4,18 @@ use libc::STDERR_FILENO;
 use libc::STDIN_FILENO;
 use libc::STDOUT_FILENO;
 
+// Whether bytes can be read from standard input: a directory may stand there, or nothing.
+fn is_readable() -> bool {
+    let mut byte = [0u8; 1];
+    let none: &mut [u8] = &mut byte[..0];
+    0 <= libc::read(STDIN_FILENO, none)
+}
+
 fn main() {
+    if !is_readable() {
+        io::write_all(STDERR_FILENO, b"report: standard input cannot be read\n");
+        return;
+    }
     // One byte more than a tree file may have shows a longer one.
     let mut input = [0u8; 65537];
     let n = io::read_full(STDIN_FILENO, &mut input);
