@@ -144,6 +144,14 @@ pub fn same_bound(t: Tree, a: u8, d: &[usize; 16384], wrong: usize) -> bool {
     }
 }
 
+// Is the bound of accelerator 0 refused by 11?
+pub fn bound_refused(t: Tree) -> bool {
+    match bounds::bound(t, 0) {
+        BoundAnswer::Refused(r) => model::number(r) == 11,
+        BoundAnswer::Bound(_) => false,
+    }
+}
+
 // Whether every bound of the tree agrees.
 pub fn same_bounds(t: Tree, d: &[usize; 16384], wrong: usize) -> bool {
     let mut same = true;

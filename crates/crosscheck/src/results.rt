@@ -1,5 +1,9 @@
 // The counts that the program keeps in the store, and their labels.
+use callcheck::BROKEN;
+use callcheck::OFFERS;
+use callcheck::SLOTS as SLOT_CALLS;
 use libc::STDOUT_FILENO;
+use second::BUDGET_FIRST;
 use second::FALLING_FIRST;
 use second::FROM_ZERO;
 use second::GROWING;
@@ -8,6 +12,8 @@ use second::NESTED;
 use second::ORDER_FIRST;
 use second::OWN_PORT;
 use second::WHOLE_RUN;
+use store::DIFFERENCES;
+use store::WRONG;
 use store::get;
 
 // The counts. Trees by the number of their answer, 0 where accepted.
@@ -41,14 +47,8 @@ pub const EDGES: usize = 3119;
 
 pub const CASE11: usize = 3120;
 
-// For each wrong rule the inputs on which it is seen.
-pub const WRONG: usize = 3136;
-
-// The differences between the library and the second implementation.
-pub const DIFFERENCES: usize = 3152;
-
 // What the program writes: a label to each line,
-const LABELS: [u8; 794] = *b"trees accepted\n\
+const LABELS: [u8; 1051] = *b"trees accepted\n\
     trees accepted, 1 level\n\
     trees accepted, 2 levels\n\
     trees accepted, 3 levels\n\
@@ -72,6 +72,16 @@ const LABELS: [u8; 794] = *b"trees accepted\n\
     slots run\n\
     windows crossed\n\
     bytes of the buffers\n\
+    offers admitted one by one\n\
+    offers refused by 7\n\
+    offers refused by 8\n\
+    offers refused by 9\n\
+    offers refused by 11\n\
+    slots served one by one\n\
+    slots idle\n\
+    slots refused by 10\n\
+    slots refused by 11\n\
+    broken configurations refused by 11\n\
     wrong: 3 tested before 2, trees seen\n\
     wrong: 6 tested before 7, traces seen\n\
     wrong: budgets over the whole run, runs seen\n\
@@ -80,10 +90,11 @@ const LABELS: [u8; 794] = *b"trees accepted\n\
     wrong: lower turn reset by its parent, runs seen\n\
     wrong: D counts the own port, trees seen\n\
     wrong: capacity through a lower g, trees seen\n\
+    wrong: 9 tested before 8, offers seen\n\
     differences\n";
 
 // and where its count stands.
-const PLACES: [usize; 33] = [
+const PLACES: [usize; 44] = [
     TREES,
     LEVELS + 1,
     LEVELS + 2,
@@ -108,6 +119,16 @@ const PLACES: [usize; 33] = [
     SLOTS,
     WINDOWS,
     BUFFERS,
+    OFFERS,
+    OFFERS + 7,
+    OFFERS + 8,
+    OFFERS + 9,
+    OFFERS + 11,
+    SLOT_CALLS,
+    SLOT_CALLS + 1,
+    SLOT_CALLS + 10,
+    SLOT_CALLS + 11,
+    BROKEN,
     WRONG + ORDER_FIRST,
     WRONG + FALLING_FIRST,
     WRONG + WHOLE_RUN,
@@ -116,6 +137,7 @@ const PLACES: [usize; 33] = [
     WRONG + LOWER_RESET,
     WRONG + OWN_PORT,
     WRONG + NESTED,
+    WRONG + BUDGET_FIRST,
     DIFFERENCES,
 ];
 
@@ -139,7 +161,7 @@ fn show_line(labels: &[u8], from: usize, n: usize) -> usize {
 pub fn show(d: &[usize; 16384]) {
     let labels = LABELS;
     let mut from = 0;
-    for i in 0..33 {
+    for i in 0..44 {
         from = show_line(&labels, from, get(d, PLACES[i], 0));
     }
 }

@@ -1,4 +1,5 @@
 // One input at a time: both implementations are run on it, and what is found is counted.
+use crate::compare::bound_refused;
 use crate::compare::library_run;
 use crate::compare::same_bounds;
 use crate::compare::same_bytes;
@@ -8,7 +9,6 @@ use crate::compare::same_tree;
 use crate::compare::second_run;
 use crate::results::BOUNDS;
 use crate::results::BUFFERS;
-use crate::results::DIFFERENCES;
 use crate::results::DONE;
 use crate::results::LEVELS;
 use crate::results::REFUSED;
@@ -17,7 +17,6 @@ use crate::results::STOPPED;
 use crate::results::TRACES;
 use crate::results::TREES;
 use crate::results::WINDOWS;
-use crate::results::WRONG;
 use model::Tree;
 use placing::TreeRead;
 use reader::read_tree;
@@ -33,15 +32,11 @@ use second::book::deepest;
 use second::book::read_book;
 use second::queues::Ended;
 use second::requests::read_log;
+use store::DIFFERENCES;
+use store::WRONG;
 use store::add;
+use store::note;
 use trace::read_trace;
-
-// Counts a difference under `part`, at i.
-fn note(d: &mut [usize; 16384], part: usize, i: usize, same: bool) {
-    if !same {
-        add(d, part, i, 1);
-    }
-}
 
 // An accepted tree: its entries and its bounds.
 fn try_content(t: Tree, d: &mut [usize; 16384]) {
@@ -144,4 +139,12 @@ pub fn try_runs(t: Tree, s: &[u8], d: &mut [usize; 16384], out: &mut [u8; 131074
         let short = slots - 1;
         try_run(t, s, said, d, out, short);
     }
+}
+
+// Are a bound and a run of a configuration that breaks its rules refused by 11?
+pub fn try_refused(t: Tree, d: &mut [usize; 16384]) {
+    let mut out = [0u8; 8];
+    let bound = bound_refused(t);
+    let e = library_run(t, b"", &mut out, 8);
+    note(d, DIFFERENCES, 0, bound & (e.number == 11));
 }

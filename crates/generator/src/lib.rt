@@ -40,6 +40,11 @@ pub fn made<'a>(w: &'a [u8; 16384], d: &[usize; 16384]) -> &'a [u8] {
     &all[8192..to]
 }
 
+// A number below n.
+pub fn number_below(d: &mut [usize; 16384], n: usize) -> usize {
+    below(d, n)
+}
+
 // The size of a buffer, 0 to 500 bytes.
 pub fn buffer_size(d: &mut [usize; 16384]) -> usize {
     let size = below(d, 501);

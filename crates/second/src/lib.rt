@@ -3,6 +3,7 @@
 //
 // Test code, without contracts: it is proved that each function is safe and ends.
 pub mod book;
+pub mod calls;
 pub mod queues;
 pub mod requests;
 mod scan;
@@ -24,8 +25,10 @@ pub const GROWING: usize = 5;
 pub const LOWER_RESET: usize = 6;
 // D that counts the accelerator's own port,
 pub const OWN_PORT: usize = 7;
-// a capacity that is taken through the granularity of a lower interconnect.
+// a capacity that is taken through the granularity of a lower interconnect,
 pub const NESTED: usize = 8;
+// 9 tested before 8.
+pub const BUDGET_FIRST: usize = 9;
 
 // An answer on a file: 0 where it is accepted, or the number of a refusal; and the line.
 pub struct Said {

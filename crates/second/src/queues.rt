@@ -9,6 +9,7 @@ use crate::book::acc_row;
 use crate::book::carried;
 use crate::book::cell;
 use crate::book::int_row;
+use crate::book::ints;
 use crate::requests::LINES;
 use crate::requests::LOG;
 use crate::requests::acc_in;
@@ -24,28 +25,28 @@ use store::put;
 const REQUESTED: usize = 2048;
 
 // admitted,
-const ADMITTED: usize = 2080;
+pub(crate) const ADMITTED: usize = 2080;
 
 // and served,
-const SERVED: usize = 2112;
+pub(crate) const SERVED: usize = 2112;
 
 // and how many were admitted in this window.
-const USED: usize = 2144;
+pub(crate) const USED: usize = 2144;
 
 // For each interconnect its last port,
-const LAST: usize = 2176;
+pub(crate) const LAST: usize = 2176;
 
 // and its allowance.
-const ALLOWANCE: usize = 2192;
+pub(crate) const ALLOWANCE: usize = 2192;
 
 // The slot,
-const SLOT: usize = 2208;
+pub(crate) const SLOT: usize = 2208;
 
 // and the next line of the log.
 const NEXT: usize = 2209;
 
 // The queues, sixteen places to each accelerator: a ring of tickets, each the number of its transaction.
-const QUEUE: usize = 2560;
+pub(crate) const QUEUE: usize = 2560;
 
 // How a run ends: the number and line of a refusal, or 0; whether it is done; the slots used.
 pub struct Ended {
@@ -56,7 +57,7 @@ pub struct Ended {
 }
 
 // How many tickets are in the queue of accelerator a.
-fn queued(d: &[usize; 16384], a: usize) -> usize {
+pub(crate) fn queued(d: &[usize; 16384], a: usize) -> usize {
     std::num::wrapping_sub_usize(get(d, ADMITTED, a), get(d, SERVED, a))
 }
 
@@ -64,12 +65,12 @@ fn held(d: &[usize; 16384], a: usize) -> usize {
     std::num::wrapping_sub_usize(get(d, REQUESTED, a), get(d, ADMITTED, a))
 }
 
-fn place_in_queue(a: usize, ticket: usize) -> usize {
+pub(crate) fn place_in_queue(a: usize, ticket: usize) -> usize {
     (a % 32) * 16 + ticket % 16
 }
 
 // Puts the next ticket of accelerator a last in its queue.
-fn push(d: &mut [usize; 16384], a: usize) {
+pub(crate) fn push(d: &mut [usize; 16384], a: usize) {
     let ticket = get(d, ADMITTED, a);
     put(d, QUEUE, place_in_queue(a, ticket), ticket);
     add(d, ADMITTED, a, 1);
@@ -101,7 +102,7 @@ pub(crate) fn passes(d: &[usize; 16384], a: usize, i: usize, p: usize) -> bool {
 }
 
 // How many transactions wait under the port p of interconnect i.
-fn waits(d: &[usize; 16384], i: usize, p: usize) -> usize {
+pub(crate) fn waits(d: &[usize; 16384], i: usize, p: usize) -> usize {
     let mut sum = 0;
     for a in 0..32 {
         let n = queued(d, a);
@@ -237,7 +238,7 @@ fn reopen(d: &mut [usize; 16384]) {
 }
 
 // The slot count rises, and where that opens a window the budgets begin anew. A wrong rule keeps them for the whole run.
-fn advance(d: &mut [usize; 16384], wrong: usize) {
+pub(crate) fn advance(d: &mut [usize; 16384], wrong: usize) {
     add(d, SLOT, 0, 1);
     let window = cell(d, 0, 0);
     if window != 0 {
@@ -248,7 +249,7 @@ fn advance(d: &mut [usize; 16384], wrong: usize) {
 }
 
 // One slot: what it serves, or 255.
-fn one_slot(d: &mut [usize; 16384], wrong: usize) -> usize {
+pub(crate) fn one_slot(d: &mut [usize; 16384], wrong: usize) -> usize {
     if all_queued(d) == 0 {
         return 255;
     }
@@ -260,10 +261,13 @@ fn nothing_left(d: &[usize; 16384], lines: usize) -> bool {
     (lines <= get(d, NEXT, 0)) & (all_held(d) == 0) & (all_queued(d) == 0)
 }
 
-fn start(d: &mut [usize; 16384]) {
+// Nothing is requested, admitted or served, and the last port of each interconnect is 7.
+pub fn start(d: &mut [usize; 16384]) {
     clear(d, REQUESTED, 1024);
     for i in 0..15 {
-        put(d, LAST, i, 7);
+        if i < ints(d) {
+            put(d, LAST, i, 7);
+        }
     }
 }
 

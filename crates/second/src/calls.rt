@@ -1,0 +1,156 @@
+// The calls of the second machine one by one: an offer, a slot, and the rules of a state that come before both. A state may
+// be altered, so that some break a rule.
+use crate::BUDGET_FIRST;
+use crate::book::acc_row;
+use crate::book::accs;
+use crate::book::cell;
+use crate::book::int_row;
+use crate::book::ints;
+use crate::queues::ADMITTED;
+use crate::queues::ALLOWANCE;
+use crate::queues::LAST;
+use crate::queues::QUEUE;
+use crate::queues::SERVED;
+use crate::queues::SLOT;
+use crate::queues::USED;
+use crate::queues::advance;
+use crate::queues::one_slot;
+use crate::queues::place_in_queue;
+use crate::queues::push;
+use crate::queues::queued;
+use crate::queues::waits;
+use store::get;
+use store::least;
+use store::put;
+
+// The parts of a state: for each accelerator what waits,
+pub const WAITS: usize = 0;
+// and what is used of its budget;
+pub const SPENT: usize = 1;
+// for each interconnect its last port,
+pub const PORT: usize = 2;
+// and its allowance.
+pub const LEFT: usize = 3;
+
+// The slot count of the last slot there is.
+const LAST_SLOT: usize = 4294967295;
+
+pub fn slot_count(d: &[usize; 16384]) -> usize {
+    get(d, SLOT, 0)
+}
+
+pub fn set_slot_count(d: &mut [usize; 16384], n: usize) {
+    put(d, SLOT, 0, n);
+}
+
+// Entry i of a part of the state.
+pub fn part(d: &[usize; 16384], which: usize, i: usize) -> usize {
+    if which == WAITS {
+        return queued(d, i % 32);
+    }
+    if which == SPENT {
+        return get(d, USED, i % 32);
+    }
+    if which == PORT {
+        return get(d, LAST, i % 15);
+    }
+    get(d, ALLOWANCE, i % 15)
+}
+
+// Lets n transactions wait for accelerator a: the tickets after the last one served.
+fn queue_up(d: &mut [usize; 16384], a: usize, n: usize) {
+    let first = get(d, SERVED, a);
+    for k in 0..16usize {
+        let ticket = std::num::wrapping_add_usize(first, k);
+        put(d, QUEUE, place_in_queue(a, ticket), ticket);
+    }
+    put(d, ADMITTED, a, std::num::wrapping_add_usize(first, n));
+}
+
+// Sets entry i of a part of the state to n.
+pub fn alter(d: &mut [usize; 16384], which: usize, i: usize, n: usize) {
+    if which == WAITS {
+        queue_up(d, i % 32, n);
+        return;
+    }
+    if which == SPENT {
+        put(d, USED, i % 32, n);
+        return;
+    }
+    if which == PORT {
+        put(d, LAST, i % 15, n);
+        return;
+    }
+    put(d, ALLOWANCE, i % 15, n);
+}
+
+// Does accelerator a keep to its limits? One that the tree does not have has nothing.
+fn acc_keeps(d: &[usize; 16384], a: usize) -> bool {
+    let used = get(d, USED, a);
+    if accs(d) <= a {
+        return (queued(d, a) == 0) & (used == 0);
+    }
+    let row = acc_row(d, a);
+    (queued(d, a) <= cell(d, row, 3)) & (used <= cell(d, row, 4))
+}
+
+// Is the turn of interconnect i one that it can have?
+fn turn_keeps(d: &[usize; 16384], i: usize) -> bool {
+    let last = get(d, LAST, i);
+    let left = get(d, ALLOWANCE, i);
+    if ints(d) <= i {
+        return (last == 0) & (left == 0);
+    }
+    let most = least(cell(d, int_row(i), 3), waits(d, i, last));
+    (last < 8) & (left <= most)
+}
+
+fn state_keeps(d: &[usize; 16384]) -> bool {
+    let mut keeps = true;
+    for a in 0..32 {
+        keeps = keeps & acc_keeps(d, a);
+        if a < 15 {
+            keeps = keeps & turn_keeps(d, a);
+        }
+    }
+    keeps
+}
+
+// What an offer of accelerator a answers: 0 if it is admitted, or a number. A wrong rule tests 9 before 8.
+pub fn offer_answer(d: &[usize; 16384], a: usize, wrong: usize) -> usize {
+    if !state_keeps(d) {
+        return 11;
+    }
+    if accs(d) <= a {
+        return 7;
+    }
+    let row = acc_row(d, a);
+    let full = cell(d, row, 3) <= queued(d, a);
+    let spent = cell(d, row, 4) <= get(d, USED, a);
+    if spent & ((wrong == BUDGET_FIRST) | !full) {
+        return 9;
+    }
+    if full { 8 } else { 0 }
+}
+
+// The offer of one transaction.
+pub fn offer_one(d: &mut [usize; 16384], a: usize, wrong: usize) -> usize {
+    let answer = offer_answer(d, a, wrong);
+    if answer == 0 {
+        push(d, a);
+    }
+    answer
+}
+
+// One slot: the accelerator served, or 255; 256 and its number more on a refusal.
+pub fn slot_one(d: &mut [usize; 16384], wrong: usize) -> usize {
+    if !state_keeps(d) {
+        return 267;
+    }
+    if get(d, SLOT, 0) == LAST_SLOT {
+        return 266;
+    }
+    let a = one_slot(d, wrong);
+    advance(d, wrong);
+    a
+}
