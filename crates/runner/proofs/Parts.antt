@@ -39,7 +39,7 @@ module _ (r l : List ℕ) (j : ℕ) where
   pub copied-rest : j < 15 → drop 15 (set r j (getD l j 0)) ≡ drop 15 r
   copied-rest h = drop-set-lt 15 r j (getD l j 0) h
 
--- the first n + k numbers are kept: so are the first n, and the k after them
+-- the part after n of the first n + k numbers
 none-taken : (n : ℕ) → take {A = ℕ} n [] ≡ []
 none-taken zero = refl
 none-taken (suc n) = refl
@@ -51,6 +51,7 @@ drop-take (suc n) k (x ∷ l) =
     let e : suc n + k ≡ suc (n + k) = omega arith in
     ap (λ (i : ℕ). drop (suc n) (take i (x ∷ l))) e ∙ drop-take n k l
 
+-- the first n + k numbers are kept: so are the first n, and the k after them
 module _ (n k : ℕ) (r′ r : List ℕ) (e : take (n + k) r′ ≡ take (n + k) r) where
   pub first-kept : take n r′ ≡ take n r
   first-kept = sym (take-take n (n + k) r′ (omega arith)) ∙ ap (take n) e ∙ take-take n (n + k) r (omega arith)
