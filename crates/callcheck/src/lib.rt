@@ -165,15 +165,21 @@ fn try_altered(t: Tree, s: State, d: &mut [usize; 16384]) {
     let i = number_below(d, 32);
     let n = (number_below(d, 10) % 256) as u8;
     alter(d, which, i, n as usize);
-    try_calls(t, altered(s, which, i, n), 4, d);
+    try_calls(t, altered(s, which, i, n), 8, d);
+}
+
+// The state at slot n.
+fn at_slot(s: State, n: u32, d: &mut [usize; 16384]) -> State {
+    set_slot_count(d, n as usize);
+    let mut next = s;
+    next.slot = n;
+    next
 }
 
 // Calls where the slot count is at its end, or one or two before it.
 fn try_last_slots(t: Tree, s: State, d: &mut [usize; 16384]) -> State {
     let n = 4294967293 + (number_below(d, 3) % 3) as u32;
-    set_slot_count(d, n as usize);
-    let mut next = s;
-    next.slot = n;
+    let mut next = at_slot(s, n, d);
     for _ in 0..3usize {
         next = try_slot(t, next, d);
     }
@@ -194,7 +200,7 @@ pub fn try_machine(t: Tree, d: &mut [usize; 16384]) {
     );
     let busy = try_calls(t, state, 60, d);
     let late = try_last_slots(t, busy, d);
-    try_altered(t, late, d);
+    try_altered(t, at_slot(late, 0, d), d);
 }
 
 // The tree with one number outside its limits.

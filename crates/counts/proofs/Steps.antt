@@ -139,7 +139,7 @@ lowers-port {c} {a} {b} {l} {k} {u} {r} e d f R = record {
   rest = take-set-le 30 r (30 + c / 8) b (omega arith) ∙ R .rest;
 }
 
--- a table of which each entry is that of the configuration has each part
+-- entry n of the table, by the part that it lies in
 module _ (t : Tree) (n : ℕ) where
   pub wire-port : n < 120 → wireOf t n ≡ carriedNumber (portOf t (n / 8) (n % 8))
   unfolding wireOf
@@ -178,6 +178,7 @@ module _ (r : List ℕ) (j p x : ℕ) (h : j < 15) where
   pub turn-lives : lives (set (set r j p) (15 + j) x) ≡ lives r
   turn-lives = drop-set-lt 30 (set r j p) (15 + j) x (omega arith) ∙ drop-set-lt 30 r j p (omega arith)
 
+-- a table of which each entry is that of the configuration has each part
 pub wired : (t : Tree) (w : List ℕ) → ((n : ℕ) → n < 246 → getD w n 0 ≡ wireOf t n) → Wired t w
 wired t w f = record {
   ports = record {

@@ -59,7 +59,8 @@ pub fn add_along(
     turns: &mut [u8; 45],
 )
     ensures counts { λ _. ⌜ now (under .exit) ≡ raised (up 4 (aboves (now (wires .entry))) place) n (now (under .entry)) ⌝ }
-    ensures sets { λ _. ⌜ (lives (now (turns .exit)) ≡ opened (up 4 (aboves (now (wires .entry))) place) (lives (now (turns .entry)))) × (take 30 (now (turns .exit)) ≡ take 30 (now (turns .entry))) ⌝ }
+    ensures sets { λ _. ⌜ lives (now (turns .exit)) ≡ opened (up 4 (aboves (now (wires .entry))) place) (lives (now (turns .entry))) ⌝ }
+    ensures rest { λ _. ⌜ take 30 (now (turns .exit)) ≡ take 30 (now (turns .entry)) ⌝ }
 {
     let mut c = place as usize;
     let mut left: u8 = 4;
@@ -81,7 +82,8 @@ pub fn add_along(
 // One less waits under the ports from `place` up to the root.
 pub fn take_along(wires: &[u16; 246], place: u16, under: &mut [u16; 120], turns: &mut [u8; 45])
     ensures counts { λ _. ⌜ now (under .exit) ≡ lowered (up 4 (aboves (now (wires .entry))) place) (now (under .entry)) ⌝ }
-    ensures sets { λ _. ⌜ (lives (now (turns .exit)) ≡ closed (up 4 (aboves (now (wires .entry))) place) (now (under .entry)) (lives (now (turns .entry)))) × (take 30 (now (turns .exit)) ≡ take 30 (now (turns .entry))) ⌝ }
+    ensures sets { λ _. ⌜ lives (now (turns .exit)) ≡ closed (up 4 (aboves (now (wires .entry))) place) (now (under .entry)) (lives (now (turns .entry))) ⌝ }
+    ensures rest { λ _. ⌜ take 30 (now (turns .exit)) ≡ take 30 (now (turns .entry)) ⌝ }
 {
     let mut c = place as usize;
     let mut left: u8 = 4;

@@ -37,11 +37,11 @@ fn wire_at(t: Tree, n: usize) -> u16
     if n < GRANULARITY {
         return carried_number(port_at(t, (n / 8) as u8, (n % 8) as u8));
     }
+    if n < ABOVE {
+        let x = interconnect_at(t, (n - GRANULARITY) as u8);
+        return x.granularity as u16;
+    }
     if n < HOME {
-        if n < ABOVE {
-            let x = interconnect_at(t, (n - GRANULARITY) as u8);
-            return x.granularity as u16;
-        }
         let x = interconnect_at(t, (n - ABOVE) as u8);
         return port_number(x.parent, x.port);
     }

@@ -3,7 +3,8 @@
 // on, those of `generator` from 4096 on. There are no structs for a tree, a state or their records. A place past the end goes
 // round.
 //
-// Test code, without contracts: it is proved that each function is safe and ends.
+// Test code, without contracts but for that place: it is proved that each function is safe and ends.
+ghost use Prim.Native.Nat.{_<_};
 
 // For each wrong rule of `second` the inputs on which it is seen.
 pub const WRONG: usize = 3136;
@@ -11,18 +12,25 @@ pub const WRONG: usize = 3136;
 // The differences between the library and `second`.
 pub const DIFFERENCES: usize = 3152;
 
+// Where number i of a part stands.
+fn place(part: usize, i: usize) -> usize
+    ensures { λ r. ⌜ r < 16384 ⌝ }
+{
+    std::num::wrapping_add_usize(part, i) % 16384
+}
+
 pub fn get(d: &[usize; 16384], part: usize, i: usize) -> usize {
-    let at = std::num::wrapping_add_usize(part, i) % 16384;
+    let at = place(part, i);
     d[at]
 }
 
 pub fn put(d: &mut [usize; 16384], part: usize, i: usize, x: usize) {
-    let at = std::num::wrapping_add_usize(part, i) % 16384;
+    let at = place(part, i);
     d[at] = x;
 }
 
 pub fn add(d: &mut [usize; 16384], part: usize, i: usize, x: usize) {
-    let at = std::num::wrapping_add_usize(part, i) % 16384;
+    let at = place(part, i);
     d[at] = std::num::wrapping_add_usize(d[at], x);
 }
 

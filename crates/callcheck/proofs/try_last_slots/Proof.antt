@@ -11,4 +11,4 @@ abbrev μ-loop : tie.MeasureT-loop
 μ-loop t d₀ n next₀ counter₀ d next counter = 3 - counter
 
 pub try-last-slots-spec : {M : Type 1} → statement M
-try-last-slots-spec = tie.close (tie.spec Inv-loop μ-loop (λ c κs. search needs) (λ c. search needs) (λ c. search needs) (λ c. search needs) (λ c κs. search needs) (λ c. search needs) (λ c κs. search needs) (λ c. search needs) (λ c. search needs) (λ c. search needs) (λ c. search needs))
+try-last-slots-spec = tie.close (tie.spec Inv-loop μ-loop (λ c κs. search needs) (λ c. search needs) (λ c. search needs) (λ c κs. search needs) (λ c. search needs) (λ c κs. search needs) (λ c. search needs) (λ c. search needs) (λ c. search needs) (λ c. search needs))

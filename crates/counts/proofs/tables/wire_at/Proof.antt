@@ -15,29 +15,29 @@ returns c =
 
 returns-2 : tie.Need-returns-2
 returns-2 c =
-    let x = c .before .before .before .before .before .args in
-    ap (λ (y : Interconnect). y .granularity) (c .before .interconnect-at .ensures) ∙ sym (wire-grant (x .t) (x .n) (c .before .before .before .before .if1 .left) (c .before .before .if3 .taken))
+    let x = c .before .before .before .before .args in
+    ap (λ (y : Interconnect). y .granularity) (c .before .interconnect-at .ensures) ∙ sym (wire-grant (x .t) (x .n) (c .before .before .before .if1 .left) (c .before .before .if2 .taken))
 
 returns-3 : tie.Need-returns-3
 returns-3 c =
     let x = c .before .before .before .before .before .args in
     c .port-number .ensures ∙ ap (λ (y : Interconnect). portNumber (y .parent) (y .port)) (c .before .interconnect-at2 .ensures)
-    ∙ sym (wire-above (x .t) (x .n) (c .before .before .if3 .left) (c .before .before .before .if2 .taken))
+    ∙ sym (wire-above (x .t) (x .n) (c .before .before .before .if2 .left) (c .before .before .if3 .taken))
 
 returns-4 : tie.Need-returns-4
 returns-4 c =
-    let x = c .before .before .before .before .before .args in
+    let x = c .before .before .before .before .before .before .args in
     c .port-number2 .ensures ∙ ap (λ (y : Accelerator). portNumber (y .interconnect) (y .port)) (c .before .accelerator-at .ensures)
-    ∙ sym (wire-home (x .t) (x .n) (c .before .before .before .if2 .left) (c .before .before .if4 .taken))
+    ∙ sym (wire-home (x .t) (x .n) (c .before .before .before .if3 .left) (c .before .before .if4 .taken))
 
 returns-5 : tie.Need-returns-5
 returns-5 c =
-    let x = c .before .before .before .before .before .before .args in
+    let x = c .before .before .before .before .before .before .before .args in
     ap (λ (y : Accelerator). y .phi) (c .before .accelerator-at2 .ensures) ∙ sym (wire-limit (x .t) (x .n) (c .before .before .before .if4 .left) (c .before .before .if5 .taken))
 
 returns-6 : tie.Need-returns-6
 returns-6 c =
-    let x = c .before .before .before .before .before .args in
+    let x = c .before .before .before .before .before .before .args in
     ap (λ (y : Accelerator). y .budget) (c .accelerator-at3 .ensures) ∙ sym (wire-budget (x .t) (x .n) (c .before .if5 .left))
 
 pub wire-at-spec : {M : Type 1} → statement M
