@@ -15,7 +15,7 @@ use Rattle.text.proofs.Written.{Clean, clean-none, clean-more, clean-append, Al
 use Rattle.model.specs.declared.Tree.{Tree}
 use Rattle.model.specs.Tree.{granularityOf, parentOf, parentPortOf, acceleratorOf, limitOf}
 use Rattle.rules.specs.Rules.{busKeeps, treeKeeps}
-use Rattle.model.proofs.Folds.{picked, passed, tests, joined, at-all}
+use Rattle.folds.proofs.Folds.{picked, passed, tests, joined, at-all}
 use Rattle.rules.proofs.Sound.{Sound, sound}
 use Rattle.placing.specs.declared.TreeRead.{TreeRead}
 use Rattle.lines.specs.Lines.{lineOf}

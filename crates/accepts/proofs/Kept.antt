@@ -20,10 +20,10 @@ use Rattle.model.specs.declared.Port.{Port}
 use Rattle.model.specs.declared.Port.the-variants.{Empty, Acc, Int}
 use Rattle.model.specs.declared.Refusal.{Refusal}
 use Rattle.model.specs.declared.Refusal.the-variants.{Order, Shape, Limit}
-use Rattle.model.specs.Fold.{pick, all}
+use Rattle.folds.specs.Fold.{pick, all}
 use Rattle.model.specs.Tree.{emptyCell, noInterconnect, noAccelerator, interconnectOf, acceleratorOf, portOf, granularityOf, parentOf, parentPortOf, homeOf, homePortOf, limitOf, budgetOf, above, levelOf}
 use Rattle.rules.specs.Rules.{busKeeps, isEmpty, isAcc, isInt, carries, rootPlaced, childPlaced, isPlaced, usedInterconnect, unusedInterconnect, interconnectKeeps, usedAccelerator, unusedAccelerator, acceleratorKeeps, treeKeeps}
-use Rattle.model.proofs.Folds.{picked, passed, tests, both, all-at}
+use Rattle.folds.proofs.Folds.{picked, passed, tests, both, all-at, clash}
 use Rattle.lines.specs.declared.FileAnswer.{FileAnswer}
 use Rattle.lines.specs.declared.FileAnswer.the-variants.{Accepted, Refused, Broken}
 use Rattle.placing.specs.declared.TreeRead.{TreeRead}
@@ -73,10 +73,6 @@ same-everywhere : {A : Type 0} (n i : ℕ) (d : A) → getD (replicate n d) i d 
 same-everywhere zero i d = refl
 same-everywhere (suc n) zero d = refl
 same-everywhere (suc n) (suc i) d = same-everywhere n i d
-
--- no number is above itself
-pub zero-one : {A : Type 0} → _≡_ {A = ℕ} 0 1 → A
-zero-one e = absurd (omega arith)
 
 -- a port of an interconnect that carries nothing is empty
 pub blank-port : (t : Tree) (j p : ℕ) → interconnectOf t j ≡ noInterconnect → portOf t j p ≡ Empty
@@ -176,13 +172,13 @@ module _ (t : Tree) (j parent port g : ℕ) (h : j < length (t .interconnects)) 
   new-port q = ap (λ (c : Interconnect). getD (c .ports) q emptyCell .port) new-here ∙ ap (λ (c : PortCell). c .port) (same-everywhere 8 q emptyCell)
 
 pub not-acc : (x : Port) (a : ℕ) → x ≡ Empty → x ≡ Acc a → ⊥
-not-acc x a e f = let z : _≡_ {A = ℕ} 0 1 = cc in zero-one z
+not-acc x a e f = clash cc
 
 pub not-int : (x : Port) (k : ℕ) → x ≡ Empty → x ≡ Int k → ⊥
-not-int x k e f = let z : _≡_ {A = ℕ} 0 1 = cc in zero-one z
+not-int x k e f = clash cc
 
 acc-not-int : (x : Port) (k a : ℕ) → x ≡ Int k → x ≡ Acc a → ⊥
-acc-not-int x k a e f = let z : _≡_ {A = ℕ} 0 1 = cc in zero-one z
+acc-not-int x k a e f = clash cc
 
 same-int : (x : Port) (k m : ℕ) → x ≡ Int k → x ≡ Int m → m ≡ k
 same-int x k m e f = cc
@@ -517,7 +513,7 @@ module _ (t : Tree) (v : List ℕ) (P : Partial t) (e : limitsKept AccLine v ≡
         home-carries =
             subst (λ (n : ℕ). portOf (withAcc t v) n (homePortOf (withAcc t v) b) ≡ Acc b) (sym (ap (λ (x : Accelerator). x .interconnect) r))
             (subst (λ (n : ℕ). portOf (withAcc t v) (homeOf t b) n ≡ Acc b) (sym (ap (λ (x : Accelerator). x .port) r))
-            (elsewhere (homeOf t b) (homePortOf t b) (Acc b) (U .home-carries) (λ q. let z : _≡_ {A = ℕ} 0 1 = cc in zero-one z)));
+            (elsewhere (homeOf t b) (homePortOf t b) (Acc b) (U .home-carries) (λ q. clash cc)));
         phi = omega (arith, U .phi, ap (λ (x : Accelerator). x .phi) r);
         budget = omega (arith, U .budget, ap (λ (x : Accelerator). x .budget) r);
         reads = omega (arith, U .reads, ap (λ (x : Accelerator). x .reads) r);
@@ -545,7 +541,7 @@ module _ (t : Tree) (v : List ℕ) (P : Partial t) (e : limitsKept AccLine v ≡
         parent-carries = λ k z l.
             subst (λ (x : ℕ). portOf (withAcc t v) x (parentPortOf (withAcc t v) k) ≡ Int k) (sym (parents k))
             (subst (λ (x : ℕ). portOf (withAcc t v) (parentOf t k) x ≡ Int k) (sym (parent-ports k))
-            (elsewhere (parentOf t k) (parentPortOf t k) (Int k) (P .parent-carries k z l) (λ q. let y : _≡_ {A = ℕ} 0 1 = cc in zero-one y)));
+            (elsewhere (parentOf t k) (parentPortOf t k) (Int k) (P .parent-carries k z l) (λ q. clash cc)));
         unused-int = λ j l. stored-other t (getD v 1 0) (getD v 2 0) (Acc (getD v 0 0)) home-size j (omega arith) ∙ P .unused-int j l;
         unused-acc = λ b l. acc-old b (omega arith) ∙ P .unused-acc b (omega arith);
         gap = λ b z. elim (ℕ-discrete b (getD v 0 0)) [
@@ -565,10 +561,10 @@ abbrev Fine : TreeRead → Type 0
 Fine r = r .answer ≡ Accepted → Partial (r .tree)
 
 pub never-refused : (A : Type 0) (x : Refusal) (n : ℕ) → Refused x n ≡ Accepted → A
-never-refused A x n e = let z : _≡_ {A = ℕ} 0 1 = cc in zero-one z
+never-refused A x n e = clash cc
 
 pub never-broken : {A : Type 0} → Broken ≡ Accepted → A
-never-broken e = let z : _≡_ {A = ℕ} 0 1 = cc in zero-one z
+never-broken e = clash cc
 
 fine-pick : (c : Bool) (x : Refusal) (n : ℕ) (y : TreeRead) → (c ≡ false → Fine y) → Fine (pick c (refusedAt x n) y)
 fine-pick true x n y f e = never-refused _ x n e
@@ -580,8 +576,8 @@ fine-choice false x y f g e = g refl e
 
 pub is-empty : (x : Port) → isEmpty x ≡ true → x ≡ Empty
 is-empty Empty e = refl
-is-empty (Acc a) e = let z : _≡_ {A = ℕ} 0 1 = cc in zero-one z
-is-empty (Int j) e = let z : _≡_ {A = ℕ} 0 1 = cc in zero-one z
+is-empty (Acc a) e = clash cc
+is-empty (Int j) e = clash cc
 
 -- what an int line in order says
 module _ (t : Tree) (l : Line) (e : intInOrder t l ≡ true) where

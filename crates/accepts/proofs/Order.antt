@@ -20,10 +20,10 @@ use Rattle.model.specs.declared.Port.{Port}
 use Rattle.model.specs.declared.Port.the-variants.{Empty, Acc}
 use Rattle.model.specs.declared.Refusal.{Refusal}
 use Rattle.model.specs.declared.Refusal.the-variants.{Shape, Limit, Order, Taken}
-use Rattle.model.specs.Fold.{pick}
+use Rattle.folds.specs.Fold.{pick}
 use Rattle.model.specs.Tree.{noInterconnect, acceleratorOf, portOf, limitOf}
 use Rattle.rules.specs.Rules.{isEmpty}
-use Rattle.model.proofs.Folds.{picked, passed}
+use Rattle.folds.proofs.Folds.{picked, passed}
 use Rattle.lines.specs.declared.FileAnswer.{FileAnswer}
 use Rattle.lines.specs.declared.FileAnswer.the-variants.{Accepted, Refused, Broken}
 use Rattle.placing.specs.declared.TreeRead.{TreeRead}

@@ -16,10 +16,10 @@ use Rattle.model.specs.declared.Accelerator.{Accelerator}
 use Rattle.model.specs.declared.PortCell.{PortCell}
 use Rattle.model.specs.declared.Port.{Port}
 use Rattle.model.specs.declared.Port.the-variants.{Empty, Acc, Int}
-use Rattle.model.specs.Fold.{pick, all, within}
+use Rattle.folds.specs.Fold.{pick, all, within}
 use Rattle.model.specs.Tree.{emptyCell, noInterconnect, noAccelerator, interconnectOf, acceleratorOf, portOf, granularityOf, parentOf, parentPortOf, homeOf, homePortOf, limitOf, budgetOf, levelOf}
 use Rattle.rules.specs.Rules.{isEmpty, busKeeps, interconnectKeeps, usedInterconnect, rootPlaced, unusedInterconnect, usedAccelerator, unusedAccelerator, acceleratorKeeps, treeKeeps}
-use Rattle.model.proofs.Folds.{picked, passed, tests, joined}
+use Rattle.folds.proofs.Folds.{picked, passed, tests, joined, clash}
 use Rattle.rules.proofs.Sound.{Sound, sound, level-step}
 use Rattle.lines.specs.declared.Kind.the-variants.{BusLine, IntLine, AccLine}
 use Rattle.lines.specs.Lines.{limitsKept, shaped}
@@ -27,7 +27,7 @@ use Rattle.records.specs.Records.{emptyTree, withBus, withRoot, withChild, with
 use Rattle.placing.specs.Placing.{given, busLine, intInOrder, treeLine}
 use Rattle.accepts.specs.TreeText.{busValues}
 use Rattle.placing.proofs.Tests.{line-record, int-root, int-child, child-given, acc-given}
-use Rattle.accepts.proofs.Kept.{Partial, zero-one, partial-empty, level-same, new-here, root-size, root-ports, child-new, child-parent, child-parent-port, child-granularity, child-port-new, child-port-at, child-port-other, acc-new, acc-old, acc-at, stored-apart, stored-parent, stored-parent-port, stored-granularity, home-size, not-acc, not-int, is-empty, partial-bus, partial-root, partial-child, partial-acc}
+use Rattle.accepts.proofs.Kept.{Partial, partial-empty, level-same, new-here, root-size, root-ports, child-new, child-parent, child-parent-port, child-granularity, child-port-new, child-port-at, child-port-other, acc-new, acc-old, acc-at, stored-apart, stored-parent, stored-parent-port, stored-granularity, home-size, not-acc, not-int, is-empty, partial-bus, partial-root, partial-child, partial-acc}
 use Rattle.accepts.proofs.Written.{busEntry, rootEntry, childEntry, accEntry}
 
 -- the arrays have the lengths of their type, as every value of a program has
@@ -298,7 +298,7 @@ module _ (t : Tree) (e : treeKeeps t ≡ true) where
         A .port (homeOf t m) (homePortOf t m) (S .home m h) (S .home-port m h)
         ∙ restrict-empty (t .ints) m (portOf t (homeOf t m) (homePortOf t m))
         (λ a q. let w = S .home-carries m h in let y : a ≡ m = cc in omega arith)
-        (λ c q. let w = S .home-carries m h in let y : _≡_ {A = ℕ} 0 1 = cc in zero-one y)
+        (λ c q. let w = S .home-carries m h in clash cc)
 
     pub acc-step : (n : ℕ) → treeLine n u (accEntry t m) ≡ given (withAcc u (accEntry t m .values))
     unfolding all shaped

@@ -12,7 +12,7 @@ use Rattle.text.specs.Write.{numberText, lineText}
 use Rattle.text.proofs.Written.{Clean, clean-none, clean-more, AllClean, all-none, all-more, fields-read, number-read, number-clean}
 use Rattle.model.specs.declared.Tree.{Tree}
 use Rattle.model.specs.Tree.{granularityOf, parentOf, parentPortOf, acceleratorOf}
-use Rattle.model.proofs.Folds.{passed}
+use Rattle.folds.proofs.Folds.{passed}
 use Rattle.lines.specs.declared.Kind.{Kind}
 use Rattle.lines.specs.declared.Kind.the-variants.{BusLine, IntLine, AccLine}
 use Rattle.lines.specs.declared.Line.{Line}

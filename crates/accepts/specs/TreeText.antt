@@ -17,7 +17,7 @@ use lib.Dec.{eqb}
 use Rattle.model.specs.declared.Tree.{Tree}
 use Rattle.model.specs.declared.Bus.{Bus}
 use Rattle.model.specs.declared.Accelerator.{Accelerator}
-use Rattle.model.specs.Fold.{pick}
+use Rattle.folds.specs.Fold.{pick}
 use Rattle.model.specs.Tree.{granularityOf, parentOf, parentPortOf, acceleratorOf}
 use Rattle.text.specs.Write.{numberText, lineText, fileText}
 

@@ -9,8 +9,8 @@ use lib.Dec.{ltb, eqb}
 use lib.ListN.{getD, set, take, drop}
 use lib.Seq.{getD-take, getD-drop, take-set-le, take-set-lt, drop-set-add, drop-set-lt}
 use borrow.Author.Tests.{lt-ltb, le-ltb, eq-eqb, ne-eqb, eqb-true, eqb-false}
-use Rattle.model.specs.Fold.{pick}
-use Rattle.model.proofs.Folds.{picked, passed}
+use Rattle.folds.specs.Fold.{pick}
+use Rattle.folds.proofs.Folds.{picked, passed, clash}
 use Rattle.counts.specs.Wiring.{limits, budgets}
 use Rattle.counts.specs.Counts.{lives, up, raised, opened}
 use Rattle.admit.specs.declared.Admission.{Admission}
@@ -23,7 +23,7 @@ none-told n h w m = go (eqb n 0) refl
   where
     go : (b : Bool) → eqb n 0 ≡ b → pick b NoneAdmitted (Admitted (admission n h w m)) ≡ NoneAdmitted → n ≡ 0
     go true e q = eqb-true n 0 e
-    go false e q = let z : _≡_ {A = ℕ} 0 1 = cc in absurd (omega arith)
+    go false e q = clash cc
 
 pub told : (n h w m : ℕ) (x : Admission) → heldOffers n h w m ≡ Admitted x
     → (n ≡ 0 → ⊥) × (admission n h w m ≡ x)
@@ -31,7 +31,7 @@ told n h w m x = go (eqb n 0) refl
   where
     go : (b : Bool) → eqb n 0 ≡ b → pick b NoneAdmitted (Admitted (admission n h w m)) ≡ Admitted x
         → (n ≡ 0 → ⊥) × (admission n h w m ≡ x)
-    go true e q = let z : _≡_ {A = ℕ} 0 1 = cc in absurd (omega arith)
+    go true e q = clash cc
     go false e q = (eqb-false n 0 e, cc)
 
 module _ (l b y u : List ℕ) (a : ℕ) (d : Arrays) where

@@ -19,7 +19,7 @@ use mathlib.Core.Bool.{Bool, _||_}
 use mathlib.Core.List.{List}
 use lib.Dec.{ltb, eqb}
 use lib.ListN.{getD, set, take, drop}
-use Rattle.model.specs.Fold.{pick}
+use Rattle.folds.specs.Fold.{pick}
 use Rattle.counts.specs.Counts.{lives, up, raised, opened}
 use Rattle.admit.specs.declared.Admission.{Admission}
 use Rattle.admit.specs.declared.HeldOffers.{HeldOffers}

@@ -6,7 +6,7 @@ use counts::along::add_along;
 use rules::smaller;
 ghost use mathlib.Core.Path.{_≡_};
 ghost use Prim.Native.Nat.{_+_, _-_, min};
-ghost use Rattle.model.specs.Fold.{pick};
+ghost use Rattle.folds.specs.Fold.{pick};
 ghost use lib.ListN.{take};
 ghost use Rattle.counts.specs.Wiring.{limits, budgets, homes, aboves};
 ghost use Rattle.admit.specs.Admitting.{arraysOf, heldOffers, offersOf, offersBefore};

@@ -11,7 +11,7 @@ use Rattle.model.specs.declared.Bus.{Bus}
 use Rattle.model.specs.declared.Accelerator.{Accelerator}
 use Rattle.model.specs.Tree.{acceleratorOf, homeOf, levelOf}
 use Rattle.rules.specs.Rules.{treeKeeps, busKeeps, usedAccelerator}
-use Rattle.model.proofs.Folds.{tests, picked}
+use Rattle.folds.proofs.Folds.{tests, picked}
 use Rattle.rules.proofs.Sound.{sound}
 use Rattle.shares.specs.Shares.{shareOf}
 use Rattle.shares.proofs.Shares.{share-bounds}

@@ -11,7 +11,7 @@ use Rattle.model.specs.declared.Accelerator.{Accelerator}
 use Rattle.model.specs.declared.PortCell.{PortCell}
 use Rattle.model.specs.declared.Port.{Port}
 use Rattle.model.specs.declared.Port.the-variants.{Acc, Int}
-use Rattle.model.specs.Fold.{sum, all}
+use Rattle.folds.specs.Fold.{sum, all}
 use Rattle.model.specs.Tree.{noInterconnect, noAccelerator, above}
 use Rattle.model.specs.Beneath.{inside}
 use Rattle.rules.specs.Rules.{treeKeeps, busKeeps, carries, rootPlaced, childPlaced, usedInterconnect, unusedInterconnect, usedAccelerator, unusedAccelerator}

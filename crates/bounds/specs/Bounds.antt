@@ -25,7 +25,7 @@ use lib.Dec.{leb}
 use Rattle.model.specs.declared.Tree.{Tree}
 use Rattle.model.specs.declared.Bus.{Bus}
 use Rattle.model.specs.declared.Accelerator.{Accelerator}
-use Rattle.model.specs.Fold.{pick}
+use Rattle.folds.specs.Fold.{pick}
 use Rattle.model.specs.Tree.{homeOf, levelOf, acceleratorOf}
 use Rattle.rules.specs.Rules.{treeKeeps}
 use Rattle.shares.specs.Shares.{shareOf}

@@ -22,7 +22,7 @@ use mathlib.Core.List.{List, [], _∷_, _++_}
 use mathlib.Core.Path.{_≡_, refl}
 use lib.ListN.{length, replicate}
 use Rattle.model.specs.declared.Tree.{Tree}
-use Rattle.model.specs.Fold.{sum, all}
+use Rattle.folds.specs.Fold.{sum, all}
 use Rattle.model.specs.Tree.{above}
 use Rattle.model.specs.Beneath.{inside}
 use Rattle.rules.specs.Rules.{treeKeeps, stateKeeps, sized, recordKeeps, turnKeeps, busKeeps, carries, rootPlaced, childPlaced, usedInterconnect, unusedInterconnect, usedAccelerator, unusedAccelerator}
@@ -39,7 +39,7 @@ use Rattle.bounds.specs.Bounds.{Answer as Bound, given, aloneRead, aloneWrite, 
 use Rattle.put.specs.Decimal.{digits, decimalText}
 use Rattle.put.specs.Page.{bytes, ended, joined}
 use Rattle.listing.specs.Listing.{rowText, allLine, refusalText, reportText}
-use Rattle.cases.specs.Trees.{chain, timed, pair, worked, nested}
+use Rattle.model.specs.Trees.{chain, timed, pair, worked, nested}
 
 pub data Figure : Type 0 where
   answers : Tree → List Call → List Answer → Figure

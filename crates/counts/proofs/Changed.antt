@@ -8,7 +8,7 @@ use native.Mathlib.Omega.{arith}
 use lib.Dec.{eqb}
 use lib.ListN.{getD, set, length, length-set}
 use lib.Seq.{getD-set-same, getD-set-other}
-use Rattle.model.specs.Fold.{pick}
+use Rattle.folds.specs.Fold.{pick}
 use Rattle.model.specs.Tree.{Crossing}
 use Rattle.rules.proofs.Beneath.{On, here, there, no-crossing}
 use Rattle.turns.proofs.Steps.{index-set, index-last}

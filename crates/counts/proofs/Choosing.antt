@@ -10,19 +10,19 @@ use lib.ListN.{getD, set, drop}
 use lib.Seq.{getD-take, getD-drop}
 use lib.Dec.{ltb, eqb}
 use borrow.Author.Tests.{ltb-true, ltb-false, eqb-true, eqb-false}
+use Rattle.folds.proofs.Folds.{clash}
 use Rattle.model.specs.declared.Tree.{Tree}
 use Rattle.model.specs.declared.State.{State}
 use Rattle.model.specs.declared.Port.{Port}
 use Rattle.model.specs.declared.Port.the-variants.{Empty, Acc, Int}
-use Rattle.model.specs.Fold.{pick}
+use Rattle.folds.specs.Fold.{pick}
 use Rattle.model.specs.Tree.{portOf, granularityOf, waitingOf, lastOf, allowanceOf}
 use Rattle.model.specs.Beneath.{under, inside}
-use Rattle.rules.proofs.Sound.{Sound, Kept}
+use Rattle.rules.proofs.Sound.{Sound, Kept, sound-of, kept-of}
 use Rattle.rules.proofs.Beneath.{at-port, child-level, settled}
 use Rattle.turns.specs.Turns.{liveSet, nextPort, goesOn, turnPort, turnAllowance, reached, who, turned, after}
 use Rattle.turns.proofs.Next.{bits-bound}
 use Rattle.turns.proofs.Descent.{Turn, turn}
-use Rattle.machine.proofs.Cases.{sound-of, kept-of}
 use Rattle.turns.proofs.Steps.{who-none, after-none, who-step, after-step}
 use Rattle.counts.specs.Wiring.{portNumber, carriedNumber, grants}
 use Rattle.counts.specs.Counts.{lasts, allowances, lives}
@@ -59,7 +59,7 @@ either true b e = inl refl
 either false b e = inr e
 
 neither : (a b : Bool) → (a || b) ≡ false → (a ≡ false) × (b ≡ false)
-neither true b e = let z : _≡_ {A = ℕ} 0 1 = cc in absurd (omega arith)
+neither true b e = clash cc
 neither false b e = (refl, e)
 
 -- levels are left, and the interconnect is one of the fifteen

@@ -12,10 +12,10 @@ use lib.Dec.{ltb, eqb}
 use lib.ListN.{getD, replicate, length-replicate, getD-replicate}
 use borrow.Author.Tests.{ltb-false, lt-ltb, le-ltb, ne-eqb}
 use Rattle.model.specs.declared.Tree.{Tree}
-use Rattle.model.specs.Fold.{pick, sum}
+use Rattle.folds.specs.Fold.{pick, sum}
 use Rattle.model.specs.Tree.{portOf, homeOf, homePortOf, levelOf, above, path}
 use Rattle.model.specs.Beneath.{under, inside, weightUnder}
-use Rattle.model.proofs.Folds.{picked, passed, sum-mono}
+use Rattle.folds.proofs.Folds.{picked, passed, sum-mono}
 use Rattle.rules.proofs.Sound.{Sound, above-root, above-step, level-step}
 use Rattle.rules.proofs.Beneath.{only, On, there, lane, at-port, port-le, inside-zero, rising, lane-bounds, falls, path-bounds, path-unique, path-root, path-holds, weight-on, weight-off}
 use Rattle.turns.specs.Turns.{bitsBelow, hasPort}

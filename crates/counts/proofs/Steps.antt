@@ -12,8 +12,8 @@ use lib.Bits.{bitOr, bitAnd}
 use lib.Dec.{eqb}
 use native.Mathlib.Decide.{ℕ-discrete}
 use borrow.Author.Tests.{eqb-true, eq-eqb, ne-eqb, le-ltb, lt-ltb}
-use Rattle.model.specs.Fold.{pick, all}
-use Rattle.model.proofs.Folds.{both, all-at, picked, passed}
+use Rattle.folds.specs.Fold.{pick, all}
+use Rattle.folds.proofs.Folds.{both, all-at, picked, passed}
 use Rattle.model.specs.Tree.{portOf, granularityOf, parentOf, parentPortOf, homeOf, homePortOf, limitOf, budgetOf}
 use Rattle.model.specs.declared.Tree.{Tree}
 use Rattle.turns.proofs.Steps.{index-set, index-last}

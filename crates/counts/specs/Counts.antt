@@ -20,7 +20,7 @@ use mathlib.Core.Path.{_≡_}
 use lib.ListN.{getD, set, length, take, drop}
 use lib.Dec.{ltb, eqb}
 use Rattle.model.specs.declared.Tree.{Tree}
-use Rattle.model.specs.Fold.{pick}
+use Rattle.folds.specs.Fold.{pick}
 use Rattle.model.specs.Beneath.{weightUnder}
 use Rattle.turns.specs.Turns.{bitsBelow, hasPort}
 use Rattle.counts.specs.Wiring.{portNumber}

@@ -14,7 +14,7 @@ use mathlib.Core.List.{List}
 use mathlib.Core.Path.{_≡_}
 use lib.ListN.{getD, drop}
 use lib.Dec.{ltb}
-use Rattle.model.specs.Fold.{pick}
+use Rattle.folds.specs.Fold.{pick}
 use Rattle.model.specs.declared.Tree.{Tree}
 use Rattle.model.specs.declared.Port.{Port}
 use Rattle.model.specs.declared.Port.the-variants.{Empty, Acc, Int}

@@ -4,7 +4,7 @@ use crate::LIVE;
 ghost use mathlib.Core.Path.{_≡_};
 ghost use Prim.Native.Nat.{_+_, _%_, _-_};
 ghost use lib.Dec.{eqb};
-ghost use Rattle.model.specs.Fold.{pick};
+ghost use Rattle.folds.specs.Fold.{pick};
 ghost use lib.ListN.{take};
 ghost use Rattle.counts.specs.Wiring.{aboves};
 ghost use Rattle.counts.specs.Counts.{lives, up, withPort, withoutPort, raised, opened, lowered, closed};

@@ -10,7 +10,7 @@ ghost use mathlib.Core.Path.{_≡_};
 ghost use Prim.Native.Nat.{_+_, _*_, _-_, _%_, _<_, min};
 ghost use lib.Dec.{ltb};
 ghost use lib.ListN.{getD, set};
-ghost use Rattle.model.specs.Fold.{pick};
+ghost use Rattle.folds.specs.Fold.{pick};
 ghost use Rattle.counts.specs.Wiring.{portNumber, grants};
 ghost use Rattle.counts.specs.Counts.{lasts, allowances, lives};
 ghost use Rattle.counts.specs.Choice.{Chooses};

@@ -14,10 +14,10 @@ use lib.Dec.{eqb, ltb}
 use borrow.Author.Tests.{eq-eqb, ne-eqb, lt-ltb, le-ltb, ltb-true, ltb-false}
 use Rattle.model.specs.declared.Tree.{Tree}
 use Rattle.model.specs.declared.State.{State}
-use Rattle.model.specs.Fold.{pick, sum}
+use Rattle.folds.specs.Fold.{pick, sum}
 use Rattle.model.specs.Tree.{granularityOf, limitOf, waitingOf, lastOf, allowanceOf}
 use Rattle.model.specs.Beneath.{waitsUnder}
-use Rattle.model.proofs.Folds.{picked, passed}
+use Rattle.folds.proofs.Folds.{picked, passed}
 use Rattle.rules.proofs.Sound.{Sound, Kept}
 use Rattle.rules.proofs.Beneath.{weight-mono}
 use Rattle.turns.specs.Turns.{hasPort, liveSet, nextPort, goesOn, turnPort, turnAllowance}

@@ -4,7 +4,7 @@ use mathlib.Core.List.{[], _∷_}
 use mathlib.Core.Path.{_≡_, refl}
 use Rattle.machine.specs.Machine.{admitted, served, refused}
 use Rattle.machine.specs.Calls.{offer, slot}
-use Rattle.cases.specs.Trees.{pair}
+use Rattle.model.specs.Trees.{pair}
 use Rattle.guarantee.specs.Guarantee.{event, queueFrom, slotsIn, admissionsFrom}
 
 pub refused-offer : queueFrom 0 0 [] (event (offer 0) (refused 9) ∷ []) ≡ []

@@ -12,12 +12,12 @@ use lib.Dec.{eqb}
 use borrow.Author.Tests.{eq-eqb, ne-eqb}
 use Rattle.model.specs.declared.Tree.{Tree}
 use Rattle.model.specs.declared.State.{State}
-use Rattle.model.specs.Fold.{pick}
+use Rattle.folds.specs.Fold.{pick}
 use Rattle.model.specs.Tree.{windowOf, budgetOf, admittedOf}
-use Rattle.model.proofs.Folds.{picked, passed}
+use Rattle.folds.proofs.Folds.{picked, passed}
+use Rattle.rules.proofs.Sound.{sound-of, kept-of}
 use Rattle.machine.specs.Machine.{Answer, admitted}
 use Rattle.machine.specs.Calls.{Call, slot}
-use Rattle.machine.proofs.Cases.{sound-of, kept-of}
 use Rattle.machine.proofs.Laws.{Ticked}
 use Rattle.guarantee.specs.Guarantee.{Event, slotCounts, admitsOne, admissionsFrom, admissionsIn}
 use Rattle.guarantee.proofs.Walk.{Does, admits, declines, serves, idles, halts, Walk, stay, go}

@@ -9,8 +9,8 @@ use native.Mathlib.Decide.{decLt, ℕ-discrete}
 use native.Mathlib.Omega.{arith}
 use lib.Dec.{eqb}
 use borrow.Author.Tests.{eq-eqb, ne-eqb}
-use Rattle.model.specs.Fold.{pick, sum}
-use Rattle.model.proofs.Folds.{picked, passed, sum-suc}
+use Rattle.folds.specs.Fold.{pick, sum}
+use Rattle.folds.proofs.Folds.{picked, passed, sum-suc, clash}
 use Rattle.turns.specs.Turns.{hasPort, seek, nextPort}
 
 -- a sum taken from its first term on, and round the circle
@@ -112,7 +112,7 @@ module _ (c : ℕ → ℕ) where
         where
           off : k % 8 ≡ p → ⊥
           off e = let o : hasPort set (k % 8) ≡ true = subst (λ x. hasPort set x ≡ true) (sym e) live in
-              let z : _≡_ {A = ℕ} 0 1 = cc in omega arith
+              clash cc
 
       sooner : (n k i : ℕ) → i < n → (k + i) % 8 ≡ p → Sooner n k (seek n set k)
       unfolding seek

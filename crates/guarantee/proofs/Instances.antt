@@ -7,7 +7,7 @@ use mathlib.Core.Path.{_≡_, refl, sym, _∙_, subst}
 use native.Mathlib.Omega.{arith}
 use Rattle.model.specs.declared.Tree.{Tree}
 use Rattle.model.specs.declared.State.{State}
-use Rattle.model.specs.Fold.{sum, all}
+use Rattle.folds.specs.Fold.{sum, all}
 use Rattle.model.specs.Tree.{above, waitingOf, admittedOf}
 use Rattle.model.specs.Beneath.{inside}
 use Rattle.rules.specs.Rules.{treeKeeps, stateKeeps, sized, recordKeeps, turnKeeps, busKeeps, carries, rootPlaced, childPlaced, usedInterconnect, unusedInterconnect, usedAccelerator, unusedAccelerator, keeps}
@@ -15,7 +15,7 @@ use Rattle.turns.specs.Turns.{who, after, turnPort, turnAllowance, seek, bitsBe
 use Rattle.machine.specs.Machine.{Answer, admitted, served, freshState, offered, slotted, tick}
 use Rattle.machine.specs.Calls.{Call, offer, slot, stateAfter}
 use Rattle.shares.specs.Shares.{othersAt, shareAlong}
-use Rattle.cases.specs.Trees.{chain}
+use Rattle.model.specs.Trees.{chain}
 use Rattle.guarantee.specs.Guarantee.{Event, event, eventsOf, queueFrom, startingQueue, slotsIn, othersIn, admissionsFrom}
 use Rattle.guarantee.specs.Instances.{several, unreached, Sharp}
 use Rattle.guarantee.proofs.Walk.{Does, admits, declines, serves, idles, halts, Walk, stay, go, walked}

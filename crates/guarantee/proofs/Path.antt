@@ -13,6 +13,7 @@ use mathlib.Core.Path.{_≡_, refl, _∙_, ap, subst}
 use native.Mathlib.Decide.{decLt}
 use native.Mathlib.Nat.{mul-assoc, mul-one, mul-le-mul-right, le-trans}
 use native.Mathlib.Omega.{arith}
+use Rattle.folds.proofs.Folds.{clash}
 use Rattle.model.specs.declared.Tree.{Tree}
 use Rattle.model.specs.declared.State.{State}
 use Rattle.model.specs.declared.Port.the-variants.{Acc, Int}
@@ -115,7 +116,7 @@ module _ (t : Tree) (S : Sound t) where
 
         go : (portOf t (parentOf t k) (parentPortOf t k) ≡ Acc b) ⊎ Below t b (parentOf t k) (parentPortOf t k)
             → (q : ℕ) × On k q (path t b)
-        go (inl e) = let y : _≡_ {A = ℕ} 0 1 = cc carried in absurd (omega arith)
+        go (inl e) = clash (cc carried)
         go (inr f) =
             let e : portOf t (parentOf t k) (parentPortOf t k) ≡ Int (f .int) = f .carries in
             let y : f .int ≡ k = cc carried in
@@ -132,7 +133,7 @@ module _ (t : Tree) (S : Sound t) where
         go (inl e) = d (cc carried)
         go (inr f) =
             let e : portOf t (homeOf t a) (homePortOf t a) ≡ Int (f .int) = f .carries in
-            let y : _≡_ {A = ℕ} 0 1 = cc carried in omega arith
+            clash (cc carried)
 
     -- along crossings of a's path, from one that is not of b's
     module _ (a : ℕ) (la : a < t .accs) (some : 0 < waitingOf s a) where

@@ -15,13 +15,13 @@ use lib.Dec.{eqb}
 use borrow.Author.Tests.{eq-eqb, ne-eqb}
 use Rattle.model.specs.declared.Tree.{Tree}
 use Rattle.model.specs.declared.State.{State}
-use Rattle.model.specs.Fold.{pick}
+use Rattle.folds.specs.Fold.{pick}
 use Rattle.model.specs.Tree.{path, waitingOf}
 use Rattle.rules.specs.Rules.{keeps}
-use Rattle.model.proofs.Folds.{picked, passed}
+use Rattle.folds.proofs.Folds.{picked, passed}
+use Rattle.rules.proofs.Sound.{sound-of, kept-of}
 use Rattle.machine.specs.Machine.{Answer, admitted, served}
 use Rattle.machine.specs.Calls.{Call, offer, slot}
-use Rattle.machine.proofs.Cases.{sound-of, kept-of}
 use Rattle.guarantee.specs.Guarantee.{Event, event, Ticket, admittedBy, withoutFirst, callMoves, moved, queueFrom, startingQueue, slotCounts, slotsIn, servesOther, othersIn, Holds, here, there}
 use Rattle.guarantee.proofs.Path.{waitOf, wait-least, wait-same, wait-other, wait-own}
 use Rattle.guarantee.proofs.Walk.{Admission, Service, Does, admits, declines, serves, idles, halts, Walk, stay, go, walk-start}

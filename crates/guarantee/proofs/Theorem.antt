@@ -11,13 +11,13 @@ use lib.Dec.{eqb}
 use borrow.Author.Tests.{eq-eqb}
 use Rattle.model.specs.declared.Tree.{Tree}
 use Rattle.model.specs.declared.State.{State}
-use Rattle.model.specs.Fold.{pick}
+use Rattle.folds.specs.Fold.{pick}
 use Rattle.model.specs.Tree.{waitingOf}
 use Rattle.rules.specs.Rules.{keeps}
-use Rattle.model.proofs.Folds.{picked}
+use Rattle.folds.proofs.Folds.{picked}
+use Rattle.rules.proofs.Sound.{sound-of, kept-of}
 use Rattle.machine.specs.Machine.{admitted, served, idle, refused}
 use Rattle.machine.specs.Calls.{Call, offer, slot, step, stateAfter}
-use Rattle.machine.proofs.Cases.{sound-of, kept-of}
 use Rattle.shares.specs.Shares.{shareOf}
 use Rattle.guarantee.specs.Guarantee.{Event, event, eventsOf, Ticket, admittedBy, queueFrom, startingQueue, queueAfter, slotsIn, othersIn, upTo, Holds, StillWaits, Guarantee}
 use Rattle.guarantee.proofs.Path.{waitOf, wait-most}

@@ -10,6 +10,7 @@ use mathlib.Core.Path.{_≡_, refl, sym, ap, subst}
 use native.Mathlib.Decide.{ℕ-discrete}
 use native.Mathlib.Omega.{arith}
 use lib.ListN.{getD}
+use Rattle.folds.proofs.Folds.{clash}
 use Rattle.model.specs.declared.Tree.{Tree}
 use Rattle.model.specs.declared.State.{State}
 use Rattle.model.specs.Tree.{path, waitingOf, admittedOf}
@@ -99,7 +100,7 @@ module _ (t : Tree) (s : State) (k : keeps t s ≡ true) where
     ];
     on = slot-on-path t s k b e;
     off = slot-off-path t s k b e;
-    ticked = slot-windows t s (λ n f. let z : _≡_ {A = ℕ} 0 1 = cc in omega arith);
+    ticked = slot-windows t s (λ n f. clash cc);
   }
     where
       v : Served t s b (slotted t s .state)
@@ -112,7 +113,7 @@ module _ (t : Tree) (s : State) (k : keeps t s ≡ true) where
         none = z;
         waiting = λ a. ap (λ l. getD l a 0) (h .0);
         turns = λ i. record { last = ap (λ l. getD l i 0) (h .1); allowance = ap (λ l. getD l i 0) (h .2) };
-        ticked = slot-windows t s (λ n f. let z : _≡_ {A = ℕ} 0 1 = cc in omega arith);
+        ticked = slot-windows t s (λ n f. clash cc);
       }
 
   slot-does : Does t s slot (slotted t s .answer) (slotted t s .state)

@@ -39,7 +39,7 @@ use lib.ListN.{length}
 use lib.Dec.{eqb}
 use Rattle.model.specs.declared.Tree.{Tree}
 use Rattle.model.specs.declared.State.{State}
-use Rattle.model.specs.Fold.{pick}
+use Rattle.folds.specs.Fold.{pick}
 use Rattle.model.specs.Tree.{windowOf, budgetOf, waitingOf, admittedOf}
 use Rattle.rules.specs.Rules.{keeps}
 use Rattle.machine.specs.Machine.{Answer, admitted, served, idle, refused}

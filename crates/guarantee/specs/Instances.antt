@@ -29,7 +29,7 @@ use Rattle.rules.specs.Rules.{keeps}
 use Rattle.machine.specs.Machine.{served, refused, freshState}
 use Rattle.machine.specs.Calls.{Call, offer, slot, step, stateAfter}
 use Rattle.shares.specs.Shares.{shareOf}
-use Rattle.cases.specs.Trees.{ports, interconnect, block, tree, chain, pair, nested}
+use Rattle.model.specs.Trees.{ports, interconnect, block, tree, chain, pair, nested}
 use Rattle.guarantee.specs.Guarantee.{Event, event, eventsOf, Ticket, admittedBy, queueAfter, slotsIn, othersIn, admissionsIn, upTo}
 
 pub record MetExactly (t : Tree) (s : State) (cs : List Call) (a k n : ℕ) : Type 0 where

@@ -9,7 +9,7 @@ use put::put_field;
 use put::put_number;
 ghost use mathlib.Core.Path.{_≡_};
 ghost use lib.ListN.{length};
-ghost use Rattle.model.specs.Fold.{pick};
+ghost use Rattle.folds.specs.Fold.{pick};
 ghost use Rattle.put.specs.Page.{bytes as bytesOf, field, Written};
 ghost use Rattle.put.specs.Put.{Put};
 ghost use Rattle.journal.specs.Journal.{slotText, slotsDue, slotsText, endText, reasonOf, placeText, reasonText};

@@ -8,7 +8,7 @@ use native.Mathlib.Omega.{arith}
 use lib.Dec.{leb}
 use lib.ListN.{length, getD, take, drop, length-take, length-drop}
 use borrow.Author.Tests.{leb-true}
-use Rattle.model.proofs.Folds.{all-at, both}
+use Rattle.folds.proofs.Folds.{all-at, both}
 use Rattle.lines.specs.declared.Kind.{Kind}
 use Rattle.lines.specs.Lines.{formOf, limitKept, limitsKept}
 

@@ -24,7 +24,7 @@ use lib.Dec.{eqb}
 use Rattle.text.specs.declared.Field.{Field}
 use Rattle.text.specs.declared.Field.the-variants.{Malformed, Dash, Number}
 use Rattle.text.specs.Text.{fields, same, fieldOf}
-use Rattle.model.specs.Fold.{pick, all, within}
+use Rattle.folds.specs.Fold.{pick, all, within}
 use Rattle.lines.specs.declared.Kind.{Kind}
 use Rattle.lines.specs.declared.Kind.the-variants.{NoRecord, BusLine, IntLine, AccLine, OfferLine}
 use Rattle.lines.specs.declared.Line.{Line}

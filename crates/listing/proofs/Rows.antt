@@ -8,9 +8,9 @@ use native.Mathlib.Nat.{le-antisymm}
 use native.Mathlib.Omega.{arith}
 use Rattle.model.specs.declared.Tree.{Tree}
 use Rattle.model.specs.declared.Refusal.{Refusal}
-use Rattle.model.specs.Fold.{all}
+use Rattle.folds.specs.Fold.{all}
 use Rattle.rules.specs.Rules.{treeKeeps}
-use Rattle.model.proofs.Folds.{picked, passed}
+use Rattle.folds.proofs.Folds.{picked, passed, clash}
 use Rattle.rules.proofs.Sound.{sound}
 use Rattle.bounds.specs.declared.BoundAnswer.{BoundAnswer}
 use Rattle.bounds.specs.declared.BoundAnswer.the-variants.{Refused, Bound}
@@ -33,7 +33,7 @@ module _ (t : Tree) (a : ℕ) (r : BoundAnswer) (k : treeKeeps t ≡ true) (l : 
   pub never-refused : (n : Refusal) → r ≡ Refused n → ⊥
   never-refused n q =
       let h = ap meaningOf (sym q) ∙ e ∙ bound-given t a k l in
-      let z : _≡_ {A = ℕ} 0 1 = cc in omega arith
+      clash cc
 
 pub report-end : {d e : List ℕ} {first : ℕ} (t : Tree) (a : ℕ) (b : Bool) {f : List ℕ} {next : ℕ} {g : List ℕ} {last : ℕ}
     → treeKeeps t ≡ true → a ≤ t .accs → t .accs ≤ a → b ≡ all a (λ i. rowOf t i .meets)

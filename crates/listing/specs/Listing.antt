@@ -13,7 +13,7 @@ use Prim.Native.Nat.{ℕ}
 use mathlib.Core.Bool.{Bool}
 use mathlib.Core.List.{List, _++_}
 use Rattle.model.specs.declared.Tree.{Tree}
-use Rattle.model.specs.Fold.{pick, all}
+use Rattle.folds.specs.Fold.{pick, all}
 use Rattle.rules.specs.Rules.{treeKeeps}
 use Rattle.bounds.specs.declared.Figures.{Figures}
 use Rattle.bounds.specs.Bounds.{Row, rowOf}

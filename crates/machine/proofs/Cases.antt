@@ -8,24 +8,14 @@ use lib.Dec.{leb, eqb}
 use borrow.Author.Tests.{leb-true, leb-false, eqb-true, eqb-false, eq-eqb, not-true, not-false}
 use Rattle.model.specs.declared.Tree.{Tree}
 use Rattle.model.specs.declared.State.{State}
-use Rattle.model.specs.Fold.{pick}
+use Rattle.folds.specs.Fold.{pick}
 use Rattle.model.specs.Tree.{limitOf, budgetOf, waitingOf, admittedOf}
 use Rattle.model.specs.Beneath.{inside}
-use Rattle.rules.specs.Rules.{treeKeeps, stateKeeps, keeps}
-use Rattle.model.proofs.Folds.{both, joined, all-at, at-all}
-use Rattle.rules.proofs.Sound.{Sound, sound, Kept, kept, keeping}
+use Rattle.rules.specs.Rules.{keeps}
+use Rattle.folds.proofs.Folds.{all-at, at-all, clash}
+use Rattle.rules.proofs.Sound.{Kept, sound-of, kept-of}
 use Rattle.rules.proofs.Beneath.{root-zero}
 use Rattle.machine.specs.Machine.{admitted, served, idle, refused, Outcome, outcome, admit, offered, noneWaits, lastSlot, tick, chosen, serve, slotted}
-
-pub sound-of : (t : Tree) (s : State) → keeps t s ≡ true → Sound t
-sound-of t s e = sound t (both (treeKeeps t) (stateKeeps t s) e .0)
-
-pub kept-of : (t : Tree) (s : State) → keeps t s ≡ true → Kept t s
-kept-of t s e = kept t s (sound-of t s e) (both (treeKeeps t) (stateKeeps t s) e .1)
-
--- another state of the same tree keeps its rules
-pub keeps-of : (t : Tree) (s r : State) → keeps t s ≡ true → Kept t r → keeps t r ≡ true
-keeps-of t s r e k = joined (treeKeeps t) (stateKeeps t r) (both (treeKeeps t) (stateKeeps t s) e .0) (keeping t r k)
 
 -- a choice on a test, by its two cases
 cases : {A : Type 0} (P : A → Type 0) (c : Bool) (x y : A) → (c ≡ true → P x) → (c ≡ false → P y) → P (pick c x y)
@@ -82,7 +72,7 @@ some-waits t s k e = elim (decLt 0 (inside 4 t (waitingOf s) 0)) [
   | no d ↦
       let z = zero-all t s (kept-of t s k) (root-zero t (sound-of t s k) (waitingOf s) .0 (omega arith)) in
       let f : noneWaits s ≡ true = at-all 32 _ (λ a l. eq-eqb _ _ (z a)) in
-      let y : _≡_ {A = ℕ} 0 1 = cc in absurd (omega arith)
+      clash cc
 ]
 
 pub slot-cases : (t : Tree) (s : State) → Slotted t s (slotted t s)

@@ -10,7 +10,7 @@ use lib.ListN.{getD, length, set, replicate, length-set, length-append, length-r
 use lib.Seq.{getD-set-same, getD-set-other, getD-append-add}
 use Rattle.model.specs.declared.Tree.{Tree}
 use Rattle.model.specs.declared.State.{State}
-use Rattle.model.specs.Fold.{pick}
+use Rattle.folds.specs.Fold.{pick}
 use Rattle.model.specs.Tree.{granularityOf, limitOf, budgetOf, path, waitingOf, admittedOf, lastOf, allowanceOf, portOf}
 use Rattle.model.specs.Beneath.{weightUnder, waitsUnder}
 use Rattle.rules.proofs.Sound.{Sound, Kept}

@@ -10,17 +10,17 @@ use lib.Dec.{leb}
 use borrow.Author.Tests.{eq-eqb, ne-eqb}
 use Rattle.model.specs.declared.Tree.{Tree}
 use Rattle.model.specs.declared.State.{State}
-use Rattle.model.specs.Fold.{pick}
+use Rattle.folds.specs.Fold.{pick}
 use Rattle.model.specs.Tree.{granularityOf, limitOf, budgetOf, windowOf, path, waitingOf, admittedOf, lastOf, allowanceOf}
 use Rattle.model.specs.Beneath.{waitsUnder}
 use Rattle.rules.specs.Rules.{treeKeeps, keeps}
-use Rattle.model.proofs.Folds.{joined, picked, passed}
-use Rattle.rules.proofs.Sound.{Sound, sound, Kept, keeping}
+use Rattle.folds.proofs.Folds.{joined, picked, passed, clash}
+use Rattle.rules.proofs.Sound.{Sound, sound, Kept, keeping, sound-of, kept-of, keeps-of}
 use Rattle.rules.proofs.Beneath.{On, only, only-same, only-other, root-zero}
 use Rattle.turns.specs.Turns.{turnPort, after}
 use Rattle.machine.specs.Machine.{Answer, admitted, served, idle, refused, Outcome, outcome, freshState, admit, offered, opens, lastSlot, tick, chosen, takeOne, slotted}
 use Rattle.turns.proofs.Descent.{Turned, Unturned, Choice, choice}
-use Rattle.machine.proofs.Cases.{sound-of, kept-of, keeps-of, Offered, refuses, admits, offer-cases, Stops, stopped, Slotted, stops, idles, serves, slot-cases}
+use Rattle.machine.proofs.Cases.{Offered, refuses, admits, offer-cases, Stops, stopped, Slotted, stops, idles, serves, slot-cases}
 use Rattle.machine.proofs.Keeps.{zeros, fresh-kept, tick-kept, admit-waiting, admit-admitted, admit-kept, take-waiting, take-kept}
 use Rattle.machine.proofs.Windows.{window-opens}
 
@@ -44,7 +44,7 @@ module _ (t : Tree) (s : State) (a : ℕ) where
     where
       go : (o : Outcome) → Offered t s a o → o .answer ≡ refused n → o .state ≡ s
       go o (refuses w) e = refl
-      go o (admits l h m) e = let z : _≡_ {A = ℕ} 0 1 = cc in absurd (omega arith)
+      go o (admits l h m) e = clash cc
 
   -- an admission counts one more waiting and one more admitted, for its own accelerator
   pub offer-admits : keeps t s ≡ true → offered t s a .answer ≡ admitted
@@ -54,7 +54,7 @@ module _ (t : Tree) (s : State) (a : ℕ) where
     where
       go : (o : Outcome) → Offered t s a o → o .answer ≡ admitted
           → (waitingOf (o .state) a ≡ waitingOf s a + 1) × (admittedOf (o .state) a ≡ admittedOf s a + 1)
-      go o (refuses w) e = let z : _≡_ {A = ℕ} 0 1 = cc in absurd (omega arith)
+      go o (refuses w) e = clash cc
       go o (admits l h m) e =
           let S = sound-of t s k in
           let K = kept-of t s k in (
@@ -162,20 +162,20 @@ module _ (t : Tree) (s : State) where
     where
       go : (o : Outcome) → Slotted t s o → o .answer ≡ refused n → o .state ≡ s
       go o (stops w) e = refl
-      go o (idles k d z) e = let y : _≡_ {A = ℕ} 0 1 = cc in absurd (omega arith)
-      go o (serves k d w) e = let y : _≡_ {A = ℕ} 0 1 = cc in absurd (omega arith)
+      go o (idles k d z) e = clash cc
+      go o (serves k d w) e = clash cc
 
   pub slot-only-last : keeps t s ≡ true → (n : ℕ) → slotted t s .answer ≡ refused n → (n ≡ 10) × (s .slot ≡ lastSlot)
   slot-only-last k n = go (slotted t s) (slot-cases t s)
     where
       why : {m : ℕ} → Stops t s m → (m ≡ 10) × (s .slot ≡ lastSlot)
-      why (Stops.broken f) = let y : _≡_ {A = ℕ} 0 1 = cc in absurd (omega arith)
+      why (Stops.broken f) = clash cc
       why (stopped h) = (refl, h)
 
       go : (o : Outcome) → Slotted t s o → o .answer ≡ refused n → (n ≡ 10) × (s .slot ≡ lastSlot)
       go o (stops {n = m} w) e = let q : m ≡ n = cc in subst (λ x. (x ≡ 10) × (s .slot ≡ lastSlot)) q (why w)
-      go o (idles k d z) e = let y : _≡_ {A = ℕ} 0 1 = cc in absurd (omega arith)
-      go o (serves k d w) e = let y : _≡_ {A = ℕ} 0 1 = cc in absurd (omega arith)
+      go o (idles k d z) e = clash cc
+      go o (serves k d w) e = clash cc
 
   -- a slot is idle exactly if nothing waits
   pub slot-idle : keeps t s ≡ true → (s .slot ≡ lastSlot → ⊥)
@@ -183,14 +183,14 @@ module _ (t : Tree) (s : State) where
   slot-idle k d = go (slotted t s) (slot-cases t s)
     where
       stay : {n : ℕ} → Stops t s n → ⊥
-      stay (Stops.broken f) = let y : _≡_ {A = ℕ} 0 1 = cc in omega arith
+      stay (Stops.broken f) = clash cc
       stay (stopped h) = d h
 
       go : (o : Outcome) → Slotted t s o → (o .answer ≡ idle) ↔ ((a : ℕ) → a < t .accs → waitingOf s a ≡ 0)
       go o (stops w) = absurd (stay w)
       go o (idles k d z) = (λ e a l. z a, λ h. refl)
       go o (serves k d w) = (
-        λ e. let y : _≡_ {A = ℕ} 0 1 = cc in absurd (omega arith),
+        λ e. clash cc,
         λ h. absurd (omega (arith, root-zero t (sound-of t s k) (waitingOf s) .1 h)),
       )
 
@@ -204,8 +204,8 @@ module _ (t : Tree) (s : State) where
   service e a = go (slotted t s) (slot-cases t s)
     where
       go : (o : Outcome) → Slotted t s o → o .answer ≡ served a → Service a (o .state)
-      go o (stops w) q = let y : _≡_ {A = ℕ} 0 1 = cc in absurd (omega arith)
-      go o (idles k d z) q = let y : _≡_ {A = ℕ} 0 1 = cc in absurd (omega arith)
+      go o (stops w) q = clash cc
+      go o (idles k d z) q = clash cc
       go o (serves k d w) q =
           let c : chosen t s ≡ a = cc in
           subst (λ x. Service x (tick t (takeOne (after 4 t s 0) (chosen t s)))) c
@@ -261,9 +261,9 @@ module _ (t : Tree) (s : State) where
     where
       go : (o : Outcome) → Slotted t s o → o .answer ≡ idle
           → (o .state .waiting ≡ s .waiting) × (o .state .last ≡ s .last) × (o .state .allowance ≡ s .allowance)
-      go o (stops w) q = let y : _≡_ {A = ℕ} 0 1 = cc in absurd (omega arith)
+      go o (stops w) q = clash cc
       go o (idles k d z) q = (refl, refl, refl)
-      go o (serves k d w) q = let y : _≡_ {A = ℕ} 0 1 = cc in absurd (omega arith)
+      go o (serves k d w) q = clash cc
 
   pub slot-windows : ((n : ℕ) → slotted t s .answer ≡ refused n → ⊥) → Ticked t s (slotted t s .state)
   slot-windows = go (slotted t s) (slot-cases t s)

@@ -13,7 +13,7 @@ use Rattle.model.specs.declared.Tree.{Tree}
 use Rattle.model.specs.declared.State.{State}
 use Rattle.model.specs.Tree.{windowOf, waitingOf, admittedOf, limitOf, budgetOf}
 use Rattle.rules.specs.Rules.{treeKeeps, keeps}
-use Rattle.model.proofs.Folds.{picked, passed}
+use Rattle.folds.proofs.Folds.{picked, passed}
 use Rattle.machine.specs.Machine.{outcome, admitted, served, idle, refused, started, notStarted, beginning, zeroState, freshState, freshened, admit, offeredWithin, offered, noneWaits, lastSlot, chosen, takeOne, serve, tick, opens, slottedWithin, slotted}
 
 pub admit-far : (s : State) (a : ℕ) → length (s .waiting) ≡ 32 → length (s .admitted) ≡ 32 → 32 ≤ a → s ≡ admit s a

@@ -28,7 +28,7 @@ use lib.ListN.{set, replicate}
 use lib.Dec.{leb, eqb}
 use Rattle.model.specs.declared.Tree.{Tree}
 use Rattle.model.specs.declared.State.{State}
-use Rattle.model.specs.Fold.{pick, all}
+use Rattle.folds.specs.Fold.{pick, all}
 use Rattle.model.specs.Tree.{limitOf, budgetOf, windowOf, waitingOf, outstandingOf, admittedOf}
 use Rattle.rules.specs.Rules.{treeKeeps, keeps}
 use Rattle.turns.specs.Turns.{who, after}

@@ -11,7 +11,7 @@ use lib.ListN.{length}
 use borrow.Author.Tests.{eq-eqb, ne-eqb}
 use Rattle.model.proofs.Lists.{and-cong}
 use Rattle.model.specs.declared.Tree.{Tree}
-use Rattle.model.specs.Fold.{sum, all}
+use Rattle.folds.specs.Fold.{sum, all}
 use Rattle.model.specs.Tree.{portOf, parentOf, above}
 use Rattle.model.specs.Beneath.{under, inside}
 

@@ -11,7 +11,7 @@ use Rattle.model.specs.declared.Tree.{Tree}
 use Rattle.model.specs.declared.State.{State}
 use Rattle.model.specs.declared.Port.{Port}
 use Rattle.model.specs.declared.Port.the-variants.{Empty, Acc, Int}
-use Rattle.model.specs.Fold.{sum}
+use Rattle.folds.specs.Fold.{sum}
 use Rattle.model.specs.Tree.{portOf, waitingOf}
 
 abbrev pub under : (ℕ → ℕ) → (ℕ → ℕ) → Port → ℕ

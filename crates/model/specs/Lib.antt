@@ -1,4 +1,4 @@
-pub mod Fold
 pub mod Tree
 pub mod Beneath
 pub mod Answer
+pub mod Trees

@@ -10,7 +10,7 @@ use Rattle.model.specs.declared.Tree.{Tree}
 use Rattle.model.specs.declared.Refusal.the-variants.{Shape, Limit, Order, Taken, Level}
 use Rattle.model.specs.Tree.{portOf, limitOf, levelOf}
 use Rattle.rules.specs.Rules.{isEmpty}
-use Rattle.model.proofs.Folds.{picked, passed, both}
+use Rattle.folds.proofs.Folds.{picked, passed, both}
 use Rattle.lines.specs.declared.Kind.{Kind}
 use Rattle.lines.specs.declared.Line.{Line}
 use Rattle.lines.specs.Lines.{limitsKept, valueAt, shaped, inTree}

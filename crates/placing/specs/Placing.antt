@@ -23,7 +23,7 @@ use lib.Dec.{leb, ltb, eqb}
 use Rattle.model.specs.declared.Tree.{Tree}
 use Rattle.model.specs.declared.Refusal.{Refusal}
 use Rattle.model.specs.declared.Refusal.the-variants.{Shape, Limit, Order, Taken, Level}
-use Rattle.model.specs.Fold.{pick, all}
+use Rattle.folds.specs.Fold.{pick, all}
 use Rattle.model.specs.Tree.{portOf, limitOf, levelOf}
 use Rattle.rules.specs.Rules.{isEmpty}
 use Rattle.lines.specs.declared.Kind.{Kind}

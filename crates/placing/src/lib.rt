@@ -19,7 +19,7 @@ use records::store_root;
 ghost use mathlib.Core.Path.{_≡_};
 ghost use mathlib.Core.Bool.{true};
 ghost use lib.Dec.{ltb};
-ghost use Rattle.model.specs.Fold.{all};
+ghost use Rattle.folds.specs.Fold.{all};
 ghost use Rattle.rules.specs.Rules.{isEmpty};
 ghost use Rattle.model.specs.Tree.{portOf, limitOf};
 ghost use Rattle.lines.specs.Lines.{limitsKept, inTree};

@@ -11,7 +11,7 @@ use native.Mathlib.Omega.{arith}
 use lib.Dec.{ltb}
 use lib.ListN.{length, getD, length-append, List·getD-append}
 use borrow.Author.Tests.{lt-ltb, le-ltb, le-leb}
-use Rattle.model.proofs.Folds.{both, joined}
+use Rattle.folds.proofs.Folds.{both, joined}
 use Rattle.put.specs.Decimal.{digits, decimalText, valueFrom, valueOf, isDigit, allDigits}
 
 fuel : (k m n : ℕ) → n < k → n < m → digits (ltb n 10) k n ≡ digits (ltb n 10) m n

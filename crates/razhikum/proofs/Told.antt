@@ -2,7 +2,7 @@
 -- found which side the definition picks.
 use mathlib.Core.Bool.{Bool, true, false, not}
 use mathlib.Core.Path.{_≡_, refl, ap, sym, _∙_}
-use Rattle.model.specs.Fold.{pick}
+use Rattle.folds.specs.Fold.{pick}
 use Rattle.placing.specs.declared.TreeRead.{TreeRead}
 use Rattle.answers.specs.Numbers.{isAccepted}
 

@@ -8,7 +8,7 @@
 use Prim.Native.Nat.{ℕ}
 use mathlib.Core.List.{List}
 use lib.ListN.{length}
-use Rattle.model.specs.Fold.{pick}
+use Rattle.folds.specs.Fold.{pick}
 use Rattle.lines.specs.Answer.{answerNumber, answerLine}
 use Rattle.trace.specs.TraceFile.{readTrace}
 use Rattle.placing.specs.declared.TreeRead.{TreeRead}

@@ -10,7 +10,7 @@ use Rattle.text.specs.Text.{partLength, lines, unended}
 use Rattle.text.proofs.Parts.{lines-none, lines-unended, lines-next, part-fits}
 use Rattle.model.specs.declared.Tree.{Tree}
 use Rattle.model.specs.declared.Refusal.the-variants.{Shape, Limit}
-use Rattle.model.proofs.Folds.{picked, passed}
+use Rattle.folds.proofs.Folds.{picked, passed}
 use Rattle.lines.specs.declared.FileAnswer.{FileAnswer}
 use Rattle.lines.specs.declared.FileAnswer.the-variants.{Accepted, Refused, Broken}
 use Rattle.placing.specs.declared.TreeRead.{TreeRead}

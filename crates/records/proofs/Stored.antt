@@ -8,7 +8,7 @@ use borrow.Author.Tests.{lt-ltb, ltb-true}
 use Rattle.model.specs.declared.Tree.{Tree}
 use Rattle.model.specs.declared.Accelerator.{Accelerator}
 use Rattle.model.specs.declared.Port.the-variants.{Acc, Int}
-use Rattle.model.proofs.Folds.{picked, both, joined}
+use Rattle.folds.proofs.Folds.{picked, both, joined}
 use Rattle.lines.specs.declared.Kind.the-variants.{BusLine, IntLine, AccLine}
 use Rattle.lines.specs.Lines.{limitsKept}
 use Rattle.records.specs.Records.{withPort, withInterconnect, busOf, withBus, withRoot, withChild, accOf, withAcc, busStored, hasRoom, rootStored, childStored, accStored}

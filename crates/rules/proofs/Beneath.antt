@@ -11,10 +11,10 @@ use borrow.Author.Tests.{eq-eqb, ne-eqb}
 use Rattle.model.specs.declared.Tree.{Tree}
 use Rattle.model.specs.declared.Port.{Port}
 use Rattle.model.specs.declared.Port.the-variants.{Empty, Acc, Int}
-use Rattle.model.specs.Fold.{pick}
+use Rattle.folds.specs.Fold.{pick}
 use Rattle.model.specs.Tree.{Crossing, portOf, parentOf, parentPortOf, homeOf, homePortOf, levelOf, above, path}
 use Rattle.model.specs.Beneath.{under, inside, weightUnder}
-use Rattle.model.proofs.Folds.{sum-cong, sum-mono, sum-add, term-le, Term, some-term, sum-single}
+use Rattle.folds.proofs.Folds.{sum-cong, sum-mono, sum-add, term-le, Term, some-term, sum-single, clash}
 use Rattle.rules.proofs.Sound.{Sound, above-root, above-step, level-step}
 
 -- the weight of a alone
@@ -74,8 +74,8 @@ abbrev pub lane : Tree → ℕ → ℕ → List Crossing
 lane t k q = record { interconnect = k; port = q } ∷ above 15 t k
 
 pub no-crossing : {i p : ℕ} (l : List Crossing) → l ≡ [] → On i p l → ⊥
-no-crossing l e (here x y) = let z : _≡_ {A = ℕ} 0 1 = cc in omega arith
-no-crossing l e (there o) = let z : _≡_ {A = ℕ} 0 1 = cc in omega arith
+no-crossing l e (here x y) = clash cc
+no-crossing l e (there o) = clash cc
 
 pub on? : (i p : ℕ) (l : List Crossing) → Dec (On i p l)
 on? i p [] = no (no-crossing [] refl)

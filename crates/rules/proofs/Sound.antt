@@ -12,11 +12,11 @@ use Rattle.model.specs.declared.Tree.{Tree}
 use Rattle.model.specs.declared.State.{State}
 use Rattle.model.specs.declared.Port.{Port}
 use Rattle.model.specs.declared.Port.the-variants.{Empty, Acc, Int}
-use Rattle.model.specs.Fold.{pick}
+use Rattle.folds.specs.Fold.{pick}
 use Rattle.model.specs.Tree.{portOf, granularityOf, parentOf, parentPortOf, homeOf, homePortOf, limitOf, budgetOf, levelOf, above, waitingOf, admittedOf, lastOf, allowanceOf}
 use Rattle.model.specs.Beneath.{waitsUnder}
-use Rattle.rules.specs.Rules.{busKeeps, carries, isAcc, isInt, childPlaced, usedInterconnect, usedAccelerator, treeKeeps, sized, recordKeeps, turnKeeps, stateKeeps}
-use Rattle.model.proofs.Folds.{tests, picked, passed}
+use Rattle.rules.specs.Rules.{busKeeps, carries, isAcc, isInt, childPlaced, usedInterconnect, usedAccelerator, treeKeeps, sized, recordKeeps, turnKeeps, stateKeeps, keeps}
+use Rattle.folds.proofs.Folds.{both, joined, tests, picked, passed, clash}
 use Rattle.model.proofs.Lists.{beyond}
 
 pub record Sound (t : Tree) : Type 0 where
@@ -41,13 +41,13 @@ pub record Sound (t : Tree) : Type 0 where
       → (0 < k) × (k < t .ints) × (parentOf t k ≡ j) × (parentPortOf t k ≡ p)
 
 acc-carried : (a : ℕ) (x : Port) → isAcc a x ≡ true → x ≡ Acc a
-acc-carried a Empty e = let z : _≡_ {A = ℕ} 0 1 = cc in absurd (omega arith)
+acc-carried a Empty e = clash cc
 acc-carried a (Acc b) e = ap Acc (sym (eqb-true a b e))
-acc-carried a (Int j) e = let z : _≡_ {A = ℕ} 0 1 = cc in absurd (omega arith)
+acc-carried a (Int j) e = clash cc
 
 int-carried : (j : ℕ) (x : Port) → isInt j x ≡ true → x ≡ Int j
-int-carried j Empty e = let z : _≡_ {A = ℕ} 0 1 = cc in absurd (omega arith)
-int-carried j (Acc b) e = let z : _≡_ {A = ℕ} 0 1 = cc in absurd (omega arith)
+int-carried j Empty e = clash cc
+int-carried j (Acc b) e = clash cc
 int-carried j (Int k) e = ap Int (sym (eqb-true j k e))
 
 module _ (t : Tree) (e : treeKeeps t ≡ true) where
@@ -223,3 +223,14 @@ module _ (t : Tree) (S : Sound t) where
 
   pub level-step : (k : ℕ) → 0 < k → k < t .ints → levelOf t k ≡ suc (levelOf t (parentOf t k))
   level-step k z l = ap (λ r. suc (length r)) (above-step k z l)
+
+-- configuration and state that keep their rules, read as those facts
+pub sound-of : (t : Tree) (s : State) → keeps t s ≡ true → Sound t
+sound-of t s e = sound t (both (treeKeeps t) (stateKeeps t s) e .0)
+
+pub kept-of : (t : Tree) (s : State) → keeps t s ≡ true → Kept t s
+kept-of t s e = kept t s (sound-of t s e) (both (treeKeeps t) (stateKeeps t s) e .1)
+
+-- another state of the same tree keeps its rules
+pub keeps-of : (t : Tree) (s r : State) → keeps t s ≡ true → Kept t r → keeps t r ≡ true
+keeps-of t s r e k = joined (treeKeeps t) (stateKeeps t r) (both (treeKeeps t) (stateKeeps t s) e .0) (keeping t r k)

@@ -29,7 +29,7 @@ use Rattle.model.specs.declared.Bus.{Bus}
 use Rattle.model.specs.declared.State.{State}
 use Rattle.model.specs.declared.Port.{Port}
 use Rattle.model.specs.declared.Port.the-variants.{Empty, Acc, Int}
-use Rattle.model.specs.Fold.{pick, all, within}
+use Rattle.folds.specs.Fold.{pick, all, within}
 use Rattle.model.specs.Tree.{portOf, granularityOf, parentOf, parentPortOf, homeOf, homePortOf, limitOf, budgetOf, levelOf, acceleratorOf, waitingOf, admittedOf, lastOf, allowanceOf}
 use Rattle.model.specs.Beneath.{waitsUnder}
 

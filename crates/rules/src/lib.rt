@@ -15,7 +15,7 @@ use model::access::waiting_of;
 use model::access::waits_under;
 ghost use mathlib.Core.Path.{_≡_};
 ghost use Prim.Native.Nat.{min};
-ghost use Rattle.model.specs.Fold.{all, within};
+ghost use Rattle.folds.specs.Fold.{all, within};
 ghost use Rattle.model.specs.Tree.{portOf};
 ghost use Rattle.rules.specs.Rules.{busKeeps, isEmpty, isAcc, isInt, carries, rootPlaced, childPlaced, isPlaced, usedInterconnect, unusedInterconnect, interconnectKeeps, usedAccelerator, unusedAccelerator, acceleratorKeeps, treeKeeps, recordKeeps, turnKeeps, stateKeeps, keeps};
 

@@ -9,8 +9,8 @@ use lib.Dec.{eqb}
 use lib.ListN.{length, length-set}
 use lib.Seq.{getD-set-same, getD-set-other}
 use borrow.Author.Tests.{lt-ltb, le-ltb, eq-eqb, ne-eqb}
-use Rattle.model.specs.Fold.{pick}
-use Rattle.model.proofs.Folds.{picked, passed}
+use Rattle.folds.specs.Fold.{pick}
+use Rattle.folds.proofs.Folds.{picked, passed}
 use Rattle.trace.specs.declared.Request.{Request}
 use Rattle.trace.specs.TraceFile.{totalFor}
 use Rattle.runner.specs.Offers.{heldOf}

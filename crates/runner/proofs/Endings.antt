@@ -8,9 +8,9 @@ use lib.ListN.{length}
 use borrow.Author.Tests.{lt-ltb, le-ltb}
 use Rattle.model.specs.declared.Tree.{Tree}
 use Rattle.model.specs.declared.State.{State}
-use Rattle.model.specs.Fold.{pick}
+use Rattle.folds.specs.Fold.{pick}
 use Rattle.rules.specs.Rules.{treeKeeps}
-use Rattle.model.proofs.Folds.{picked, passed}
+use Rattle.folds.proofs.Folds.{picked, passed, clash}
 use Rattle.text.specs.Text.{lines}
 use Rattle.lines.specs.declared.FileAnswer.{FileAnswer}
 use Rattle.trace.specs.TraceFile.{readTrace, requests}
@@ -24,13 +24,13 @@ module _ (t : Tree) (f : Start) (s : State) where
   begun-by true e g = (refl, ap (λ (x : Beginning). x .state) e)
   begun-by false e g =
       let h = ap (λ (x : Beginning). x .answer) e in
-      let z : _≡_ {A = ℕ} 0 1 = cc in absurd (omega arith)
+      clash cc
 
   unbegun-by : (b : Bool) → beginning f s ≡ pick b (beginning started (freshState t)) (beginning (notStarted 11) zeroState)
       → (n : ℕ) → f ≡ notStarted n → b ≡ false
   unbegun-by true e n g =
       let h = ap (λ (x : Beginning). x .answer) e in
-      let z : _≡_ {A = ℕ} 0 1 = cc in absurd (omega arith)
+      clash cc
   unbegun-by false e n g = refl
 
   module _ (e : beginning f s ≡ freshened t) where

@@ -11,15 +11,15 @@ use lib.ListN.{getD, length, set, replicate, length-set}
 use borrow.Author.Tests.{eq-eqb, ne-eqb, leb-false, eqb-false}
 use Rattle.model.specs.declared.Tree.{Tree}
 use Rattle.model.specs.declared.State.{State}
-use Rattle.model.specs.Fold.{pick}
+use Rattle.folds.specs.Fold.{pick}
 use Rattle.model.specs.Tree.{waitingOf}
 use Rattle.rules.specs.Rules.{treeKeeps, keeps}
-use Rattle.model.proofs.Folds.{passed}
-use Rattle.rules.proofs.Sound.{sound}
+use Rattle.folds.proofs.Folds.{passed, clash}
+use Rattle.rules.proofs.Sound.{sound, sound-of, kept-of}
 use Rattle.rules.proofs.Beneath.{only-other}
 use Rattle.turns.specs.Turns.{NextPorts, who, after}
 use Rattle.machine.specs.Machine.{Answer, idle, served, outcome, freshState, noneWaits, chosen, serve, opens, tick, lastSlot, offered, slottedWithin}
-use Rattle.machine.proofs.Cases.{sound-of, kept-of, some-waits}
+use Rattle.machine.proofs.Cases.{some-waits}
 use Rattle.turns.proofs.Descent.{Choice, choice}
 use Rattle.machine.proofs.Keeps.{zeros, take-waiting}
 use Rattle.machine.proofs.Laws.{offer-others}
@@ -56,9 +56,9 @@ fewer d n b m h l = omega (arith, length-set d n b)
 -- neither of three tests holds
 none-of : (x y z : Bool) → (x || y || z) ≡ false → (x ≡ false) × (y ≡ false) × (z ≡ false)
 none-of false false false e = (refl, refl, refl)
-none-of true y z e = let i : _≡_ {A = ℕ} 0 1 = cc in absurd (omega arith)
-none-of false true z e = let i : _≡_ {A = ℕ} 0 1 = cc in absurd (omega arith)
-none-of false false true e = let i : _≡_ {A = ℕ} 0 1 = cc in absurd (omega arith)
+none-of true y z e = clash cc
+none-of false true z e = clash cc
+none-of false false true e = clash cc
 
 pub quiet : (q : Bool) (d n r : ℕ) → (q || leb d n || eqb r 255) ≡ false → (q ≡ false) × (d ≤ n → ⊥) × (r ≡ 255 → ⊥)
 quiet q d n r e =
@@ -90,7 +90,7 @@ going-start t s d l o v f k e A el eo ev = record {
   running = running-start t s d _ k (ap₂ (λ (x y : List ℕ). stateOf (replicate 32 0) (replicate 32 0) x y 0) (el ∙ ap (λ (x : State). x .last) e) eo) A;
   counts = subst (Counted t _ (replicate 120 0)) (sym ev) (counted-none t (sound t k) _ (λ a _. zeros 32 a));
   due = omega arith;
-  settled = λ z. let y : _≡_ {A = ℕ} 0 1 = cc in absurd (omega arith);
+  settled = λ z. clash cc;
 }
 
 -- a slot leaves the admitted counts and the slot count to the tick, and what it answers is its byte

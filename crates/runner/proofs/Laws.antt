@@ -12,9 +12,9 @@ use lib.ListN.{length, length-set}
 use borrow.Author.Tests.{lt-ltb, le-ltb, le-leb, lt-leb}
 use Rattle.model.specs.declared.Tree.{Tree}
 use Rattle.model.specs.declared.State.{State}
-use Rattle.model.specs.Fold.{pick}
+use Rattle.folds.specs.Fold.{pick}
 use Rattle.rules.specs.Rules.{treeKeeps, keeps}
-use Rattle.model.proofs.Folds.{picked, passed}
+use Rattle.folds.proofs.Folds.{picked, passed, clash}
 use Rattle.trace.specs.declared.Request.{Request}
 use Rattle.machine.specs.Machine.{refused, offered, lastSlot, slotted}
 use Rattle.machine.proofs.Laws.{fresh-keeps, offer-others, slot-keeps, slot-only-last, slot-windows}
@@ -64,7 +64,7 @@ module _ (k : ℕ) (t : Tree) (r : Run) where
         bytes = refl;
         going = λ i h. absurd (omega arith);
         ends = sym e;
-        full = λ f. let z : _≡_ {A = ℕ} 0 1 = cc in absurd (omega arith);
+        full = λ f. clash cc;
       })
 
   module _ (e : isDone r ≡ false) (R : Ran k t (next t r) (trail k t (next t r))) where
@@ -101,7 +101,7 @@ pub ending-stopped : (x : Trail) (m : ℕ) → endOf x ≡ stopped m → (x .don
 ending-stopped x m = go (x .done)
   where
     go : (b : Bool) → pick b (done (length (x .bytes))) (stopped (length (x .bytes))) ≡ stopped m → (b ≡ false) × (length (x .bytes) ≡ m)
-    go true e = let z : _≡_ {A = ℕ} 0 1 = cc in absurd (omega arith)
+    go true e = clash cc
     go false e = (refl, cc)
 
 pub ending-done : (x : Trail) (m : ℕ) → endOf x ≡ done m → (x .done ≡ true) × (length (x .bytes) ≡ m)
@@ -109,7 +109,7 @@ ending-done x m = go (x .done)
   where
     go : (b : Bool) → pick b (done (length (x .bytes))) (stopped (length (x .bytes))) ≡ done m → (b ≡ true) × (length (x .bytes) ≡ m)
     go true e = (refl, cc)
-    go false e = let z : _≡_ {A = ℕ} 0 1 = cc in absurd (omega arith)
+    go false e = clash cc
 
 -- "Stopped is reported exactly if the buffer is full and this is not so"
 pub stopped-exactly : (k : ℕ) (t : Tree) (r : Run) (m : ℕ)

@@ -9,7 +9,7 @@ use lib.ListN.{length, getD, set, take, drop, replicate}
 use lib.Seq.{drop-drop}
 use Rattle.model.specs.declared.Tree.{Tree}
 use Rattle.model.specs.declared.State.{State}
-use Rattle.model.specs.Fold.{pick}
+use Rattle.folds.specs.Fold.{pick}
 use Rattle.counts.specs.Wiring.{grants, aboves, homes, limits, budgets}
 use Rattle.counts.specs.Counts.{lasts, allowances, lives}
 use Rattle.admit.specs.Admitting.{waitings, admitteds, helds, arraysOf, offersBefore}

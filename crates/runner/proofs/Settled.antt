@@ -8,11 +8,11 @@ use native.Mathlib.Decide.{decLt, ℕ-discrete}
 use native.Mathlib.Omega.{arith}
 use lib.ListN.{length, set, List·getD-eq-default}
 use lib.Seq.{getD-set-same, getD-set-other, set-out}
+use Rattle.rules.proofs.Sound.{sound-of, kept-of}
 use Rattle.model.specs.declared.Tree.{Tree}
 use Rattle.model.specs.declared.State.{State}
 use Rattle.model.specs.Tree.{limitOf, budgetOf, waitingOf, admittedOf}
 use Rattle.rules.specs.Rules.{keeps}
-use Rattle.machine.proofs.Cases.{sound-of, kept-of}
 use Rattle.runner.specs.Offers.{Offering, heldOf, offering, offerAll, offerEach}
 use Rattle.runner.proofs.Held.{held-kept, each-kept}
 use Rattle.runner.proofs.Together.{room, after, none-admitted, together}

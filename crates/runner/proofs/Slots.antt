@@ -10,9 +10,9 @@ use lib.ListN.{length, take, drop, set, replicate, length-set, take-append-drop}
 use lib.Seq.{length-take-le, take-suc-set, drop-set-lt, drop-drop}
 use Rattle.model.specs.declared.Tree.{Tree}
 use Rattle.model.specs.declared.State.{State}
-use Rattle.model.specs.Fold.{pick}
+use Rattle.folds.specs.Fold.{pick}
 use Rattle.rules.specs.Rules.{treeKeeps, keeps}
-use Rattle.model.proofs.Folds.{picked, passed}
+use Rattle.folds.proofs.Folds.{picked, passed}
 use Rattle.trace.specs.declared.Request.{Request}
 use Rattle.machine.specs.Machine.{Answer, Outcome, outcome, freshState, slottedWithin, slotted}
 use Rattle.machine.proofs.Steps.{slot-passed}

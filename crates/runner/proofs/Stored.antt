@@ -14,12 +14,12 @@ use Rattle.model.specs.declared.State.{State}
 use Rattle.model.specs.Tree.{waitingOf}
 use Rattle.model.specs.Beneath.{inside}
 use Rattle.rules.specs.Rules.{keeps}
-use Rattle.model.proofs.Folds.{picked, passed, at-all, all-at}
-use Rattle.rules.proofs.Sound.{Sound, Kept}
+use Rattle.folds.proofs.Folds.{picked, passed, at-all, all-at}
+use Rattle.rules.proofs.Sound.{Sound, Kept, sound-of, kept-of}
 use Rattle.rules.proofs.Beneath.{root-zero}
 use Rattle.turns.specs.Turns.{who, after}
 use Rattle.machine.specs.Machine.{noneWaits, serve}
-use Rattle.machine.proofs.Cases.{sound-of, kept-of, zero-all}
+use Rattle.machine.proofs.Cases.{zero-all}
 use Rattle.turns.proofs.Descent.{Choice, choice}
 use Rattle.machine.proofs.Keeps.{stored, take-waiting}
 use Rattle.counts.specs.Wiring.{Lanes, Limits}

@@ -12,8 +12,8 @@ use Rattle.model.specs.declared.Tree.{Tree}
 use Rattle.model.specs.declared.State.{State}
 use Rattle.model.specs.Tree.{limitOf, budgetOf, waitingOf, admittedOf}
 use Rattle.rules.specs.Rules.{keeps}
+use Rattle.rules.proofs.Sound.{sound-of, kept-of}
 use Rattle.machine.specs.Machine.{Outcome, outcome, admitted, refused, admit, offered, offeredWithin}
-use Rattle.machine.proofs.Cases.{sound-of, kept-of}
 use Rattle.machine.proofs.Laws.{offer-keeps}
 use Rattle.machine.proofs.Steps.{offer-passed, offer-8, offer-9, offer-admitted}
 use Rattle.runner.specs.Offers.{Offering, heldOf, release, offering, offerHeld}

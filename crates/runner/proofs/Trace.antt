@@ -10,7 +10,7 @@ use lib.ListN.{length}
 use lib.Seq.{getD-set-same, getD-set-other, set-out}
 use borrow.Author.Tests.{le-leb, lt-leb, eq-eqb, ne-eqb}
 use Rattle.model.specs.declared.Tree.{Tree}
-use Rattle.model.proofs.Folds.{picked, passed}
+use Rattle.folds.proofs.Folds.{picked, passed, clash}
 use Rattle.rules.proofs.Sound.{sound}
 use Rattle.trace.specs.declared.Request.{Request}
 use Rattle.trace.specs.declared.NextRequest.the-variants.{Done, Due}
@@ -36,7 +36,7 @@ module _ (s : List ℕ) (at : ℕ) (A : Accepts s at) where
 
   -- where bytes are left, a request stands there
   pub line-some : at < length s → requestAt s at ≡ Done → ⊥
-  line-some h e = let x = here h .found in let z : _≡_ {A = ℕ} 0 1 = cc in omega arith
+  line-some h e = let x = here h .found in clash cc
 
   pub line-next : at < length s → (r : Request) (p : ℕ) → requestAt s at ≡ Due r p → Next s at r p
   line-next h r p e =

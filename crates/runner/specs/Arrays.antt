@@ -12,7 +12,7 @@ use mathlib.Core.Path.{_≡_}
 use lib.Dec.{eqb}
 use Rattle.model.specs.declared.Tree.{Tree}
 use Rattle.model.specs.declared.State.{State}
-use Rattle.model.specs.Fold.{pick}
+use Rattle.folds.specs.Fold.{pick}
 use Rattle.model.specs.Tree.{waitingOf}
 use Rattle.rules.specs.Rules.{keeps}
 use Rattle.turns.specs.Turns.{NextPorts}

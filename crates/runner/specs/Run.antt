@@ -31,7 +31,7 @@ use lib.ListN.{length, set, drop, replicate}
 use lib.Dec.{leb, ltb, eqb}
 use Rattle.model.specs.declared.Tree.{Tree}
 use Rattle.model.specs.declared.State.{State}
-use Rattle.model.specs.Fold.{pick, all}
+use Rattle.folds.specs.Fold.{pick, all}
 use Rattle.rules.specs.Rules.{treeKeeps}
 use Rattle.model.specs.Answer.{numberOf}
 use Rattle.text.specs.Text.{lines}

@@ -17,7 +17,7 @@ ghost use lib.ListN.{length, getD, take, drop, replicate};
 ghost use Rattle.counts.specs.Wiring.{grants, aboves, homes};
 ghost use Rattle.counts.specs.Counts.{lasts, allowances, lives};
 ghost use Rattle.admit.specs.Admitting.{waitings, admitteds, helds};
-ghost use Rattle.model.specs.Fold.{pick};
+ghost use Rattle.folds.specs.Fold.{pick};
 ghost use Rattle.runner.specs.Run.{noneHeld};
 ghost use Rattle.runner.specs.Places.{leftAt, dueOf, Accepts, Room, Taken};
 ghost use Rattle.runner.specs.Arrays.{begins, Serves};

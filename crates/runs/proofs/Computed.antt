@@ -4,7 +4,7 @@ use Prim.Native.Nat.{ℕ}
 use mathlib.Core.List.{[], _∷_}
 use mathlib.Core.Path.{_≡_, refl}
 use Rattle.model.specs.declared.Tree.{Tree}
-use Rattle.model.specs.Fold.{sum, all}
+use Rattle.folds.specs.Fold.{sum, all}
 use Rattle.model.specs.Tree.{above}
 use Rattle.model.specs.Beneath.{inside}
 use Rattle.rules.specs.Rules.{treeKeeps, stateKeeps, sized, recordKeeps, turnKeeps, busKeeps, carries, rootPlaced, childPlaced, usedInterconnect, unusedInterconnect, usedAccelerator, unusedAccelerator}
@@ -16,7 +16,7 @@ use Rattle.guarantee.specs.Guarantee.{event}
 use Rattle.runner.specs.Offers.{offerHeld, offerEach}
 use Rattle.runner.specs.Run.{start, heldWith}
 use Rattle.runner.specs.Slots.{dueBefore}
-use Rattle.cases.specs.Trees.{pair}
+use Rattle.model.specs.Trees.{pair}
 use Rattle.runs.specs.Calls.{offersHeld, offersEach, slotCalls, bytesIn, admissionsBy, askedBefore}
 
 abbrev line : ℕ → ℕ → ℕ → Request

@@ -11,8 +11,8 @@ use lib.Seq.{getD-set-other}
 use borrow.Author.Tests.{eq-eqb, ne-eqb}
 use Rattle.model.specs.declared.Tree.{Tree}
 use Rattle.model.specs.declared.State.{State}
-use Rattle.model.specs.Fold.{pick}
-use Rattle.model.proofs.Folds.{picked, passed}
+use Rattle.folds.specs.Fold.{pick}
+use Rattle.folds.proofs.Folds.{picked, passed}
 use Rattle.model.proofs.Lists.{beyond}
 use Rattle.machine.specs.Machine.{Outcome, offered}
 use Rattle.machine.specs.Calls.{Call, offer, stateAfter}

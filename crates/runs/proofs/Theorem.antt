@@ -12,9 +12,9 @@ use lib.Seq.{take-at}
 use borrow.Author.Tests.{not-false, ltb-false}
 use Rattle.model.specs.declared.Tree.{Tree}
 use Rattle.model.specs.declared.State.{State}
-use Rattle.model.specs.Fold.{pick}
+use Rattle.folds.specs.Fold.{pick}
 use Rattle.rules.specs.Rules.{treeKeeps}
-use Rattle.model.proofs.Folds.{passed}
+use Rattle.folds.proofs.Folds.{passed, clash}
 use Rattle.rules.proofs.Sound.{sound}
 use Rattle.text.specs.Text.{lines}
 use Rattle.trace.specs.declared.Request.{Request}
@@ -134,10 +134,10 @@ called t rs k (suc n) l = called-more t rs n (stood t rs k n (omega arith)) (ome
 
 -- a run that reports is not refused
 not-refused : (a b m : ℕ) → Reports (refusedAt a b) m → ⊥
-not-refused a b m = ⊎-elim (λ e. let z : _≡_ {A = ℕ} 0 1 = cc in omega arith) (λ e. let z : _≡_ {A = ℕ} 0 1 = cc in omega arith)
+not-refused a b m = ⊎-elim (λ e. clash cc) (λ e. clash cc)
 
 not-broken : (a m : ℕ) → Reports (broken a) m → ⊥
-not-broken a m = ⊎-elim (λ e. let z : _≡_ {A = ℕ} 0 1 = cc in omega arith) (λ e. let z : _≡_ {A = ℕ} 0 1 = cc in omega arith)
+not-broken a m = ⊎-elim (λ e. clash cc) (λ e. clash cc)
 
 test-passed : (c : Bool) (x y : Ending) (m : ℕ) → (Reports x m → ⊥) → Reports (pick c x y) m → (c ≡ false) × Reports y m
 test-passed true x y m f h = absurd (f h)

@@ -12,10 +12,10 @@ use lib.Dec.{eqb, lit<, lit≤}
 use lib.ListN.{length}
 use borrow.Author.Tests.{eq-eqb, ne-eqb}
 use Rattle.model.specs.declared.Tree.{Tree}
-use Rattle.model.specs.Fold.{pick, sum}
+use Rattle.folds.specs.Fold.{pick, sum}
 use Rattle.model.specs.Tree.{Crossing, granularityOf, homeOf, homePortOf, parentOf, parentPortOf, above, path}
 use Rattle.rules.specs.Rules.{treeKeeps}
-use Rattle.model.proofs.Folds.{picked, passed}
+use Rattle.folds.proofs.Folds.{picked, passed}
 use Rattle.rules.proofs.Sound.{Sound, sound}
 use Rattle.rules.proofs.Beneath.{On, here, there, path-bounds}
 use Rattle.shares.specs.Shares.{capacityOf, counted, othersAt, shareAlong, shareOf, shareWithin}

@@ -13,7 +13,7 @@ use Rattle.model.specs.declared.Tree.{Tree}
 use Rattle.model.specs.Tree.{Crossing, portOf, parentOf, parentPortOf, homeOf, homePortOf, limitOf, path}
 use Rattle.model.specs.Beneath.{under, inside, weightUnder}
 use Rattle.rules.specs.Rules.{treeKeeps}
-use Rattle.model.proofs.Folds.{sum-zero, term-le}
+use Rattle.folds.proofs.Folds.{sum-zero, term-le}
 use Rattle.rules.proofs.Sound.{Sound, sound, above-step}
 use Rattle.rules.proofs.Beneath.{only, only-same, only-other, some-port, On, here, there, lane, at-port, path-bounds, path-unique, path-root, beneath-on, beneath-once}
 use Rattle.shares.specs.Shares.{capacityOf, counted, othersAt, shareAlong, shareOf}

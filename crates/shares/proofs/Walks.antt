@@ -9,7 +9,7 @@ use lib.Dec.{lit<}
 use borrow.Author.Tests.{eq-eqb, ne-eqb}
 use Rattle.model.specs.declared.Tree.{Tree}
 use Rattle.model.specs.Tree.{parentOf, parentPortOf, above}
-use Rattle.model.proofs.Folds.{picked, passed}
+use Rattle.folds.proofs.Folds.{picked, passed}
 use Rattle.shares.specs.Shares.{othersAt, shareAlong}
 
 module _ (t : Tree) where

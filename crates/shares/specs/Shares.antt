@@ -13,7 +13,7 @@ use Prim.Native.Nat.{ℕ, _+_, _*_, min}
 use mathlib.Core.List.{List, [], _∷_}
 use lib.Dec.{eqb}
 use Rattle.model.specs.declared.Tree.{Tree}
-use Rattle.model.specs.Fold.{pick, sum}
+use Rattle.folds.specs.Fold.{pick, sum}
 use Rattle.model.specs.Tree.{Crossing, granularityOf, limitOf, homeOf, homePortOf, above, path}
 use Rattle.model.specs.Beneath.{weightUnder}
 

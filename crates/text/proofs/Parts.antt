@@ -11,14 +11,15 @@ use lib.Dec.{ltb}
 use lib.ListN.{length, getD, take, drop, length-drop, drop-of-length-le}
 use lib.Seq.{drop-cons, drop-drop}
 use borrow.Author.Tests.{eq-eqb, ne-eqb, lt-ltb, le-ltb}
+use Rattle.folds.proofs.Folds.{clash}
 use Rattle.text.specs.Text.{parts, partLength, behind, butLast, final, lines, unended}
 
 pub taken : {A : Type 0} (c : Bool) (x y : A) → c ≡ true → cond c x y ≡ x
 taken true x y e = refl
-taken false x y e = let z : _≡_ {A = ℕ} 0 1 = cc in absurd (omega arith)
+taken false x y e = clash cc
 
 pub left : {A : Type 0} (c : Bool) (x y : A) → c ≡ false → cond c x y ≡ y
-left true x y e = let z : _≡_ {A = ℕ} 0 1 = cc in absurd (omega arith)
+left true x y e = clash cc
 left false x y e = refl
 
 -- two tests that hold together are one
@@ -120,7 +121,7 @@ parts-sizes sep (b ∷ s) = elim (ℕ-discrete b sep) [
 ]
   where
     go : (ps : List (List ℕ)) {p : List ℕ} {qs : List (List ℕ)} → ps ≡ p ∷ qs → sizes ps ≡ suc (length s) → sizes (behind b ps) ≡ suc (suc (length s))
-    go [] e f = let z : _≡_ {A = ℕ} 0 1 = cc in absurd (omega arith)
+    go [] e f = clash cc
     go (p ∷ ps) e f = omega arith
 
 last-sizes : (p : List ℕ) (ps : List (List ℕ)) → sizes (butLast (p ∷ ps)) + suc (length (final (p ∷ ps))) ≡ sizes (p ∷ ps)
@@ -133,5 +134,5 @@ pub text-size : (s : List ℕ) → sizes (lines s) + length (unended s) ≡ leng
 text-size s = go (parts 10 s) (first-part 10 s) (parts-sizes 10 s)
   where
     go : (ps : List (List ℕ)) {p : List ℕ} {qs : List (List ℕ)} → ps ≡ p ∷ qs → sizes ps ≡ suc (length s) → sizes (butLast ps) + length (final ps) ≡ length s
-    go [] e f = let z : _≡_ {A = ℕ} 0 1 = cc in absurd (omega arith)
+    go [] e f = clash cc
     go (p ∷ ps) e f = omega (arith, last-sizes p ps)

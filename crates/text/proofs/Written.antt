@@ -10,6 +10,7 @@ use native.Mathlib.Omega.{arith}
 use lib.Dec.{eqb, ltb, leb}
 use lib.ListN.{length, getD, length-append}
 use borrow.Author.Tests.{eq-eqb, ne-eqb, lt-ltb, le-ltb, le-leb, leb-true}
+use Rattle.folds.proofs.Folds.{clash}
 use Rattle.text.specs.declared.Field.the-variants.{Number}
 use Rattle.text.specs.Text.{parts, behind, butLast, final, lines, unended, fields, same, isDigit, allDigits, decimal, leadingZero, fieldOf}
 use Rattle.text.specs.Write.{digits, numberText, fieldsText, lineText, fileText}
@@ -67,7 +68,7 @@ decimal-last (b ∷ s) d =
 
 both-of : (a b : Bool) → a && b ≡ true → (a ≡ true) × (b ≡ true)
 both-of true b e = (refl, e)
-both-of false b e = let z : _≡_ {A = ℕ} 0 1 = cc in absurd (omega arith)
+both-of false b e = clash cc
 
 digits-last : (s : List ℕ) (d : ℕ) → allDigits s ≡ true → 48 ≤ d → d ≤ 57 → allDigits (s ++ (d ∷ [])) ≡ true
 unfolding allDigits

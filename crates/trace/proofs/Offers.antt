@@ -15,8 +15,8 @@ use Rattle.text.specs.declared.Field.the-variants.{Malformed, Dash, Number}
 use Rattle.text.specs.Text.{partLength, fieldLength, fields, lineAt, same, fieldOf}
 use Rattle.text.proofs.Parts.{first-part}
 use Rattle.text.proofs.Fields.{field-unended, field-then, field-last}
-use Rattle.model.specs.Fold.{pick, all}
-use Rattle.model.proofs.Folds.{picked, passed, both}
+use Rattle.folds.specs.Fold.{pick, all}
+use Rattle.folds.proofs.Folds.{picked, passed, both, clash}
 use Rattle.lines.specs.declared.Kind.{Kind}
 use Rattle.lines.specs.declared.Kind.the-variants.{NoRecord, BusLine, IntLine, AccLine, OfferLine}
 use Rattle.lines.specs.declared.Line.{Line}
@@ -52,15 +52,15 @@ module _ (s : List ℕ) (at sep e : ℕ) (q : e ≡ at + fieldLength (drop at s)
     number-field g f k r t = ap (λ x. numberIn x (e + 1)) (sym t ∙ r) ∙ sym (number-here g)
 
 number-in : (f : Field) (n x next : ℕ) → numberIn f n ≡ NumberTo x next → (f ≡ Number x) × (n ≡ next)
-number-in Malformed n x next e = let z : _≡_ {A = ℕ} 0 1 = cc in absurd (omega arith)
-number-in Dash n x next e = let z : _≡_ {A = ℕ} 0 1 = cc in absurd (omega arith)
+number-in Malformed n x next e = clash cc
+number-in Dash n x next e = clash cc
 number-in (Number y) n x next e = (cc, cc)
 
 not-number : (f : Field) (n x : ℕ) → numberIn f n ≡ NoNumber → f ≡ Number x → ⊥
-not-number f n x e g = let h = sym (ap (λ k. numberIn k n) g) ∙ e in let z : _≡_ {A = ℕ} 0 1 = cc in omega arith
+not-number f n x e g = let h = sym (ap (λ k. numberIn k n) g) ∙ e in clash cc
 
 none-to : {x next : ℕ} → NoNumber ≡ NumberTo x next → ⊥
-none-to e = let z : _≡_ {A = ℕ} 0 1 = cc in omega arith
+none-to e = clash cc
 
 -- the first part of two equal rows, and rows that are not equal
 heads : {p q : List ℕ} {ps qs : List (List ℕ)} → p ∷ ps ≡ q ∷ qs → p ≡ q
@@ -70,10 +70,10 @@ tails : {p q : List ℕ} {ps qs : List (List ℕ)} → p ∷ ps ≡ q ∷ qs →
 tails e = cc
 
 one-two : {p q r : List ℕ} {qs : List (List ℕ)} → p ∷ [] ≡ q ∷ (r ∷ qs) → ⊥
-one-two e = let z : _≡_ {A = ℕ} 0 1 = cc in omega arith
+one-two e = clash cc
 
 one-none : {p : List ℕ} {ps : List (List ℕ)} → p ∷ ps ≡ [] → ⊥
-one-none e = let z : _≡_ {A = ℕ} 0 1 = cc in omega arith
+one-none e = clash cc
 
 -- a line has always a first part
 more-one : {p q : List ℕ} (s : List ℕ) → p ∷ fields s ≡ q ∷ [] → ⊥
@@ -168,18 +168,18 @@ not-true-false false d = refl
 
 -- what test 1 says of a line's parts
 inTrace-says : (k : Kind) → inTrace k ≡ true → k ≡ OfferLine
-inTrace-says NoRecord e = let z : _≡_ {A = ℕ} 0 1 = cc in absurd (omega arith)
-inTrace-says BusLine e = let z : _≡_ {A = ℕ} 0 1 = cc in absurd (omega arith)
-inTrace-says IntLine e = let z : _≡_ {A = ℕ} 0 1 = cc in absurd (omega arith)
-inTrace-says AccLine e = let z : _≡_ {A = ℕ} 0 1 = cc in absurd (omega arith)
+inTrace-says NoRecord e = clash cc
+inTrace-says BusLine e = clash cc
+inTrace-says IntLine e = clash cc
+inTrace-says AccLine e = clash cc
 inTrace-says OfferLine e = refl
 
 name-tests : (a b c d : Bool) → pick a BusLine (pick b IntLine (pick c AccLine (pick d OfferLine NoRecord))) ≡ OfferLine → d ≡ true
-name-tests true b c d e = let z : _≡_ {A = ℕ} 0 1 = cc in absurd (omega arith)
-name-tests false true c d e = let z : _≡_ {A = ℕ} 0 1 = cc in absurd (omega arith)
-name-tests false false true d e = let z : _≡_ {A = ℕ} 0 1 = cc in absurd (omega arith)
+name-tests true b c d e = clash cc
+name-tests false true c d e = clash cc
+name-tests false false true d e = clash cc
 name-tests false false false true e = refl
-name-tests false false false false e = let z : _≡_ {A = ℕ} 0 1 = cc in absurd (omega arith)
+name-tests false false false false e = clash cc
 
 name-says : (name : List ℕ) → kindOf name ≡ OfferLine → same name (111 ∷ []) ≡ true
 unfolding kindOf
@@ -187,9 +187,9 @@ name-says name e = name-tests (same name (98 ∷ 117 ∷ 115 ∷ [])) (same name
 
 pub name-kind : (name : List ℕ) → same name (111 ∷ []) ≡ true → kindOf name ≡ OfferLine
 unfolding kindOf same
-name-kind [] e = let z : _≡_ {A = ℕ} 0 1 = cc in absurd (omega arith)
+name-kind [] e = clash cc
 name-kind (b ∷ []) e = subst (λ c. kindOf (c ∷ []) ≡ OfferLine) (sym (eqb-true b 111 (both _ _ e .0))) refl
-name-kind (b ∷ (c ∷ r)) e = let f = both (eqb b 111) false e .1 in let z : _≡_ {A = ℕ} 0 1 = cc in absurd (omega arith)
+name-kind (b ∷ (c ∷ r)) e = let f = both (eqb b 111) false e .1 in clash cc
 
 pushed-kind : (l : Line) (fs : List (List ℕ)) → pushed l fs .kind ≡ l .kind
 unfolding pushed
@@ -213,8 +213,8 @@ isNumber (Number x) = true
 
 number-is : (f : Field) → isNumber f ≡ true → (x : ℕ) × (f ≡ Number x)
 unfolding isNumber
-number-is Malformed e = let z : _≡_ {A = ℕ} 0 1 = cc in absurd (omega arith)
-number-is Dash e = let z : _≡_ {A = ℕ} 0 1 = cc in absurd (omega arith)
+number-is Malformed e = clash cc
+number-is Dash e = clash cc
 number-is (Number x) e = (x, refl)
 
 -- test 1 of three fields
@@ -317,7 +317,7 @@ module _ (s : List ℕ) (at : ℕ) where
   parts-none name fs p d = text-none (λ h e. d h (offered name fs (sym (ap isOfferLine (line-parts name fs p)) ∙ e)))
 
 false-true : {b : Bool} → b ≡ false → b ≡ true → ⊥
-false-true e f = let z : _≡_ {A = ℕ} 0 1 = cc in omega arith
+false-true e f = clash cc
 
 -- a line whose first part ends at e
 module _ (s : List ℕ) (at e : ℕ) (q : e ≡ at + fieldLength (drop at s)) where
@@ -396,16 +396,16 @@ module _ (s : List ℕ) (at : ℕ) where
     where
       go : (b : Bool) → isOfferLine (lineOf (lineAt s at)) ≡ b → b ≡ false
       go false e = refl
-      go true e = let q = sym (picked _ _ _ e) ∙ sym (text-within h) ∙ r in let z : _≡_ {A = ℕ} 0 1 = cc in absurd (omega arith)
+      go true e = let q = sym (picked _ _ _ e) ∙ sym (text-within h) ∙ r in clash cc
 
   pub text-read : (x y z next : ℕ) → offerText s at ≡ Shaped x y z next → Read s at x y z next
   text-read x y z next r = elim (decLt (endAt s at) (length s)) [
-    | no h ↦ let q = sym (text-none s at (λ w o. absurd (h w))) ∙ r in let z : _≡_ {A = ℕ} 0 1 = cc in absurd (omega arith)
+    | no h ↦ let q = sym (text-none s at (λ w o. absurd (h w))) ∙ r in clash cc
     | yes h ↦ go h (isOfferLine (lineOf (lineAt s at))) refl
   ]
     where
       go : endAt s at < length s → (b : Bool) → isOfferLine (lineOf (lineAt s at)) ≡ b → Read s at x y z next
-      go h false e = let q = sym (passed _ _ _ e) ∙ sym (text-within h) ∙ r in let z : _≡_ {A = ℕ} 0 1 = cc in absurd (omega arith)
+      go h false e = let q = sym (passed _ _ _ e) ∙ sym (text-within h) ∙ r in clash cc
       go h true e =
           let q = sym (picked _ _ _ e) ∙ sym (text-within h) ∙ r in
           record { within = h; place = cc; offer = e; slot = cc; accelerator = cc; count = cc }

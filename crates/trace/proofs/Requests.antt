@@ -15,9 +15,9 @@ use Rattle.text.proofs.Parts.{lines-none, lines-next, part-fits}
 use Rattle.model.specs.declared.Tree.{Tree}
 use Rattle.model.specs.declared.Refusal.{Refusal}
 use Rattle.model.specs.declared.Refusal.the-variants.{Shape, Limit}
-use Rattle.model.specs.Fold.{pick}
+use Rattle.folds.specs.Fold.{pick}
 use Rattle.rules.specs.Rules.{treeKeeps}
-use Rattle.model.proofs.Folds.{picked, passed, joined}
+use Rattle.folds.proofs.Folds.{picked, passed, joined, clash}
 use Rattle.rules.proofs.Sound.{sound}
 use Rattle.lines.specs.declared.Kind.the-variants.{OfferLine}
 use Rattle.lines.specs.declared.Line.{Line}
@@ -33,7 +33,7 @@ use Rattle.lines.proofs.Limits.{most, least}
 use Rattle.trace.proofs.Traces.{Good, offer-says, traceFrom, trace-broken, trace-size, trace-start, trace-unended, trace-line, request-done, request-line}
 
 not-accepted : {A : Type 0} (x : Refusal) (n : ℕ) → Refused x n ≡ Accepted → A
-not-accepted x n e = let z : _≡_ {A = ℕ} 0 1 = cc in absurd (omega arith)
+not-accepted x n e = clash cc
 
 -- a line that reading goes on after was a request
 taken-offer : (n : ℕ) (x : OfferRead) (next : Request → FileAnswer) → afterOffer n x next ≡ Accepted → (r : Request) × (x ≡ Offer r) × (next r ≡ Accepted)
@@ -89,7 +89,7 @@ accepted-start : (t : Tree) (s : List ℕ) → readTrace t s ≡ Accepted → (t
 accepted-start t s e = go (treeKeeps t) refl
   where
     go : (c : Bool) → treeKeeps t ≡ c → (treeKeeps t ≡ true) × (length s ≤ 65536)
-    go false f = let q = sym (trace-broken t s f) ∙ e in let z : _≡_ {A = ℕ} 0 1 = cc in absurd (omega arith)
+    go false f = let q = sym (trace-broken t s f) ∙ e in clash cc
     go true f = elim (decLt 65536 (length s)) [
       | yes h ↦ not-accepted Limit 0 (sym (trace-size t s f h) ∙ e)
       | no h ↦ (f, omega arith)

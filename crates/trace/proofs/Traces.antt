@@ -14,10 +14,10 @@ use Rattle.text.proofs.Parts.{lines-none, lines-unended, lines-next, part-fits}
 use Rattle.model.specs.declared.Tree.{Tree}
 use Rattle.model.specs.declared.Refusal.{Refusal}
 use Rattle.model.specs.declared.Refusal.the-variants.{Shape, Limit, Falling, Unknown}
-use Rattle.model.specs.Fold.{pick, all}
+use Rattle.folds.specs.Fold.{pick, all}
 use Rattle.rules.specs.Rules.{treeKeeps}
 use Rattle.rules.proofs.Sound.{sound}
-use Rattle.model.proofs.Folds.{picked, passed, both}
+use Rattle.folds.proofs.Folds.{picked, passed, both, clash}
 use Rattle.lines.specs.declared.Kind.the-variants.{OfferLine}
 use Rattle.lines.specs.declared.Line.{Line}
 use Rattle.trace.specs.declared.Request.{Request}
@@ -67,7 +67,7 @@ module _ (accs last : ℕ) (totals : List ℕ) (l : Line) where
 
 -- a test whose failure is a refusal has passed where the line is accepted
 not-refused : (c : Bool) (x : Refusal) (y : OfferRead) (r : Request) → pick c (NoOffer x) y ≡ Offer r → (c ≡ false) × (y ≡ Offer r)
-not-refused true x y r e = let z : _≡_ {A = ℕ} 0 1 = cc in absurd (omega arith)
+not-refused true x y r e = clash cc
 not-refused false x y r e = (refl, e)
 
 same-offer : (p r : Request) → Offer p ≡ Offer r → p ≡ r

@@ -14,7 +14,7 @@ use lib.Dec.{leb, eqb}
 use Rattle.text.specs.declared.Field.{Field}
 use Rattle.text.specs.declared.Field.the-variants.{Malformed, Dash, Number}
 use Rattle.text.specs.Text.{partLength, fieldLength, lineAt, fieldOf}
-use Rattle.model.specs.Fold.{pick}
+use Rattle.folds.specs.Fold.{pick}
 use Rattle.lines.specs.declared.Kind.the-variants.{OfferLine}
 use Rattle.lines.specs.declared.Line.{Line}
 use Rattle.lines.specs.Lines.{lineOf, valueAt, shaped, noDashes, inTrace}

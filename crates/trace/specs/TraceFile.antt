@@ -27,7 +27,7 @@ use lib.ListN.{length, getD, set, take, drop, replicate}
 use lib.Dec.{leb, ltb, eqb}
 use Rattle.model.specs.declared.Tree.{Tree}
 use Rattle.model.specs.declared.Refusal.the-variants.{Shape, Limit, Falling, Unknown}
-use Rattle.model.specs.Fold.{pick, within}
+use Rattle.folds.specs.Fold.{pick, within}
 use Rattle.rules.specs.Rules.{treeKeeps}
 use Rattle.text.specs.Text.{partLength, lines, unended}
 use Rattle.lines.specs.declared.Kind.the-variants.{OfferLine}

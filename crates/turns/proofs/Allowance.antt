@@ -7,7 +7,7 @@ use Rattle.model.specs.declared.Tree.{Tree}
 use Rattle.model.specs.declared.State.{State}
 use Rattle.model.specs.declared.Accelerator.{Accelerator}
 use Rattle.model.specs.declared.Port.the-variants.{Acc}
-use Rattle.model.specs.Fold.{sum}
+use Rattle.folds.specs.Fold.{sum}
 use Rattle.model.specs.Beneath.{inside}
 use Rattle.turns.specs.Turns.{turnPort, turnAllowance}
 

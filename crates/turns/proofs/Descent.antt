@@ -16,7 +16,7 @@ use Rattle.model.specs.declared.State.{State}
 use Rattle.model.specs.declared.Port.{Port}
 use Rattle.model.specs.Tree.{Crossing, portOf, granularityOf, parentOf, parentPortOf, homeOf, homePortOf, levelOf, above, path, waitingOf, lastOf, allowanceOf}
 use Rattle.model.specs.Beneath.{under, inside, waitsUnder}
-use Rattle.model.proofs.Folds.{picked, passed}
+use Rattle.folds.proofs.Folds.{picked, passed}
 use Rattle.rules.proofs.Sound.{Sound, Kept, above-root}
 use Rattle.rules.proofs.Beneath.{On, here, there, no-crossing, lane, at-port, child-level, settled, some-port, child-lane, path-unique, path-up}
 use Rattle.turns.specs.Turns.{liveSet, nextPort, goesOn, turnPort, turnAllowance, reached, who, withTurn, turned, after}

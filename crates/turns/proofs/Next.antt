@@ -7,7 +7,8 @@ use native.Mathlib.Decide.{decLt, ℕ-discrete}
 use native.Mathlib.Nat.{pow-suc, one-le-pow, add-mul-div-right, add-mul-mod-self-right, add-div-right, div-eq-of-lt, mul-assoc, mul-comm}
 use native.Mathlib.Omega.{arith}
 use lib.Dec.{eqb}
-use Rattle.model.specs.Fold.{pick}
+use Rattle.folds.proofs.Folds.{clash}
+use Rattle.folds.specs.Fold.{pick}
 use Rattle.turns.specs.Turns.{bitsBelow, hasPort, seek, nextPort}
 
 picked-bound : (x n : ℕ) (c : Bool) → x < 2 ^ n → x + pick c (2 ^ n) 0 < 2 ^ suc n
@@ -68,7 +69,7 @@ module _ (set : ℕ) where
   sought zero k i h e = absurd (omega arith)
   sought (suc n) k zero h e =
       let e′ : hasPort set (k % 8) ≡ true = subst (λ x. hasPort set (x % 8) ≡ true) {x = k + 0} (omega arith) e in
-      step k (seek n set (suc k)) _ refl (λ f. let z : _≡_ {A = ℕ} 0 1 = cc in absurd (omega arith))
+      step k (seek n set (suc k)) _ refl (λ f. clash cc)
   sought (suc n) k (suc i) h e =
       step k (seek n set (suc k)) _ refl
       (λ f. sought n (suc k) i (omega arith)

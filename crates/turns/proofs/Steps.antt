@@ -17,10 +17,10 @@ use Rattle.model.specs.declared.Tree.{Tree}
 use Rattle.model.specs.declared.State.{State}
 use Rattle.model.specs.declared.Port.{Port}
 use Rattle.model.specs.declared.Port.the-variants.{Empty, Acc, Int}
-use Rattle.model.specs.Fold.{pick}
+use Rattle.folds.specs.Fold.{pick}
 use Rattle.model.specs.Tree.{lastOf, allowanceOf, granularityOf, portOf}
 use Rattle.model.specs.Beneath.{waitsUnder}
-use Rattle.model.proofs.Folds.{picked, passed}
+use Rattle.folds.proofs.Folds.{picked, passed}
 use Rattle.turns.specs.Turns.{withTurn, bitsBelow, liveSet, nextPort, turnPort, turnAllowance, nobody, reached, who, turned, after}
 use Rattle.turns.proofs.Next.{bits-bound}
 

@@ -14,7 +14,7 @@ ghost use mathlib.Core.Path.{_≡_};
 ghost use Prim.Native.Nat.{_+_, _*_, _-_, _%_, min};
 ghost use lib.Dec.{ltb};
 ghost use lib.ListN.{getD};
-ghost use Rattle.model.specs.Fold.{pick};
+ghost use Rattle.folds.specs.Fold.{pick};
 ghost use Rattle.turns.specs.Turns.{liveSet, nextPort, NextPorts, turnPort, turnAllowance, reached, who, withTurn, turned, after};
 
 // The turn at an interconnect in a slot: its port, and the allowance before this slot takes one off.

@@ -3,7 +3,7 @@ use mathlib.Core.Path.{_≡_, ap, sym, _∙_, ap₂}
 use Prim.Native.Nat.{_-_, min}
 use borrow.Author.Needs.{needs}
 use borrow.Author.Tests.{eq-eqb, ne-eqb}
-use Rattle.model.proofs.Folds.{picked, passed}
+use Rattle.folds.proofs.Folds.{picked, passed}
 use Rattle.admit.specs.Admitting.{heldOffers}
 use Rattle.admit.proofs.admit_held.Statement.{statement}
 use Rattle.admit.proofs.admit_held.Tie as tie

@@ -3,7 +3,7 @@ use Prim.Native.Nat.{_+_, min}
 use mathlib.Core.Path.{_≡_, sym, _∙_}
 use native.Mathlib.Omega.{arith}
 use borrow.Author.Needs.{needs}
-use Rattle.model.proofs.Folds.{passed}
+use Rattle.folds.proofs.Folds.{passed}
 use Rattle.admit.proofs.end_of.Statement.{statement}
 use Rattle.admit.proofs.end_of.Tie as tie
 

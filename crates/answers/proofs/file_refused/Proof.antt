@@ -1,7 +1,7 @@
 -- `file_refused` meets its contract: the test picks the case of the definition.
 use mathlib.Core.Path.{sym, _∙_}
 use borrow.Author.Needs.{needs}
-use Rattle.model.proofs.Folds.{picked, passed}
+use Rattle.folds.proofs.Folds.{picked, passed}
 use Rattle.answers.proofs.file_refused.Statement.{statement}
 use Rattle.answers.proofs.file_refused.Tie as tie
 

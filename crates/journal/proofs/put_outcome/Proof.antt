@@ -3,7 +3,7 @@ use mathlib.Core.Path.{ap, sym}
 use native.Mathlib.Omega.{arith}
 use borrow.Author.Needs.{needs}
 use Rattle.put.specs.Page.{field}
-use Rattle.model.proofs.Folds.{picked, passed}
+use Rattle.folds.proofs.Folds.{picked, passed}
 use Rattle.put.proofs.Puts.{put-most, put-as}
 use Rattle.journal.proofs.put_outcome.Statement.{statement}
 use Rattle.journal.proofs.put_outcome.Tie as tie

@@ -3,7 +3,7 @@ use mathlib.Core.Path.{sym}
 use native.Mathlib.Omega.{arith}
 use borrow.Author.Tests.{eq-eqb, ne-eqb}
 use borrow.Author.Needs.{needs}
-use Rattle.model.proofs.Folds.{picked, passed}
+use Rattle.folds.proofs.Folds.{picked, passed}
 use Rattle.put.proofs.Puts.{put-none, put-then, put-most, put-as}
 use Rattle.journal.proofs.put_place.Statement.{statement}
 use Rattle.journal.proofs.put_place.Tie as tie

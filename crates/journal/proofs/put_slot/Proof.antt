@@ -5,7 +5,7 @@ use borrow.Author.Tests.{eq-eqb, ne-eqb}
 use borrow.Author.Needs.{needs}
 use Rattle.put.specs.Page.{ended}
 use Rattle.journal.specs.Journal.{slotText}
-use Rattle.model.proofs.Folds.{picked, passed}
+use Rattle.folds.proofs.Folds.{picked, passed}
 use Rattle.put.proofs.Puts.{put-then, put-most, put-as}
 use Rattle.journal.proofs.put_slot.Statement.{statement}
 use Rattle.journal.proofs.put_slot.Tie as tie

@@ -1,7 +1,7 @@
 -- `reason_of` meets its contract: the tests are those of the definition, in its order.
 use mathlib.Core.Path.{sym, _∙_}
 use borrow.Author.Tests.{le-ltb, lt-ltb}
-use Rattle.model.proofs.Folds.{picked, passed}
+use Rattle.folds.proofs.Folds.{picked, passed}
 use Rattle.journal.proofs.reason_of.Statement.{statement}
 use Rattle.journal.proofs.reason_of.Tie as tie
 

@@ -3,7 +3,7 @@ use mathlib.Core.Path.{_≡_, refl, ap, sym, _∙_, subst}
 use Prim.Native.Nat.{_≤_, _-_}
 use native.Mathlib.Omega.{arith}
 use borrow.Author.Needs.{needs}
-use Rattle.model.specs.Fold.{all}
+use Rattle.folds.specs.Fold.{all}
 use Rattle.model.proofs.Sums.{all-none, all-turn, all-end}
 use Rattle.lines.specs.declared.Form.{Form}
 use Rattle.lines.specs.Lines.{dashKept}

@@ -5,7 +5,7 @@ use Prim.Native.Nat.{_≤_, _-_, _+_, _*_}
 use native.Mathlib.Omega.{arith}
 use lib.ListN.{length}
 use borrow.Author.Needs.{needs}
-use Rattle.model.specs.Fold.{all}
+use Rattle.folds.specs.Fold.{all}
 use Rattle.model.proofs.Sums.{all-none, all-turn}
 use Rattle.rules.proofs.Sound.{sound}
 use Rattle.bounds.specs.Bounds.{Row, rowOf}

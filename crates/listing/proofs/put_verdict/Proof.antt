@@ -3,7 +3,7 @@ use mathlib.Core.Path.{ap, sym}
 use native.Mathlib.Omega.{arith}
 use borrow.Author.Needs.{needs}
 use Rattle.put.specs.Page.{ended}
-use Rattle.model.proofs.Folds.{picked, passed}
+use Rattle.folds.proofs.Folds.{picked, passed}
 use Rattle.put.proofs.Puts.{put-most, put-as}
 use Rattle.listing.proofs.put_verdict.Statement.{statement}
 use Rattle.listing.proofs.put_verdict.Tie as tie

@@ -4,7 +4,7 @@ use Prim.Native.Nat.{ℕ, _≤_, _-_}
 use native.Mathlib.Omega.{arith}
 use lib.Dec.{eqb}
 use borrow.Author.Needs.{needs}
-use Rattle.model.specs.Fold.{all}
+use Rattle.folds.specs.Fold.{all}
 use Rattle.model.specs.Tree.{waitingOf}
 use Rattle.model.proofs.Sums.{all-none, all-turn, all-end}
 use Rattle.machine.proofs.none_waits.Statement.{statement}

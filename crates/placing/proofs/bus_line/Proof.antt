@@ -2,7 +2,7 @@
 use mathlib.Core.Path.{ap, sym, _∙_}
 use borrow.Author.Tests.{le-ltb, lt-ltb}
 use borrow.Author.Needs.{needs}
-use Rattle.model.proofs.Folds.{picked, passed}
+use Rattle.folds.proofs.Folds.{picked, passed}
 use Rattle.records.proofs.Stored.{bus-stored}
 use Rattle.placing.specs.Placing.{busLine, given}
 use Rattle.placing.proofs.bus_line.Statement.{statement}

@@ -4,7 +4,7 @@ use mathlib.Core.Bool.{Bool, _&&_}
 use lib.Dec.{ltb}
 use borrow.Author.Needs.{needs}
 use Rattle.placing.specs.Placing.{finish}
-use Rattle.model.proofs.Folds.{picked, passed}
+use Rattle.folds.proofs.Folds.{picked, passed}
 use Rattle.placing.proofs.finished.Statement.{statement}
 use Rattle.placing.proofs.finished.Tie as tie
 

@@ -5,7 +5,7 @@ use native.Mathlib.Omega.{arith}
 use lib.Dec.{ltb}
 use borrow.Author.Needs.{needs}
 use Rattle.model.specs.declared.Accelerator.{Accelerator}
-use Rattle.model.specs.Fold.{all}
+use Rattle.folds.specs.Fold.{all}
 use Rattle.model.specs.Tree.{limitOf}
 use Rattle.model.proofs.Sums.{all-none, all-turn, all-end}
 use Rattle.placing.proofs.no_gap.Statement.{statement}

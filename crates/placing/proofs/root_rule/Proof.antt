@@ -2,7 +2,7 @@
 use mathlib.Core.Path.{sym}
 use borrow.Author.Tests.{eq-eqb, ne-eqb}
 use borrow.Author.Needs.{needs}
-use Rattle.model.proofs.Folds.{picked, passed}
+use Rattle.folds.proofs.Folds.{picked, passed}
 use Rattle.placing.proofs.root_rule.Statement.{statement}
 use Rattle.placing.proofs.root_rule.Tie as tie
 

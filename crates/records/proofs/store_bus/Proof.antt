@@ -4,7 +4,7 @@ use mathlib.Core.Bool.{true}
 use borrow.Author.Tests.{not-true, not-false}
 use borrow.Author.Needs.{needs}
 use Rattle.model.specs.declared.Bus.{Bus}
-use Rattle.model.proofs.Folds.{passed}
+use Rattle.folds.proofs.Folds.{passed}
 use Rattle.lines.specs.declared.Kind.the-variants.{BusLine}
 use Rattle.lines.specs.Lines.{limitsKept}
 use Rattle.records.specs.Records.{withBus, busStored}

@@ -6,7 +6,7 @@ use borrow.Author.Tests.{not-true, not-false}
 use lib.Dec.{lit<}
 use borrow.Author.Needs.{needs}
 use Rattle.model.specs.declared.Tree.{Tree}
-use Rattle.model.proofs.Folds.{passed}
+use Rattle.folds.proofs.Folds.{passed}
 use Rattle.lines.specs.declared.Kind.the-variants.{IntLine}
 use Rattle.lines.specs.Lines.{limitsKept}
 use Rattle.lines.proofs.Limits.{most}

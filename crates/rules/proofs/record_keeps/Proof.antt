@@ -6,7 +6,7 @@ use lib.Dec.{leb, eqb}
 use borrow.Author.Needs.{needs}
 use Rattle.model.specs.declared.Accelerator.{Accelerator}
 use Rattle.rules.specs.Rules.{recordKeeps}
-use Rattle.model.proofs.Folds.{picked, passed}
+use Rattle.folds.proofs.Folds.{picked, passed}
 use Rattle.model.proofs.Lists.{and-cong}
 use Rattle.rules.proofs.record_keeps.Statement.{statement}
 use Rattle.rules.proofs.record_keeps.Tie as tie

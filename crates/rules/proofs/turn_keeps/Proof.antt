@@ -7,7 +7,7 @@ use borrow.Author.Needs.{needs}
 use Rattle.model.specs.declared.Interconnect.{Interconnect}
 use Rattle.model.specs.Beneath.{waitsUnder}
 use Rattle.rules.specs.Rules.{turnKeeps}
-use Rattle.model.proofs.Folds.{picked, passed}
+use Rattle.folds.proofs.Folds.{picked, passed}
 use Rattle.model.proofs.Lists.{and-cong}
 use Rattle.rules.proofs.turn_keeps.Statement.{statement}
 use Rattle.rules.proofs.turn_keeps.Tie as tie

@@ -4,7 +4,7 @@ use mathlib.Core.Bool.{_&&_}
 use lib.Dec.{ltb, leb}
 use borrow.Author.Needs.{needs}
 use Rattle.model.specs.declared.Accelerator.{Accelerator}
-use Rattle.model.specs.Fold.{within}
+use Rattle.folds.specs.Fold.{within}
 use Rattle.model.specs.Tree.{portOf}
 use Rattle.rules.specs.Rules.{usedAccelerator, isAcc}
 use Rattle.model.proofs.Lists.{and-cong}

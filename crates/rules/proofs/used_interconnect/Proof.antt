@@ -4,7 +4,7 @@ use Prim.Native.Nat.{ℕ}
 use lib.Dec.{leb}
 use borrow.Author.Needs.{needs}
 use Rattle.model.specs.declared.Interconnect.{Interconnect}
-use Rattle.model.specs.Fold.{within}
+use Rattle.folds.specs.Fold.{within}
 use Rattle.rules.specs.Rules.{usedInterconnect}
 use Rattle.model.proofs.Lists.{and-cong}
 use Rattle.rules.proofs.used_interconnect.Statement.{statement}

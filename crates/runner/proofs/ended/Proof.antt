@@ -1,6 +1,6 @@
 -- `ended` meets its contract: by its test.
 use mathlib.Core.Path.{sym}
-use Rattle.model.proofs.Folds.{picked, passed}
+use Rattle.folds.proofs.Folds.{picked, passed}
 use Rattle.runner.proofs.ended.Statement.{statement}
 use Rattle.runner.proofs.ended.Tie as tie
 

@@ -7,6 +7,7 @@ use lib.ListN.{length}
 use borrow.Author.Needs.{needs}
 use borrow.Author.Tests.{not-true, not-false}
 use mathlib.Core.Logic.{inl, inr}
+use Rattle.folds.proofs.Folds.{clash}
 use Rattle.runner.proofs.Slots.{running-ended}
 use Rattle.runner.proofs.Going.{fewer, Fixed, going-start}
 use Rattle.runner.proofs.Looping.{Lent, lentPlace, lent-done, turned}
@@ -86,7 +87,7 @@ returns c =
     let full : c .before .is-done2 .result ≡ false → length (l .out) ≤ l .used = λ z. elim (c .before .before .before .before .loop-test .came) [
       | inl p ↦
           let q : true ≡ false = sym (not-false _ (p .4 .left)) ∙ p .3 .ensures ∙ sym (c .before .is-done2 .ensures) ∙ z in
-          let i : _≡_ {A = ℕ} 0 1 = cc in absurd (omega arith)
+          clash cc
       | inr q ↦ q .left
     ] in
     let r = running-ended (x .t) (x .trace .now) (x .out .now) (l .out) (lentPlace (l .blocks) (l .turns) (l .line) (l .used)) (l .used) (l .inv .1 .running) _ full (sym e) in

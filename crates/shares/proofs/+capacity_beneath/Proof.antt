@@ -8,7 +8,7 @@ use borrow.Author.Needs.{needs}
 use borrow.Fn.Kinds.{In}
 use borrow.Fn.PlainCycle.{Measures, is, falls, and}
 use Rattle.model.specs.declared.Tree.{Tree}
-use Rattle.model.specs.Fold.{sum as total}
+use Rattle.folds.specs.Fold.{sum as total}
 use Rattle.model.specs.Tree.{portOf, limitOf}
 use Rattle.model.specs.Beneath.{under, inside}
 use Rattle.model.proofs.Sums.{sum-none, inside-at-none, inside-step, add-port, eight-ports, sum-turn, sum-end, eight-at-most, room, byte-beneath}

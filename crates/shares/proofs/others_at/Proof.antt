@@ -3,7 +3,7 @@ use mathlib.Core.Path.{_≡_, sym}
 use Prim.Native.Nat.{_≤_, _-_, _*_}
 use native.Mathlib.Omega.{arith}
 use borrow.Author.Needs.{needs}
-use Rattle.model.specs.Fold.{sum as total}
+use Rattle.folds.specs.Fold.{sum as total}
 use Rattle.model.proofs.Sums.{sum-none, sum-turn, sum-end}
 use Rattle.shares.specs.Shares.{counted, othersAt}
 use Rattle.shares.proofs.others_at.Statement.{statement}

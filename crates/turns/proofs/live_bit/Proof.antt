@@ -1,7 +1,7 @@
 -- `live_bit` meets its contract: the test picks the case.
 use mathlib.Core.Path.{sym}
 use borrow.Author.Tests.{le-ltb, lt-ltb}
-use Rattle.model.proofs.Folds.{picked, passed}
+use Rattle.folds.proofs.Folds.{picked, passed}
 use Rattle.turns.proofs.live_bit.Statement.{statement}
 use Rattle.turns.proofs.live_bit.Tie as tie
 

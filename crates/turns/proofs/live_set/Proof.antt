@@ -6,7 +6,7 @@ use native.Mathlib.Nat.{le-antisymm}
 use lib.ListN.{set}
 use lib.Dec.{ltb}
 use borrow.Author.Needs.{needs}
-use Rattle.model.specs.Fold.{pick}
+use Rattle.folds.specs.Fold.{pick}
 use Rattle.model.specs.Beneath.{waitsUnder}
 use Rattle.turns.specs.Turns.{bitsBelow}
 use Rattle.turns.proofs.Steps.{live-none, live-turn}

@@ -4,7 +4,7 @@ use mathlib.Core.Path.{sym, _∙_}
 use native.Mathlib.Omega.{arith}
 use borrow.Author.Needs.{needs}
 use borrow.Author.Tests.{eq-eqb, ne-eqb}
-use Rattle.model.proofs.Folds.{picked, passed}
+use Rattle.folds.proofs.Folds.{picked, passed}
 use Rattle.counts.proofs.Steps.{clear-bit}
 use Rattle.counts.proofs.along.if_waiting.Statement.{statement}
 use Rattle.counts.proofs.along.if_waiting.Tie as tie

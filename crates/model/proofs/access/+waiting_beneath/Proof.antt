@@ -8,7 +8,7 @@ use borrow.Fn.PlainCycle.{Measures, is, falls, and}
 use native.Mathlib.Nat.{pos-of-ne-zero}
 use Rattle.model.specs.declared.Tree.{Tree}
 use Rattle.model.specs.declared.State.{State}
-use Rattle.model.specs.Fold.{sum as total}
+use Rattle.folds.specs.Fold.{sum as total}
 use Rattle.model.specs.Tree.{portOf, waitingOf}
 use Rattle.model.specs.Beneath.{under, inside}
 use Rattle.model.proofs.Sums.{sum-none, inside-at-none, inside-step, add-port, eight-ports, sum-turn, sum-end, eight-at-most, room, byte-beneath}

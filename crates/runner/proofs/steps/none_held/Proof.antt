@@ -6,7 +6,7 @@ use Rattle.admit.specs.Admitting.{helds}
 use native.Mathlib.Omega.{arith}
 use borrow.Author.Needs.{needs}
 use lib.Dec.{eqb}
-use Rattle.model.specs.Fold.{all}
+use Rattle.folds.specs.Fold.{all}
 use Rattle.model.proofs.Sums.{all-none, all-turn, all-end}
 use Rattle.runner.specs.Offers.{heldOf}
 use Rattle.runner.proofs.steps.none_held.Statement.{statement}

@@ -1,7 +1,7 @@
 -- `open_window` meets its contract: each test picks its case.
 use mathlib.Core.Path.{refl, sym, _∙_}
 use borrow.Author.Needs.{needs}
-use Rattle.model.proofs.Folds.{picked, passed}
+use Rattle.folds.proofs.Folds.{picked, passed}
 use Rattle.runner.proofs.Stored.{window-none, window-begins, window-goes-on}
 use Rattle.runner.proofs.steps.open_window.Statement.{statement}
 use Rattle.runner.proofs.steps.open_window.Tie as tie

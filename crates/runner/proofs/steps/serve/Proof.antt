@@ -6,8 +6,8 @@ use lib.ListN.{getD}
 use lib.Seq.{getD-drop}
 use borrow.Author.Needs.{needs}
 use mathlib.Core.List.{List}
+use Rattle.rules.proofs.Sound.{sound-of}
 use Rattle.model.specs.Tree.{waitingOf}
-use Rattle.machine.proofs.Cases.{sound-of}
 use Rattle.counts.specs.Wiring.{aboves, homes}
 use Rattle.counts.specs.Counts.{Counted, lasts, allowances, lives, up, lowered, closed}
 use Rattle.admit.specs.Admitting.{waitings}

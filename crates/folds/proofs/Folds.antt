@@ -8,11 +8,15 @@ use native.Mathlib.Decide.{decLt, ℕ-discrete}
 use native.Mathlib.Omega.{arith}
 use lib.Dec.{leb, eqb}
 use borrow.Author.Tests.{leb-true, le-leb, eqb-true, eq-eqb}
-use Rattle.model.specs.Fold.{pick, sum, all}
+use Rattle.folds.specs.Fold.{pick, sum, all}
+
+-- two constructors told to be equal: `clash cc`
+pub clash : {A : Type 0} → _≡_ {A = ℕ} 0 1 → A
+clash z = absurd (omega arith)
 
 pub both : (a b : Bool) → a && b ≡ true → (a ≡ true) × (b ≡ true)
 both true b e = (refl, e)
-both false b e = let z : _≡_ {A = ℕ} 0 1 = cc in absurd (omega arith)
+both false b e = clash cc
 
 pub joined : (a b : Bool) → a ≡ true → b ≡ true → a && b ≡ true
 joined true b e f = f
@@ -20,10 +24,10 @@ joined false b e f = e
 
 pub picked : {A : Type 0} (c : Bool) (x y : A) → c ≡ true → pick c x y ≡ x
 picked true x y e = refl
-picked false x y e = let z : _≡_ {A = ℕ} 0 1 = cc in absurd (omega arith)
+picked false x y e = clash cc
 
 pub passed : {A : Type 0} (c : Bool) (x y : A) → c ≡ false → pick c x y ≡ y
-passed true x y e = let z : _≡_ {A = ℕ} 0 1 = cc in absurd (omega arith)
+passed true x y e = clash cc
 passed false x y e = refl
 
 pub sum-suc : (n : ℕ) (f : ℕ → ℕ) → sum (suc n) f ≡ sum n f + f n
