@@ -123,18 +123,18 @@ module _ (t : Tree) (e : treeKeeps t ≡ true) where
 
   -- no line has an LF inside, and each is short
   bus-fit : Fit (busText t)
-  bus-fit = fit-line _ _ (clean3 98 117 115 10 (omega arith) (omega arith) (omega arith)) (lit≤ tt) (numbers-clean 10 (lit< tt) bus-below) (numbers-short bus-below) (omega (arith, numbers-count (busValues (t .bus))))
+  bus-fit = fit-line _ _ (clean3 98 117 115 10 (omega arith) (omega arith) (omega arith)) (lit≤ tt) (numbers-clean 10 (lit< tt) _) (numbers-short bus-below) (omega (arith, numbers-count (busValues (t .bus))))
 
   acc-fit : (a : ℕ) → a < t .accs → Fit (accText t a)
-  acc-fit a h = fit-line _ _ (clean3 97 99 99 10 (omega arith) (omega arith) (omega arith)) (lit≤ tt) (numbers-clean 10 (lit< tt) (acc-below a h)) (numbers-short (acc-below a h)) (omega (arith, numbers-count (accValues a (acceleratorOf t a))))
+  acc-fit a h = fit-line _ _ (clean3 97 99 99 10 (omega arith) (omega arith) (omega arith)) (lit≤ tt) (numbers-clean 10 (lit< tt) _) (numbers-short (acc-below a h)) (omega (arith, numbers-count (accValues a (acceleratorOf t a))))
 
   int-fit : (j : ℕ) → j < t .ints → Fit (intText t j)
   int-fit j h = elim (ℕ-discrete j 0) [
     | yes q ↦ subst (λ i. Fit (intText t i)) (sym q)
-        (fit-line _ _ (clean3 105 110 116 10 (omega arith) (omega arith) (omega arith)) (lit≤ tt) (root-clean 10 (lit< tt) t root-below)
+        (fit-line _ _ (clean3 105 110 116 10 (omega arith) (omega arith) (omega arith)) (lit≤ tt) (root-clean 10 (lit< tt) t)
         (short-more (number-length 0 (lit< tt)) (short-more (lit≤ tt) (short-more (lit≤ tt) (short-more (number-length (granularityOf t 0) root-below) short-none)))) (lit≤ tt))
     | no d ↦ subst (λ fs. Fit (lineText (105 ∷ 110 ∷ 116 ∷ []) fs)) (sym (passed _ _ _ (ne-eqb j 0 d)))
-        (fit-line _ _ (clean3 105 110 116 10 (omega arith) (omega arith) (omega arith)) (lit≤ tt) (numbers-clean 10 (lit< tt) (child-below j (omega arith) h)) (numbers-short (child-below j (omega arith) h)) (omega (arith, numbers-count (j ∷ parentOf t j ∷ parentPortOf t j ∷ granularityOf t j ∷ []))))
+        (fit-line _ _ (clean3 105 110 116 10 (omega arith) (omega arith) (omega arith)) (lit≤ tt) (numbers-clean 10 (lit< tt) _) (numbers-short (child-below j (omega arith) h)) (omega (arith, numbers-count (j ∷ parentOf t j ∷ parentPortOf t j ∷ granularityOf t j ∷ []))))
   ]
 
   -- the int lines, one after the other

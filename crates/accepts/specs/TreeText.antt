@@ -19,14 +19,14 @@ use Rattle.model.specs.declared.Bus.{Bus}
 use Rattle.model.specs.declared.Accelerator.{Accelerator}
 use Rattle.folds.specs.Fold.{pick}
 use Rattle.model.specs.Tree.{granularityOf, parentOf, parentPortOf, acceleratorOf}
-use Rattle.text.specs.Write.{numberText, lineText, fileText}
+use Rattle.text.specs.Write.{decimalText, lineText, fileText}
 
 abbrev pub dash : List ℕ
 dash = 45 ∷ []
 
 unfoldable pub numbers : List ℕ → List (List ℕ)
 numbers [] = []
-numbers (x ∷ xs) = numberText x ∷ numbers xs
+numbers (x ∷ xs) = decimalText x ∷ numbers xs
 
 abbrev pub busValues : Bus → List ℕ
 busValues b = b .window ∷ b .ta ∷ b .da ∷ b .dd ∷ b .db ∷ b .pr ∷ b .pw ∷ b .td ∷ b .tb ∷ b .burst ∷ []
@@ -41,7 +41,7 @@ busText t = lineText (98 ∷ 117 ∷ 115 ∷ []) (numbers (busValues (t .bus)))
 abbrev pub intFields : Tree → ℕ → List (List ℕ)
 intFields t j =
     pick (eqb j 0)
-    (numberText j ∷ dash ∷ dash ∷ numberText (granularityOf t j) ∷ [])
+    (decimalText j ∷ dash ∷ dash ∷ decimalText (granularityOf t j) ∷ [])
     (numbers (j ∷ parentOf t j ∷ parentPortOf t j ∷ granularityOf t j ∷ []))
 
 abbrev pub intText : Tree → ℕ → List ℕ

@@ -15,7 +15,7 @@ use Rattle.lines.specs.Answer.{answerNumber, answerLine}
 use Rattle.lines.specs.declared.FileAnswer.{FileAnswer}
 use Rattle.lines.specs.declared.FileAnswer.the-variants.{Accepted, Refused, Broken}
 use Rattle.runner.specs.Run.{Ending, refusedAt, broken, done, stopped}
-use Rattle.bounds.specs.Bounds.{Answer, refused, given}
+use Rattle.bounds.specs.Bounds.{BoundResult, refused, analysed}
 use Rattle.answers.specs.declared.Reading.{Reading}
 use Rattle.answers.specs.declared.Outcome.{Outcome}
 use Rattle.answers.specs.declared.Row.{Row}
@@ -47,9 +47,9 @@ abbrev pub unbounded : ℕ → ℕ → Row
 unbounded n l =
     record { number = n; line = l; level = 0; meets = false; share = 0; reads = 0; writes = 0; response = 0; period = 0 }
 
-abbrev pub rowOf : Answer → Row
+abbrev pub rowOf : BoundResult → Row
 rowOf (refused n) = unbounded n 0
-rowOf (given r) =
+rowOf (analysed r) =
     record {
       number = 0;
       line = 0;

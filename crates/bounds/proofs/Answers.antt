@@ -6,7 +6,7 @@ use borrow.Author.Tests.{le-leb, lt-leb}
 use Rattle.model.specs.declared.Tree.{Tree}
 use Rattle.rules.specs.Rules.{treeKeeps}
 use Rattle.folds.proofs.Folds.{picked, passed}
-use Rattle.bounds.specs.Bounds.{refused, given, rowOf, boundOf}
+use Rattle.bounds.specs.Bounds.{refused, analysed, analysisOf, boundOf}
 
 module _ (t : Tree) (a : ℕ) where
   pub bound-broken : treeKeeps t ≡ false → boundOf t a ≡ refused 11
@@ -17,6 +17,6 @@ module _ (t : Tree) (a : ℕ) where
   unfolding boundOf
   bound-unknown e l = passed (not (treeKeeps t)) _ _ (ap not e) ∙ picked _ _ _ (le-leb _ _ l)
 
-  pub bound-given : treeKeeps t ≡ true → a < t .accs → boundOf t a ≡ given (rowOf t a)
+  pub bound-analysed : treeKeeps t ≡ true → a < t .accs → boundOf t a ≡ analysed (analysisOf t a)
   unfolding boundOf
-  bound-given e l = passed (not (treeKeeps t)) _ _ (ap not e) ∙ passed _ _ _ (lt-leb _ _ l)
+  bound-analysed e l = passed (not (treeKeeps t)) _ _ (ap not e) ∙ passed _ _ _ (lt-leb _ _ l)

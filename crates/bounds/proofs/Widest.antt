@@ -16,7 +16,7 @@ use Rattle.model.specs.Tree.{noInterconnect, noAccelerator, above}
 use Rattle.model.specs.Beneath.{inside}
 use Rattle.rules.specs.Rules.{treeKeeps, busKeeps, carries, rootPlaced, childPlaced, usedInterconnect, unusedInterconnect, usedAccelerator, unusedAccelerator}
 use Rattle.shares.specs.Shares.{othersAt, shareAlong}
-use Rattle.bounds.specs.Bounds.{Row, given, boundOf}
+use Rattle.bounds.specs.Bounds.{Analysis, analysed, boundOf}
 
 abbrev cell : Port → PortCell
 cell x = record { port = x }
@@ -57,7 +57,7 @@ widest =
       accs = 29;
     }
 
-abbrev largest : Row
+abbrev largest : Analysis
 largest =
     record {
       level = 4;
@@ -69,6 +69,6 @@ largest =
       meets = false;
     }
 
-pub reached : boundOf widest 0 ≡ given largest
+pub reached : boundOf widest 0 ≡ analysed largest
 unfolding boundOf othersAt shareAlong treeKeeps busKeeps carries rootPlaced childPlaced usedInterconnect unusedInterconnect usedAccelerator unusedAccelerator inside above sum all
 reached = refl

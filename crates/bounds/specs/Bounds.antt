@@ -13,12 +13,13 @@
 -- writeTime b x l share      "the same for writes"
 -- responseOf b x l share     "The response is C + Nr × alone read + Yr × slot read, plus the same for writes"
 -- isMet x r                  "An accelerator meets its period if the response is at most T"
--- Row                        what is known of an accelerator: level, share, both interferences, response, period, verdict
--- rowFrom b x l share        the row of accelerator x at level l with this share
--- rowOf t a                  the row of accelerator a, "With L the level"
--- Answer                     what a call of `bound` answers: refused by a number, or the row
+-- Analysis                   what is known of an accelerator: level, share, both interferences, response, period, verdict
+-- analysisFrom b x l share   that of accelerator x at level l with this share
+-- analysisOf t a             that of accelerator a, "With L the level"
+-- BoundResult                what a call of `bound` answers: refused by a number, or the analysis
+-- figuresMean f              the analysis that the figures of the code stand for
 -- meaningOf r                the answer that the enum of the code stands for
--- boundOf t a                "a bound 11, 7", else the row
+-- boundOf t a                "a bound 11, 7", else the analysis
 use Prim.Native.Nat.{ℕ, _+_, _*_, _-_, max}
 use mathlib.Core.Bool.{Bool, not}
 use lib.Dec.{leb}
@@ -30,6 +31,7 @@ use Rattle.model.specs.Tree.{homeOf, levelOf, acceleratorOf}
 use Rattle.rules.specs.Rules.{treeKeeps}
 use Rattle.shares.specs.Shares.{shareOf}
 use Rattle.model.specs.Answer.{numberOf}
+use Rattle.bounds.specs.declared.Figures.{Figures}
 use Rattle.bounds.specs.declared.BoundAnswer.{BoundAnswer}
 use Rattle.bounds.specs.declared.BoundAnswer.the-variants.{Refused, Bound}
 
@@ -66,7 +68,7 @@ responseOf b x l share = x .computing + readTime b x l share + writeTime b x l s
 abbrev pub isMet : Accelerator → ℕ → Bool
 isMet x r = leb r (x .period)
 
-pub record Row : Type 0 where
+pub record Analysis : Type 0 where
   pub level : ℕ
   pub share : ℕ
   pub reads : ℕ
@@ -75,8 +77,8 @@ pub record Row : Type 0 where
   pub period : ℕ
   pub meets : Bool
 
-abbrev pub rowFrom : Bus → Accelerator → ℕ → ℕ → Row
-rowFrom b x l share =
+abbrev pub analysisFrom : Bus → Accelerator → ℕ → ℕ → Analysis
+analysisFrom b x l share =
     record {
       level = l;
       share = share;
@@ -87,18 +89,16 @@ rowFrom b x l share =
       meets = isMet x (responseOf b x l share);
     }
 
-abbrev pub rowOf : Tree → ℕ → Row
-rowOf t a = rowFrom (t .bus) (acceleratorOf t a) (levelOf t (homeOf t a)) (shareOf t a)
+abbrev pub analysisOf : Tree → ℕ → Analysis
+analysisOf t a = analysisFrom (t .bus) (acceleratorOf t a) (levelOf t (homeOf t a)) (shareOf t a)
 
-pub data Answer : Type 0 where
-  refused : ℕ → Answer
-  given : Row → Answer
+pub data BoundResult : Type 0 where
+  refused : ℕ → BoundResult
+  analysed : Analysis → BoundResult
 
-abbrev pub meaningOf : BoundAnswer → Answer
-meaningOf (Refused r) = refused (numberOf r)
-meaningOf (Bound f) =
-    given
-    (record {
+abbrev pub figuresMean : Figures → Analysis
+figuresMean f =
+    record {
       level = f .level;
       share = f .share;
       reads = f .reads .0;
@@ -106,10 +106,14 @@ meaningOf (Bound f) =
       response = f .response .0;
       period = f .period .0;
       meets = f .meets;
-    })
+    }
 
-unfoldable pub boundOf : Tree → ℕ → Answer
+abbrev pub meaningOf : BoundAnswer → BoundResult
+meaningOf (Refused r) = refused (numberOf r)
+meaningOf (Bound f) = analysed (figuresMean f)
+
+unfoldable pub boundOf : Tree → ℕ → BoundResult
 boundOf t a =
     pick (not (treeKeeps t)) (refused 11)
     (pick (leb (t .accs) a) (refused 7)
-    (given (rowOf t a)))
+    (analysed (analysisOf t a)))

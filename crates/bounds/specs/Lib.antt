@@ -1,3 +1,3 @@
-pub mod Limits
+pub mod Limited
 pub mod Bounds
 pub mod Recursion

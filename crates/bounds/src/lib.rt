@@ -13,8 +13,8 @@ use model::access::level_of;
 use rules::tree_keeps;
 use shares::share_of;
 ghost use mathlib.Core.Path.{_≡_};
-ghost use Rattle.bounds.specs.Bounds.{given, rowFrom, meaningOf, boundOf};
-ghost use Rattle.bounds.specs.Limits.{Limited};
+ghost use Rattle.bounds.specs.Bounds.{analysed, analysisFrom, meaningOf, boundOf};
+ghost use Rattle.bounds.specs.Limited.{Limited};
 
 // A count of transactions, each of which takes one slot.
 pub struct Slots(pub u64);
@@ -43,7 +43,7 @@ pub enum BoundAnswer {
 // The figures of accelerator x, on an interconnect of this level, with this share.
 fn figures_from(b: Bus, x: Accelerator, level: u8, share: u64) -> Figures
     requires { ⌜ Limited b x level share ⌝ }
-    ensures { λ r. ⌜ meaningOf (BoundAnswer.Bound r) ≡ given (rowFrom b x level share) ⌝ }
+    ensures { λ r. ⌜ meaningOf (BoundAnswer.Bound r) ≡ analysed (analysisFrom b x level share) ⌝ }
 {
     let response = response_of(b, x, level, share);
     let period = x.period as u64;

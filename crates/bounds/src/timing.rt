@@ -6,7 +6,7 @@ use model::Bus;
 ghost use mathlib.Core.Path.{_≡_};
 ghost use Prim.Native.Nat.{_*_, _≤_, max};
 ghost use Rattle.bounds.specs.Bounds.{interference, aloneRead, aloneWrite, slotRead, slotWrite, cyclesOf, channelTime, readTime, writeTime, responseOf};
-ghost use Rattle.bounds.specs.Limits.{Limited};
+ghost use Rattle.bounds.specs.Limited.{Limited};
 
 // The interference of n transactions.
 pub fn interference_of(n: u16, share: u64) -> Slots

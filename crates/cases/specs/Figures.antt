@@ -35,8 +35,8 @@ use Rattle.trace.specs.TraceFile.{offerLine, readOffers, readTrace, requests}
 use Rattle.runner.specs.Offers.{offerHeld, offerEach}
 use Rattle.runner.specs.Run.{Ending, done, heldWith, leftAfter, next, trail, ranOf, bufferAfter}
 use Rattle.shares.specs.Shares.{othersAt, shareAlong, shareOf}
-use Rattle.bounds.specs.Bounds.{Answer as Bound, given, aloneRead, aloneWrite, slotRead, slotWrite, boundOf}
-use Rattle.put.specs.Decimal.{digits, decimalText}
+use Rattle.bounds.specs.Bounds.{BoundResult, analysed, aloneRead, aloneWrite, slotRead, slotWrite, boundOf}
+use Rattle.text.specs.Write.{digits, decimalText}
 use Rattle.put.specs.Page.{bytes, ended, joined}
 use Rattle.listing.specs.Listing.{rowText, allLine, refusalText, reportText}
 use Rattle.model.specs.Trees.{chain, timed, pair, worked, nested}
@@ -45,7 +45,7 @@ pub data Figure : Type 0 where
   answers : Tree → List Call → List Answer → Figure
   ran : Tree → List ℕ → ℕ → Ending → List ℕ → Figure
   numbers : List ℕ → List ℕ → Figure
-  bounded : Tree → ℕ → Bound → Figure
+  bounded : Tree → ℕ → BoundResult → Figure
   printed : Tree → List String → Figure
 
 abbrev pub linesOf : List String → List ℕ
@@ -70,9 +70,9 @@ times (suc n) x = x ∷ times n x
 abbrev asks : ℕ → ℕ → List ℕ
 asks a c = 111 ∷ 9 ∷ 48 ∷ 9 ∷ (48 + a) ∷ 9 ∷ (48 + c) ∷ 10 ∷ []
 
-abbrev responded : ℕ → Bool → Bound
+abbrev responded : ℕ → Bool → BoundResult
 responded T b =
-    given (record { level = 2; share = 4; reads = 30; writes = 15; response = 3920; period = T; meets = b })
+    analysed (record { level = 2; share = 4; reads = 30; writes = 15; response = 3920; period = T; meets = b })
 
 abbrev pub table : List Figure
 table =

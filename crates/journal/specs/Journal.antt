@@ -8,7 +8,7 @@
 -- slotsText bs first   that page: the lines of these slots, whose bytes are bs
 -- endText b n          the last line of a simulation: `done` or `stopped`, and "the number of slots used"
 -- reasons              a line for each number of a refusal, with its cause; line 12 is that of 2 with line 0
--- lineOf k s           line k of the text s, from 0, without its LF; nothing past the last
+-- lineNumbered k s           line k of the text s, from 0, without its LF; nothing past the last
 -- reasonOf n l         which line of `reasons` tells a refusal
 -- placeText l          the line that is refused; nothing for line 0
 -- reasonText n l       the line in words for a person
@@ -18,7 +18,7 @@ use mathlib.Core.List.{List, [], _∷_, _++_}
 use lib.Dec.{ltb, eqb}
 use lib.ListN.{length, getD}
 use Rattle.folds.specs.Fold.{pick}
-use Rattle.put.specs.Decimal.{decimalText}
+use Rattle.text.specs.Write.{decimalText}
 use Rattle.put.specs.Page.{bytes, field, ended, joined}
 
 abbrev pub servedText : ℕ → List ℕ
@@ -55,10 +55,10 @@ reasons =
     ++ ended (bytes "configuration or state breaks its rules")
     ++ ended (bytes "file or output buffer over 65536 bytes")
 
-unfoldable pub lineOf : ℕ → List ℕ → List ℕ
-lineOf k [] = []
-lineOf zero (b ∷ s) = pick (eqb b 10) [] (b ∷ lineOf zero s)
-lineOf (suc k) (b ∷ s) = lineOf (pick (eqb b 10) k (suc k)) s
+unfoldable pub lineNumbered : ℕ → List ℕ → List ℕ
+lineNumbered k [] = []
+lineNumbered zero (b ∷ s) = pick (eqb b 10) [] (b ∷ lineNumbered zero s)
+lineNumbered (suc k) (b ∷ s) = lineNumbered (pick (eqb b 10) k (suc k)) s
 
 abbrev pub reasonOf : ℕ → ℕ → ℕ
 reasonOf n l = pick (eqb n 2 && eqb l 0) 12 (pick (ltb 11 n) 0 n)
@@ -67,4 +67,4 @@ abbrev pub placeText : ℕ → List ℕ
 placeText l = pick (eqb l 0) [] (bytes "line " ++ decimalText l ++ bytes ": ")
 
 unfoldable pub reasonText : ℕ → ℕ → List ℕ
-reasonText n l = placeText l ++ ended (lineOf (reasonOf n l) reasons)
+reasonText n l = placeText l ++ ended (lineNumbered (reasonOf n l) reasons)

@@ -15,36 +15,35 @@ use Rattle.rules.proofs.Sound.{sound}
 use Rattle.bounds.specs.declared.BoundAnswer.{BoundAnswer}
 use Rattle.bounds.specs.declared.BoundAnswer.the-variants.{Refused, Bound}
 use Rattle.bounds.specs.declared.Figures.{Figures}
-use Rattle.bounds.specs.Bounds.{Row, given, rowOf, meaningOf, boundOf}
-use Rattle.bounds.proofs.Answers.{bound-given}
+use Rattle.bounds.specs.Bounds.{Analysis, analysed, analysisOf, figuresMean, meaningOf, boundOf}
+use Rattle.bounds.proofs.Answers.{bound-analysed}
 use Rattle.listing.specs.Listing.{headLine, rowText, allLine, refusalText, reportText}
 use Rattle.put.specs.Page.{joined}
 use Rattle.put.specs.Put.{Put}
-use Rattle.listing.specs.Listing.{rowMade}
 use Rattle.put.proofs.Puts.{put-then, put-as, put-most}
 
-given-same : (x y : Row) → given x ≡ given y → x ≡ y
-given-same x y e = cc
+analysed-same : (x y : Analysis) → analysed x ≡ analysed y → x ≡ y
+analysed-same x y e = cc
 
 module _ (t : Tree) (a : ℕ) (r : BoundAnswer) (k : treeKeeps t ≡ true) (l : a < t .accs) (e : meaningOf r ≡ boundOf t a) where
-  pub row-made : (f : Figures) → r ≡ Bound f → rowMade f ≡ rowOf t a
-  row-made f q = given-same _ _ (ap meaningOf (sym q) ∙ e ∙ bound-given t a k l)
+  pub row-made : (f : Figures) → r ≡ Bound f → figuresMean f ≡ analysisOf t a
+  row-made f q = analysed-same _ _ (ap meaningOf (sym q) ∙ e ∙ bound-analysed t a k l)
 
   pub never-refused : (n : Refusal) → r ≡ Refused n → ⊥
   never-refused n q =
-      let h = ap meaningOf (sym q) ∙ e ∙ bound-given t a k l in
+      let h = ap meaningOf (sym q) ∙ e ∙ bound-analysed t a k l in
       clash cc
 
 pub report-end : {d e : List ℕ} {first : ℕ} (t : Tree) (a : ℕ) (b : Bool) {f : List ℕ} {next : ℕ} {g : List ℕ} {last : ℕ}
-    → treeKeeps t ≡ true → a ≤ t .accs → t .accs ≤ a → b ≡ all a (λ i. rowOf t i .meets)
-    → Put 42 d 0 headLine e first → Put (0 + 153 * a) e first (joined a (λ i. rowText i (rowOf t i))) f next → Put 10 f next (allLine b) g last
+    → treeKeeps t ≡ true → a ≤ t .accs → t .accs ≤ a → b ≡ all a (λ i. analysisOf t i .meets)
+    → Put 42 d 0 headLine e first → Put (0 + 153 * a) e first (joined a (λ i. rowText i (analysisOf t i))) f next → Put 10 f next (allLine b) g last
     → Put 4948 d 0 (reportText t) g last
 unfolding reportText
 report-end t a b k h l m p q r =
     let f = le-antisymm h l in
     put-most (omega (arith, sound t k .most-accs))
     (put-as
-    (ap₂ (λ (n : ℕ) (v : Bool). headLine ++ joined n (λ i. rowText i (rowOf t i)) ++ allLine v) f (m ∙ ap (λ (n : ℕ). all n (λ i. rowOf t i .meets)) f)
+    (ap₂ (λ (n : ℕ) (v : Bool). headLine ++ joined n (λ i. rowText i (analysisOf t i)) ++ allLine v) f (m ∙ ap (λ (n : ℕ). all n (λ i. analysisOf t i .meets)) f)
     ∙ sym (picked (treeKeeps t) _ _ k))
     (put-then (put-then p q) r))
 

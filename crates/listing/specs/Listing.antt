@@ -8,16 +8,14 @@
 -- refusalText n l      "A refusal prints one line only: "refused", number and line, parted by tabs"
 -- reportText t         the report: the head line, a row for each accelerator "rising by number", and "the last line says
 --                      meets if all do"; for a configuration that breaks its rules the refusal 11, which has no line
--- rowMade f            the row that the figures of the code stand for
 use Prim.Native.Nat.{ℕ}
 use mathlib.Core.Bool.{Bool}
 use mathlib.Core.List.{List, _++_}
 use Rattle.model.specs.declared.Tree.{Tree}
 use Rattle.folds.specs.Fold.{pick, all}
 use Rattle.rules.specs.Rules.{treeKeeps}
-use Rattle.bounds.specs.declared.Figures.{Figures}
-use Rattle.bounds.specs.Bounds.{Row, rowOf}
-use Rattle.put.specs.Decimal.{decimalText}
+use Rattle.bounds.specs.Bounds.{Analysis, analysisOf}
+use Rattle.text.specs.Write.{decimalText}
 use Rattle.put.specs.Page.{bytes, field, ended, joined}
 
 abbrev pub headLine : List ℕ
@@ -26,7 +24,7 @@ headLine = bytes "acc\tlevel\tshare\tyr\tyw\tresp\tperiod\tverdict\n"
 abbrev pub verdictOf : Bool → List ℕ
 verdictOf b = pick b (bytes "meets") (bytes "late")
 
-unfoldable pub rowText : ℕ → Row → List ℕ
+unfoldable pub rowText : ℕ → Analysis → List ℕ
 rowText a r =
     field (decimalText a)
     ++ field (decimalText (r .level))
@@ -41,7 +39,7 @@ unfoldable pub allLine : Bool → List ℕ
 allLine b = field (bytes "all") ++ ended (verdictOf b)
 
 abbrev pub allMeet : Tree → Bool
-allMeet t = all (t .accs) (λ a. rowOf t a .meets)
+allMeet t = all (t .accs) (λ a. analysisOf t a .meets)
 
 unfoldable pub refusalText : ℕ → ℕ → List ℕ
 refusalText n l = field (bytes "refused") ++ field (decimalText n) ++ ended (decimalText l)
@@ -49,17 +47,5 @@ refusalText n l = field (bytes "refused") ++ field (decimalText n) ++ ended (dec
 unfoldable pub reportText : Tree → List ℕ
 reportText t =
     pick (treeKeeps t)
-    (headLine ++ joined (t .accs) (λ a. rowText a (rowOf t a)) ++ allLine (allMeet t))
+    (headLine ++ joined (t .accs) (λ a. rowText a (analysisOf t a)) ++ allLine (allMeet t))
     (refusalText 11 0)
-
-abbrev pub rowMade : Figures → Row
-rowMade f =
-    record {
-      level = f .level;
-      share = f .share;
-      reads = f .reads .0;
-      writes = f .writes .0;
-      response = f .response .0;
-      period = f .period .0;
-      meets = f .meets;
-    }

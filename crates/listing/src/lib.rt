@@ -12,7 +12,8 @@ ghost use mathlib.Core.Path.{_≡_};
 ghost use Rattle.rules.specs.Rules.{treeKeeps};
 ghost use Rattle.put.specs.Page.{ended, Written};
 ghost use Rattle.put.specs.Put.{Put};
-ghost use Rattle.listing.specs.Listing.{headLine, verdictOf, rowText, rowMade, allLine, refusalText, reportText};
+ghost use Rattle.bounds.specs.Bounds.{figuresMean};
+ghost use Rattle.listing.specs.Listing.{headLine, verdictOf, rowText, allLine, refusalText, reportText};
 
 fn put_refusal(out: &mut [u8], number: u8, line: u32) -> usize
     ensures { λ r. ⌜ Put 50 (now (out .entry)) 0 (refusalText number line) (now (out .exit)) r ⌝ }
@@ -34,7 +35,7 @@ fn put_verdict(out: &mut [u8], at: usize, meets: bool) -> usize
 
 // The line of accelerator a.
 fn put_row(out: &mut [u8], at: usize, a: u8, f: Figures) -> usize
-    ensures { λ r. ⌜ Put 153 (now (out .entry)) at (rowText a (rowMade f)) (now (out .exit)) r ⌝ }
+    ensures { λ r. ⌜ Put 153 (now (out .entry)) at (rowText a (figuresMean f)) (now (out .exit)) r ⌝ }
 {
     let reads = f.reads;
     let writes = f.writes;

@@ -7,10 +7,10 @@ use native.Mathlib.Numerals.{add-one}
 use native.Mathlib.Omega.{arith}
 use lib.ListN.{length, take, getD, length-append}
 use lib.Seq.{sets, sets-eq, length-sets, set-out, take-suc, take-length}
-use Rattle.put.specs.Decimal.{decimalText}
+use Rattle.text.specs.Write.{decimalText}
 use Rattle.put.specs.Page.{Written}
 use Rattle.put.specs.Put.{Put}
-use Rattle.put.proofs.Decimal.{decimal-one, decimal-more, decimal-short}
+use Rattle.text.proofs.Decimal.{decimal-one, decimal-more, decimal-short}
 
 pub sets-append : (xs ys d : List ℕ) (at : ℕ) → sets (sets d at xs) (at + length xs) ys ≡ sets d at (xs ++ ys)
 sets-append [] ys d at = rw add-zero

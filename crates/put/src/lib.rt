@@ -4,7 +4,7 @@ ghost use mathlib.Core.Path.{_≡_};
 ghost use mathlib.Core.List.{[], _∷_, _++_};
 ghost use Prim.Native.Nat.{_+_, _≤_};
 ghost use lib.ListN.{length};
-ghost use Rattle.put.specs.Decimal.{decimalText};
+ghost use Rattle.text.specs.Write.{decimalText};
 ghost use Rattle.put.specs.Put.{Put};
 
 // One byte.

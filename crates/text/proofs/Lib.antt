@@ -1,4 +1,5 @@
 pub mod Parts
 pub mod Fields
 pub mod Digits
+pub mod Decimal
 pub mod Written

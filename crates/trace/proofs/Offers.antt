@@ -249,7 +249,7 @@ three-fields (Number x) (Number y) Dash = refl
 three-fields (Number x) (Number y) (Number z) = refl
 
 -- the parts of an o line: its name and three numbers
-pub record Offered (name : List ℕ) (fs : List (List ℕ)) : Type 0 where
+pub record OfferFields (name : List ℕ) (fs : List (List ℕ)) : Type 0 where
   pub named : same name (111 ∷ []) ≡ true
   pub first : List ℕ
   pub second : List ℕ
@@ -268,7 +268,7 @@ shaped-count l k e =
     let c = both (eqb (l .count) (formOf (l .kind) .count)) _ (both (eqb (l .count) (formOf (l .kind) .count) && not (l .malformed)) _ e .0) .0 in
     eqb-true _ _ c ∙ ap (λ (x : Kind). formOf x .count) k
 
-three-parts : (name : List ℕ) (fs : List (List ℕ)) → length fs ≡ 3 → shaped (pushed (named OfferLine) fs) ≡ true → same name (111 ∷ []) ≡ true → Offered name fs
+three-parts : (name : List ℕ) (fs : List (List ℕ)) → length fs ≡ 3 → shaped (pushed (named OfferLine) fs) ≡ true → same name (111 ∷ []) ≡ true → OfferFields name fs
 unfolding pushed
 three-parts name [] l e n = absurd (omega arith)
 three-parts name (f ∷ []) l e n = absurd (omega arith)
@@ -279,8 +279,8 @@ three-parts name (f ∷ (g ∷ (h ∷ []))) l e n =
     let u = both (isNumber (fieldOf f)) _ (t .0) in
     record { named = n; first = f; second = g; third = h; parts = refl; slot = number-is _ (u .0); accelerator = number-is _ (u .1); count = number-is _ (t .1) }
 
-pub offered : (name : List ℕ) (fs : List (List ℕ)) → isOfferLine (pushed (named (kindOf name)) fs) ≡ true → Offered name fs
-offered name fs e =
+pub offer-fields : (name : List ℕ) (fs : List (List ℕ)) → isOfferLine (pushed (named (kindOf name)) fs) ≡ true → OfferFields name fs
+offer-fields name fs e =
     let b = both (inTrace (pushed (named (kindOf name)) fs .kind)) _ e in
     let k = inTrace-says _ (b .0) in
     let n = sym (pushed-kind (named (kindOf name)) fs) ∙ k in
@@ -313,8 +313,8 @@ module _ (s : List ℕ) (at : ℕ) where
   unfolding lineOf
   line-parts name fs p = ap lineFrom p
 
-  pub parts-none : (name : List ℕ) (fs : List (List ℕ)) → fields (lineAt s at) ≡ name ∷ fs → (endAt s at < length s → Offered name fs → ⊥) → offerText s at ≡ Unshaped
-  parts-none name fs p d = text-none (λ h e. d h (offered name fs (sym (ap isOfferLine (line-parts name fs p)) ∙ e)))
+  pub parts-none : (name : List ℕ) (fs : List (List ℕ)) → fields (lineAt s at) ≡ name ∷ fs → (endAt s at < length s → OfferFields name fs → ⊥) → offerText s at ≡ Unshaped
+  parts-none name fs p d = text-none (λ h e. d h (offer-fields name fs (sym (ap isOfferLine (line-parts name fs p)) ∙ e)))
 
 false-true : {b : Bool} → b ≡ false → b ≡ true → ⊥
 false-true e f = clash cc

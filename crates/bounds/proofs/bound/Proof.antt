@@ -12,10 +12,10 @@ use Rattle.rules.specs.Rules.{treeKeeps}
 use Rattle.rules.proofs.Sound.{sound}
 use Rattle.shares.specs.Shares.{shareOf, shareWithin}
 use Rattle.shares.proofs.Shares.{share-within}
-use Rattle.bounds.specs.Bounds.{rowFrom, rowOf, given}
-use Rattle.bounds.specs.Limits.{Limited}
-use Rattle.bounds.proofs.Limits.{limited}
-use Rattle.bounds.proofs.Answers.{bound-broken, bound-unknown, bound-given}
+use Rattle.bounds.specs.Bounds.{analysisFrom, analysisOf, analysed}
+use Rattle.bounds.specs.Limited.{Limited}
+use Rattle.bounds.proofs.Fits.{limited}
+use Rattle.bounds.proofs.Answers.{bound-broken, bound-unknown, bound-analysed}
 use Rattle.bounds.proofs.bound.Statement.{statement}
 use Rattle.bounds.proofs.bound.Tie as tie
 
@@ -46,8 +46,8 @@ returns-3 c =
     let k = sym (c .before .before .before .before .before .before .before .tree-keeps .ensures) ∙ not-false _ (c .before .before .before .before .before .before .if1 .left) in
     let b = c .before .before .before .before .if2 .left in
     c .figures-from .ensures
-    ∙ read (a .t) k (a .a) b _ _ _ (λ x l s. given (rowFrom (a .t .bus) x l s) ≡ given (rowOf (a .t) (a .a))) (c .before .before .before .accelerator-at .ensures) (c .before .before .level-of .ensures) (c .before .share-of .ensures) refl
-    ∙ sym (bound-given (a .t) (a .a) k b)
+    ∙ read (a .t) k (a .a) b _ _ _ (λ x l s. analysed (analysisFrom (a .t .bus) x l s) ≡ analysed (analysisOf (a .t) (a .a))) (c .before .before .before .accelerator-at .ensures) (c .before .before .level-of .ensures) (c .before .share-of .ensures) refl
+    ∙ sym (bound-analysed (a .t) (a .a) k b)
 
 pub bound-spec : {M : Type 1} → statement M
 bound-spec = tie.close (tie.spec (λ c κs. search needs) returns returns-2 (λ c κs. search needs) (λ c κs. search needs) (λ c κs. search needs) figures-from-requires returns-3)

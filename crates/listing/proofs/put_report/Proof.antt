@@ -8,7 +8,7 @@ use borrow.Author.Needs.{needs}
 use Rattle.folds.specs.Fold.{all}
 use Rattle.model.proofs.Sums.{all-none, all-turn}
 use Rattle.rules.proofs.Sound.{sound}
-use Rattle.bounds.specs.Bounds.{Row, rowOf}
+use Rattle.bounds.specs.Bounds.{Analysis, analysisOf}
 use Rattle.put.specs.Page.{joined}
 use Rattle.listing.specs.Listing.{rowText}
 use Rattle.put.specs.Put.{Put}
@@ -20,14 +20,14 @@ use Rattle.listing.proofs.put_report.Tie as tie
 
 abbrev Inv-loop : tie.InvT-loop
 Inv-loop t out₀ next₀ all-meet₀ a₀ out next all-meet a =
-    Put (0 + 153 * a) out₀ next₀ (joined a (λ i. rowText i (rowOf t i))) out next × (a ≤ t .accs) × (all-meet ≡ all a (λ i. rowOf t i .meets)) × (length out ≡ length out₀)
+    Put (0 + 153 * a) out₀ next₀ (joined a (λ i. rowText i (analysisOf t i))) out next × (a ≤ t .accs) × (all-meet ≡ all a (λ i. analysisOf t i .meets)) × (length out ≡ length out₀)
 
 abbrev μ-loop : tie.MeasureT-loop
 μ-loop t out₀ next₀ all-meet₀ a₀ out next all-meet a = t .accs - a
 
 loop-holds : tie.Need-loop-holds Inv-loop μ-loop
 loop-holds c =
-    (lines-none 0 153 [] (λ i. rowText i (rowOf (c .before .before .before .before .before .args .t) i)) (put-none _ _), search needs, sym (all-none _), refl)
+    (lines-none 0 153 [] (λ i. rowText i (analysisOf (c .before .before .before .before .before .args .t) i)) (put-none _ _), search needs, sym (all-none _), refl)
 
 same-length : tie.Need-same-length Inv-loop μ-loop
 same-length c =
@@ -50,9 +50,9 @@ loop-again c =
     let a = c .before .before .before .before .before .before .before .before .before .before .before .before .before .before .before .before .before .args in
     let l = c .before .before .before .before .before .before .before .before .before .before .before .loop in
     let m = row-made _ _ _ (c .before .before .before .before .before .before .before .before .before .before .before .before .before .before .before .before .before .pre) (c .before .before .before .before .before .before .before .before .before .if1 .taken) (c .before .before .before .before .before .before .before .before .bound .ensures) _ (c .before .before .before .before .before .before .f .given .1) in (
-      lines-turn 0 153 [] (λ i. rowText i (rowOf (a .t) i)) _ (l .inv .0) (put-as (ap (rowText (l .a)) m) (c .before .before .before .put-row .ensures)),
+      lines-turn 0 153 [] (λ i. rowText i (analysisOf (a .t) i)) _ (l .inv .0) (put-as (ap (rowText (l .a)) m) (c .before .before .before .put-row .ensures)),
       omega (arith, c .before .before .before .before .before .before .before .before .before .if1 .taken),
-      all-turn _ (λ i. rowOf (a .t) i .meets) _ _ (l .inv .2) (ap (λ (r : Row). r .meets) m),
+      all-turn _ (λ i. analysisOf (a .t) i .meets) _ _ (l .inv .2) (ap (λ (r : Analysis). r .meets) m),
       c .before .before .before .put-row .kept .0 ∙ l .inv .3,
     )
 

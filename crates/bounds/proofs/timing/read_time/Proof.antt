@@ -1,7 +1,7 @@
 -- `read_time` meets its contract: the parts are those of the definition, each within its largest figure.
 use native.Mathlib.Omega.{arith}
 use borrow.Author.Needs.{needs}
-use Rattle.bounds.proofs.Limits.{fitting}
+use Rattle.bounds.proofs.Fits.{fitting}
 use Rattle.bounds.proofs.Terms.{channel}
 use Rattle.bounds.proofs.timing.read_time.Statement.{statement}
 use Rattle.bounds.proofs.timing.read_time.Tie as tie

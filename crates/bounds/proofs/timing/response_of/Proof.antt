@@ -3,7 +3,7 @@ use mathlib.Core.Path.{ap₂}
 use Prim.Native.Nat.{ℕ, _+_}
 use native.Mathlib.Omega.{arith}
 use borrow.Author.Needs.{needs}
-use Rattle.bounds.proofs.Limits.{fitting}
+use Rattle.bounds.proofs.Fits.{fitting}
 use Rattle.bounds.proofs.timing.response_of.Statement.{statement}
 use Rattle.bounds.proofs.timing.response_of.Tie as tie
 

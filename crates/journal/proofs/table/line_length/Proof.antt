@@ -5,13 +5,13 @@ use Prim.Native.Nat.{_≤_, _-_}
 use native.Mathlib.Omega.{arith}
 use lib.ListN.{length, take, drop}
 use borrow.Author.Needs.{needs}
-use Rattle.journal.specs.Journal.{lineOf}
+use Rattle.journal.specs.Journal.{lineNumbered}
 use Rattle.journal.proofs.Entries.{line-byte, line-found, line-ended}
 use Rattle.journal.proofs.table.line_length.Statement.{statement}
 use Rattle.journal.proofs.table.line_length.Tie as tie
 
 abbrev Inv-loop : tie.InvT-loop
-Inv-loop s i₀ i = (i ≤ length s) × (take i s ++ lineOf 0 (drop i s) ≡ lineOf 0 s)
+Inv-loop s i₀ i = (i ≤ length s) × (take i s ++ lineNumbered 0 (drop i s) ≡ lineNumbered 0 s)
 
 abbrev μ-loop : tie.MeasureT-loop
 μ-loop s i₀ i = length s - i

@@ -5,13 +5,13 @@ use Prim.Native.Nat.{ℕ, _≤_, _-_, _+_}
 use native.Mathlib.Omega.{arith}
 use lib.ListN.{length, drop}
 use borrow.Author.Needs.{needs}
-use Rattle.journal.specs.Journal.{lineOf}
+use Rattle.journal.specs.Journal.{lineNumbered}
 use Rattle.journal.proofs.Entries.{line-next, line-on, line-past}
 use Rattle.journal.proofs.table.line_start.Statement.{statement}
 use Rattle.journal.proofs.table.line_start.Tie as tie
 
 abbrev Inv-loop : tie.InvT-loop
-Inv-loop s k left₀ i₀ left i = (i ≤ length s) × (lineOf k s ≡ lineOf left (drop i s))
+Inv-loop s k left₀ i₀ left i = (i ≤ length s) × (lineNumbered k s ≡ lineNumbered left (drop i s))
 
 abbrev μ-loop : tie.MeasureT-loop
 μ-loop s k left₀ i₀ left i = length s - i
@@ -21,14 +21,14 @@ loop-holds c = (search needs, refl)
 
 returns : tie.Need-returns Inv-loop μ-loop
 returns c =
-    (search needs, c .before .before .loop .inv .1 ∙ ap (λ (n : ℕ). lineOf n (drop (c .before .before .loop .i) (c .before .before .before .args .s .now))) (c .if1 .taken))
+    (search needs, c .before .before .loop .inv .1 ∙ ap (λ (n : ℕ). lineNumbered n (drop (c .before .before .loop .i) (c .before .before .before .args .s .now))) (c .if1 .taken))
 
 loop-again : tie.Need-loop-again Inv-loop μ-loop
 loop-again c =
     let l = c .before .before .before .before .loop in
     let h = c .before .before .before .loop-test .taken in
     let d = c .before .before .if1 .left in
-    (omega arith, l .inv .1 ∙ ⊎-elim (λ w. line-next _ _ h _ d (w .0 .taken) ∙ ap (λ (n : ℕ). lineOf n (drop (l .i + 1) (c .before .before .before .before .before .args .s .now))) (sym (w .1))) (λ w. line-on _ _ h _ d (w .0 .left) ∙ ap (λ (n : ℕ). lineOf n (drop (l .i + 1) (c .before .before .before .before .before .args .s .now))) (sym (w .1))) (c .if2 .came))
+    (omega arith, l .inv .1 ∙ ⊎-elim (λ w. line-next _ _ h _ d (w .0 .taken) ∙ ap (λ (n : ℕ). lineNumbered n (drop (l .i + 1) (c .before .before .before .before .before .args .s .now))) (sym (w .1))) (λ w. line-on _ _ h _ d (w .0 .left) ∙ ap (λ (n : ℕ). lineNumbered n (drop (l .i + 1) (c .before .before .before .before .before .args .s .now))) (sym (w .1))) (c .if2 .came))
 
 returns-2 : tie.Need-returns-2 Inv-loop μ-loop
 returns-2 c =

@@ -16,7 +16,7 @@ use Rattle.rules.proofs.Sound.{sound}
 use Rattle.shares.specs.Shares.{shareOf}
 use Rattle.shares.proofs.Shares.{share-bounds}
 use Rattle.bounds.specs.Bounds.{interference, aloneRead, aloneWrite, slotRead, slotWrite, readTime, writeTime, responseOf}
-use Rattle.bounds.specs.Limits.{Limited}
+use Rattle.bounds.specs.Limited.{Limited}
 
 pub record Fitting (b : Bus) (x : Accelerator) (l share : ℕ) : Type 0 where
   pub slot-read : slotRead b ≤ 69630
