@@ -45,14 +45,14 @@ fn capacity_beneath(t: Tree, levels: u8, port: Port) -> u32
 
 // The capacity of port p of interconnect j: at most three levels lie below the first.
 fn capacity_of(t: Tree, j: u8, p: u8) -> u32
-    ensures { λ r. ⌜ r ≡ capacityOf t j p ⌝ }
+    ensures { λ r. ⌜ r ≡ capacityOf t (limitOf t) j p ⌝ }
 {
     capacity_beneath(t, 3, port_at(t, j, p))
 }
 
 // What port q of interconnect j counts for in D at port p: port p itself counts for nothing.
 fn count_port(t: Tree, j: u8, p: u8, q: u8) -> u32
-    ensures { λ r. ⌜ (r ≡ counted t j p q) × (r ≤ 255) ⌝ }
+    ensures { λ r. ⌜ (r ≡ counted t (limitOf t) j p q) × (r ≤ 255) ⌝ }
 {
     if q == p {
         return 0;
@@ -63,7 +63,7 @@ fn count_port(t: Tree, j: u8, p: u8, q: u8) -> u32
 
 // D at interconnect j for its port p.
 fn others_at(t: Tree, j: u8, p: u8) -> u32
-    ensures { λ r. ⌜ (r ≡ othersAt t j p) × (r ≤ 2040) ⌝ }
+    ensures { λ r. ⌜ (r ≡ othersAt t (limitOf t) j p) × (r ≤ 2040) ⌝ }
 {
     let mut sum: u32 = 0;
     let mut q: u8 = 0;
@@ -76,7 +76,7 @@ fn others_at(t: Tree, j: u8, p: u8) -> u32
 
 // The factor of one crossing in a share: 1 + D.
 fn factor_at(t: Tree, j: u8, p: u8) -> u64
-    ensures { λ r. ⌜ (r ≡ 1 + othersAt t j p) × (r ≤ 2041) ⌝ }
+    ensures { λ r. ⌜ (r ≡ 1 + othersAt t (limitOf t) j p) × (r ≤ 2041) ⌝ }
 {
     1 + others_at(t, j, p) as u64
 }
@@ -84,7 +84,7 @@ fn factor_at(t: Tree, j: u8, p: u8) -> u64
 // The product of (1 + D) along the crossings above interconnect j, parent by parent, at most n of them.
 fn share_above(t: Tree, n: u8, j: u8) -> u64
     requires { ⌜ n ≤ 3 ⌝ }
-    ensures { λ r. ⌜ (r ≡ shareAlong t (above n t j)) × (r ≤ 2041 ^ n) ⌝ }
+    ensures { λ r. ⌜ (r ≡ shareAlong t (limitOf t) (above n t j)) × (r ≤ 2041 ^ n) ⌝ }
 {
     if n == 0 {
         return 1;

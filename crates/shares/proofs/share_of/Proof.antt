@@ -2,6 +2,7 @@
 use mathlib.Core.Path.{ap, ap₂, _∙_}
 use Prim.Native.Nat.{ℕ, _+_, _*_}
 use native.Mathlib.Omega.{arith}
+use Rattle.model.specs.Tree.{limitOf}
 use borrow.Author.Needs.{needs}
 use native.Mathlib.Nat.{mul-le-mul}
 use Rattle.model.specs.declared.Accelerator.{Accelerator}
@@ -19,8 +20,8 @@ unfolding shareAlong
 returns c =
     let a = c .before .before .before .args in
     let e = c .before .before .accelerator-at .ensures in
-    let f = c .before .factor-at .ensures .0 ∙ ap (λ (x : Accelerator). 1 + othersAt (a .t) (x .interconnect) (x .port)) e in
-    let r = c .share-above .ensures .0 ∙ ap (λ (x : Accelerator). shareAlong (a .t) (above 3 (a .t) (x .interconnect))) e in
+    let f = c .before .factor-at .ensures .0 ∙ ap (λ (x : Accelerator). 1 + othersAt (a .t) (limitOf (a .t)) (x .interconnect) (x .port)) e in
+    let r = c .share-above .ensures .0 ∙ ap (λ (x : Accelerator). shareAlong (a .t) (limitOf (a .t)) (above 3 (a .t) (x .interconnect))) e in
     ap₂ (λ (x y : ℕ). x * y) f r
 
 pub share-of-spec : {M : Type 1} → statement M
