@@ -3,12 +3,12 @@ use mathlib.Core.Path.{ap, ap₂, _∙_}
 use Prim.Native.Nat.{ℕ, _<_, _+_, _*_, _-_}
 use native.Mathlib.Omega.{arith}
 use native.Mathlib.Nat.{pos-of-ne-zero}
-use Rattle.model.specs.Tree.{limitOf}
 use borrow.Author.Needs.{needs}
 use borrow.Fn.Kinds.{In}
 use borrow.Fn.PlainCycle.{Measures, is, falls, and}
 use Rattle.model.specs.declared.Interconnect.{Interconnect}
 use Rattle.model.specs.Tree.{above}
+use Rattle.model.specs.Beneath.{weightIn}
 use Rattle.shares.specs.Shares.{othersAt, shareAlong}
 use Rattle.shares.proofs.Walks.{walk-none, walk-root, walk-step, walk-most, walk-room, walk-some}
 use Rattle.shares.proofs.share_above.Reads as share-above
@@ -20,7 +20,7 @@ use Rattle.shares.proofs.+share_above.{statement}
 use Rattle.shares.proofs.+share_above.Tie.{close}
 
 abbrev μ : Measures 0 share-above-kinds.ps ℕ
-μ κs a = a .1 .0
+μ κs a = a .1 .1 .0
 
 abbrev at : ℕ → In 0 share-above-kinds.ps
 at t = and 0 share-above-kinds.ps (is 0 share-above-kinds.ps μ t) share-above.Pre
@@ -61,9 +61,9 @@ module _ (t : ℕ) where
       let a = c .before .before .before .before .before .args in
       let h = c .before .before .before .before .if1 .left in
       let e = c .before .before .interconnect-at .ensures in
-      let f = c .before .factor-at .ensures .0 ∙ ap (λ (x : Interconnect). 1 + othersAt (a .t) (limitOf (a .t)) (x .parent) (x .port)) e in
-      let r = c .share-above .ensures .0 ∙ ap (λ (x : Interconnect). shareAlong (a .t) (limitOf (a .t)) (above (a .n - 1) (a .t) (x .parent))) e in (
-        ap₂ (λ (x y : ℕ). x * y) f r ∙ walk-step (a .t) (limitOf (a .t)) (a .n) (a .j) h (c .before .before .before .if2 .left),
+      let f = c .before .factor-at .ensures .0 ∙ ap (λ (x : Interconnect). 1 + othersAt (a .t) (weightIn (a .limits)) (x .parent) (x .port)) e in
+      let r = c .share-above .ensures .0 ∙ ap (λ (x : Interconnect). shareAlong (a .t) (weightIn (a .limits)) (above (a .n - 1) (a .t) (x .parent))) e in (
+        ap₂ (λ (x y : ℕ). x * y) f r ∙ walk-step (a .t) (weightIn (a .limits)) (a .n) (a .j) h (c .before .before .before .if2 .left),
         walk-most (a .n) _ _ h (c .before .factor-at .ensures .1) (c .share-above .ensures .1),
       )
 
