@@ -6,12 +6,12 @@
 use Prim.Native.Nat.{ℕ, _+_, _*_}
 use mathlib.Core.List.{List, [], _∷_}
 use Rattle.model.specs.declared.Tree.{Tree}
-use Rattle.model.specs.Tree.{Crossing, homeOf, homePortOf, above}
+use Rattle.model.specs.Tree.{Crossing, limitOf, homeOf, homePortOf, above}
 use Rattle.shares.specs.Shares.{othersAt}
 
 unfoldable pub upward : Tree → ℕ → ℕ → List Crossing → ℕ
 upward t n y [] = y
-upward t n y (x ∷ xs) = upward t n (y + (n + y) * othersAt t (x .interconnect) (x .port)) xs
+upward t n y (x ∷ xs) = upward t n (y + (n + y) * othersAt t (limitOf t) (x .interconnect) (x .port)) xs
 
 abbrev pub interferers : Tree → ℕ → ℕ → ℕ
-interferers t n a = upward t n (n * othersAt t (homeOf t a) (homePortOf t a)) (above 15 t (homeOf t a))
+interferers t n a = upward t n (n * othersAt t (limitOf t) (homeOf t a) (homePortOf t a)) (above 15 t (homeOf t a))

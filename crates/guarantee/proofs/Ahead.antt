@@ -2,7 +2,8 @@
 -- another port takes one off, and a turn of p leaves at most D before its next.
 --
 -- aheadIn c l n p       what may be served before port p comes on, with last port l, n left of its turn and the costs c
--- aheadOf t s i p       the same at interconnect i in state s, where a port costs what it counts for in D
+-- aheadOf t φ s i p     the same at interconnect i in state s, where a port costs what it counts for in D with limits φ
+-- WaitsWithin t φ s     in state s no accelerator has more waiting than φ allows it
 -- layer x d w           the slots until the w-th service beneath a port, x served ahead of it and d between two of them
 use Prim.Native.Nat.{ℕ, zero, suc, _+_, _-_, _*_, _≤_, _<_, min}
 use mathlib.Core.Bool.{Bool, true, false}
@@ -15,7 +16,7 @@ use borrow.Author.Tests.{eq-eqb, ne-eqb, lt-ltb, le-ltb, ltb-true, ltb-false}
 use Rattle.model.specs.declared.Tree.{Tree}
 use Rattle.model.specs.declared.State.{State}
 use Rattle.folds.specs.Fold.{pick, sum}
-use Rattle.model.specs.Tree.{granularityOf, limitOf, waitingOf, lastOf, allowanceOf}
+use Rattle.model.specs.Tree.{granularityOf, waitingOf, lastOf, allowanceOf}
 use Rattle.model.specs.Beneath.{waitsUnder}
 use Rattle.folds.proofs.Folds.{picked, passed}
 use Rattle.rules.proofs.Sound.{Sound, Kept}
@@ -97,42 +98,46 @@ module _ (x d : ℕ) where
   unfolding layer
   layer-other y w h z = omega (arith, least w z)
 
-abbrev pub aheadOf : Tree → State → ℕ → ℕ → ℕ
-aheadOf t s i p = aheadIn (counted t i p) (lastOf s i) (allowanceOf s i) p
+abbrev pub aheadOf : Tree → (ℕ → ℕ) → State → ℕ → ℕ → ℕ
+aheadOf t φ s i p = aheadIn (counted t φ i p) (lastOf s i) (allowanceOf s i) p
 
-pub ahead-same : (t : Tree) (s r : State) (i p : ℕ) → Unturned s r i → aheadOf t r i p ≡ aheadOf t s i p
-ahead-same t s r i p u = ap₂ (λ l n. aheadIn (counted t i p) l n p) (u .last) (u .allowance)
+pub ahead-same : (t : Tree) (φ : ℕ → ℕ) (s r : State) (i p : ℕ) → Unturned s r i → aheadOf t φ r i p ≡ aheadOf t φ s i p
+ahead-same t φ s r i p u = ap₂ (λ l n. aheadIn (counted t φ i p) l n p) (u .last) (u .allowance)
 
-module _ (t : Tree) (S : Sound t) (s : State) (K : Kept t s) (i p : ℕ) (l : i < t .ints) (b : p < 8) where
+abbrev pub WaitsWithin : Tree → (ℕ → ℕ) → State → Type 0
+WaitsWithin t φ s = (a : ℕ) → a < t .accs → waitingOf s a ≤ φ a
+
+module _ (t : Tree) (φ : ℕ → ℕ) (S : Sound t) (s : State) (K : Kept t s) (F : WaitsWithin t φ s)
+    (i p : ℕ) (l : i < t .ints) (b : p < 8) where
   -- what waits under a port is at most its capacity, so a turn within both limits is within the port's cost
-  within-cost : (n q : ℕ) → q < 8 → (q ≡ p → ⊥) → n ≤ granularityOf t i → n ≤ waitsUnder t s i q → n ≤ counted t i p q
+  within-cost : (n q : ℕ) → q < 8 → (q ≡ p → ⊥) → n ≤ granularityOf t i → n ≤ waitsUnder t s i q → n ≤ counted t φ i p q
   within-cost n q c d g h = omega (
     arith,
-    passed (eqb q p) 0 (min (granularityOf t i) (capacityOf t i q)) (ne-eqb q p d),
-    weight-mono t S (waitingOf s) (limitOf t) (K .waiting) i q l c,
+    passed (eqb q p) 0 (min (granularityOf t i) (capacityOf t φ i q)) (ne-eqb q p d),
+    weight-mono t S (waitingOf s) φ F i q l c,
   )
 
-  pub ahead-most : aheadOf t s i p ≤ othersAt t i p
+  pub ahead-most : aheadOf t φ s i p ≤ othersAt t φ i p
   unfolding othersAt
-  ahead-most = ahead-bound (counted t i p) (lastOf s i) (allowanceOf s i) p (K .last i l) b
+  ahead-most = ahead-bound (counted t φ i p) (lastOf s i) (allowanceOf s i) p (K .last i l) b
       (λ d. within-cost (allowanceOf s i) (lastOf s i) (K .last i l) d (K .allowance i l) (K .allowance-waits i l))
 
   -- the turn is another port's, while something waits under p
   module _ (u : Turn t s i) (d : turnPort t s i ≡ p → ⊥) (w : 0 < waitsUnder t s i p) where
     going : goesOn s i ≡ true
-        → aheadIn (counted t i p) (turnPort t s i) (turnAllowance t s i - 1) p + 1 ≤ aheadOf t s i p
+        → aheadIn (counted t φ i p) (turnPort t s i) (turnAllowance t s i - 1) p + 1 ≤ aheadOf t φ s i p
     unfolding turnPort turnAllowance
     going e =
         let q : turnPort t s i ≡ lastOf s i = picked _ _ _ e in
         let m : turnAllowance t s i ≡ allowanceOf s i = picked _ _ _ e in
         omega (
           arith,
-          ap₂ (λ x y. aheadIn (counted t i p) x (y - 1) p) q m,
-          ahead-going (counted t i p) p (lastOf s i) (allowanceOf s i) (λ f. d (q ∙ f)) (ltb-true _ _ e),
+          ap₂ (λ x y. aheadIn (counted t φ i p) x (y - 1) p) q m,
+          ahead-going (counted t φ i p) p (lastOf s i) (allowanceOf s i) (λ f. d (q ∙ f)) (ltb-true _ _ e),
         )
 
     passing : goesOn s i ≡ false
-        → aheadIn (counted t i p) (turnPort t s i) (turnAllowance t s i - 1) p + 1 ≤ aheadOf t s i p
+        → aheadIn (counted t φ i p) (turnPort t s i) (turnAllowance t s i - 1) p + 1 ≤ aheadOf t φ s i p
     unfolding turnPort
     passing e =
         let q : turnPort t s i ≡ nextPort (liveSet t s i) (lastOf s i) = passed _ _ _ e in
@@ -141,20 +146,20 @@ module _ (t : Tree) (S : Sound t) (s : State) (K : Kept t s) (i p : ℕ) (l : i 
         let m = within-cost (turnAllowance t s i) (turnPort t s i) (u .port) d (u .granted) (u .covered) in
         omega (
           arith,
-          ap (λ x. aheadIn (counted t i p) x (turnAllowance t s i - 1) p) q,
-          ap (λ y. aheadIn (counted t i p) (lastOf s i) y p) z,
-          ahead-passing (counted t i p) p (liveSet t s i) (lastOf s i) (turnAllowance t s i) live (K .last i l) b
-              (λ f. d (q ∙ f)) (u .some) (subst (λ x. turnAllowance t s i ≤ counted t i p x) q m),
+          ap (λ x. aheadIn (counted t φ i p) x (turnAllowance t s i - 1) p) q,
+          ap (λ y. aheadIn (counted t φ i p) (lastOf s i) y p) z,
+          ahead-passing (counted t φ i p) p (liveSet t s i) (lastOf s i) (turnAllowance t s i) live (K .last i l) b
+              (λ f. d (q ∙ f)) (u .some) (subst (λ x. turnAllowance t s i ≤ counted t φ i p x) q m),
         )
 
-    pub ahead-turn : (r : State) (x : ℕ) → Turned t s r i x → aheadOf t r i p + 1 ≤ aheadOf t s i p
+    pub ahead-turn : (r : State) (x : ℕ) → Turned t s r i x → aheadOf t φ r i p + 1 ≤ aheadOf t φ s i p
     ahead-turn r x v = omega (
       arith,
-      ap₂ (λ x y. aheadIn (counted t i p) x y p) (v .last) (v .allowance),
+      ap₂ (λ x y. aheadIn (counted t φ i p) x y p) (v .last) (v .allowance),
       go (goesOn s i) refl,
     )
       where
         go : (c : Bool) → goesOn s i ≡ c
-            → aheadIn (counted t i p) (turnPort t s i) (turnAllowance t s i - 1) p + 1 ≤ aheadOf t s i p
+            → aheadIn (counted t φ i p) (turnPort t s i) (turnAllowance t s i - 1) p + 1 ≤ aheadOf t φ s i p
         go true e = going e
         go false e = passing e

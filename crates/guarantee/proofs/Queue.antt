@@ -16,13 +16,14 @@ use borrow.Author.Tests.{eq-eqb, ne-eqb}
 use Rattle.model.specs.declared.Tree.{Tree}
 use Rattle.model.specs.declared.State.{State}
 use Rattle.folds.specs.Fold.{pick}
-use Rattle.model.specs.Tree.{path, waitingOf}
+use Rattle.model.specs.Tree.{path, limitOf, waitingOf}
 use Rattle.rules.specs.Rules.{keeps}
 use Rattle.folds.proofs.Folds.{picked, passed}
 use Rattle.rules.proofs.Sound.{sound-of, kept-of}
 use Rattle.machine.specs.Machine.{Answer, admitted, served}
 use Rattle.machine.specs.Calls.{Call, offer, slot}
 use Rattle.guarantee.specs.Guarantee.{Event, event, Ticket, admittedBy, withoutFirst, callMoves, moved, queueFrom, startingQueue, slotCounts, slotsIn, servesOther, othersIn, Holds, here, there}
+use Rattle.guarantee.proofs.Ahead.{WaitsWithin}
 use Rattle.guarantee.proofs.Path.{waitOf, wait-least, wait-same, wait-other, wait-own}
 use Rattle.guarantee.proofs.Walk.{Admission, Service, Does, admits, declines, serves, idles, halts, Walk, stay, go, walk-start}
 
@@ -127,62 +128,76 @@ gone a j n l q (stay k) f = f
 gone {t} {s} a j n l q (go {m = m} {e = v} k d w) f =
     gone a j (suc n) (omega arith) (moved a n q v) w (absent-step t s m a j n l q (v .call) (v .answer) d f)
 
--- the call c, which answers x, goes from state s and queue q to state m and queue r
-data Goes (t : Tree) (s m : State) (a j k : ℕ) (q : List Ticket) (c : Call) (x : Answer) (r : List Ticket) : Type 0 where
-  served-now : c ≡ slot → x ≡ served a → (others : List Ticket) → q ≡ admittedBy j ∷ others → Absent (admittedBy j) r
-      → Goes t s m a j k q c x r
-  waits-on : (l : ℕ) → Stands (admittedBy j) l r → slotCounts x c + waitOf t m a (suc l) ≤ waitOf t s a (suc k)
-      → servesOther a x + k + waitOf t m a (suc l) ≤ waitOf t s a (suc k) + l → Goes t s m a j k q c x r
+-- no state of the walk has more waiting than φ allows
+abbrev pub AllWithin : {t : Tree} {s r : State} {es : List Event} (φ : ℕ → ℕ) → Walk t s es r → Type 0
+AllWithin {t} {s} φ (stay K) = WaitsWithin t φ s
+AllWithin {t} {s} φ (go K d w) = WaitsWithin t φ s × AllWithin φ w
 
-module _ (t : Tree) (s : State) (K : keeps t s ≡ true) (a j : ℕ) (la : a < t .accs) where
+within-start : {t : Tree} {s r : State} {es : List Event} (φ : ℕ → ℕ) (w : Walk t s es r) → AllWithin φ w → WaitsWithin t φ s
+within-start φ (stay K) F = F
+within-start φ (go K d w) F = F .0
+
+-- a state that keeps its rules has no more waiting than the outstanding limits allow
+pub limits-hold : {t : Tree} {s r : State} {es : List Event} (w : Walk t s es r) → AllWithin (limitOf t) w
+limits-hold {t} {s} (stay K) = kept-of t s K .waiting
+limits-hold {t} {s} (go K d w) = (kept-of t s K .waiting, limits-hold w)
+
+-- the call c, which answers x, goes from state s and queue q to state m and queue r
+data Goes (t : Tree) (φ : ℕ → ℕ) (s m : State) (a j k : ℕ) (q : List Ticket) (c : Call) (x : Answer) (r : List Ticket) : Type 0 where
+  served-now : c ≡ slot → x ≡ served a → (others : List Ticket) → q ≡ admittedBy j ∷ others → Absent (admittedBy j) r
+      → Goes t φ s m a j k q c x r
+  waits-on : (l : ℕ) → Stands (admittedBy j) l r → slotCounts x c + waitOf t φ m a (suc l) ≤ waitOf t φ s a (suc k)
+      → servesOther a x + k + waitOf t φ m a (suc l) ≤ waitOf t φ s a (suc k) + l → Goes t φ s m a j k q c x r
+
+module _ (t : Tree) (φ : ℕ → ℕ) (s : State) (K : keeps t s ≡ true) (F : WaitsWithin t φ s) (a j : ℕ) (la : a < t .accs) where
   -- an admission: turns stay, and so does the wait
   admission : (m : State) (b n k : ℕ) → j < n → (q : List Ticket) → Admission t s b m → Stands (admittedBy j) k q
-      → Goes t s m a j k q (offer b) admitted (pick (eqb a b) (q ++ admittedBy n ∷ []) q)
+      → Goes t φ s m a j k q (offer b) admitted (pick (eqb a b) (q ++ admittedBy n ∷ []) q)
   admission m b n k l q A h =
       waits-on k (test (Stands (admittedBy j) k) (eqb a b) (stands-append j n l h) h) (omega (arith, same))
       (omega (arith, same))
     where
-      same : waitOf t m a (suc k) ≡ waitOf t s a (suc k)
-      same = wait-same t s m (A .turns) (path t a) (suc k)
+      same : waitOf t φ m a (suc k) ≡ waitOf t φ s a (suc k)
+      same = wait-same t φ s m (A .turns) (path t a) (suc k)
 
-  module _ (m : State) (L : keeps t m ≡ true) where
+  module _ (m : State) (L : keeps t m ≡ true) (G : WaitsWithin t φ m) where
     -- a service of its own accelerator: the first's, be it this ticket or not
     own : (k : ℕ) (q : List Ticket) → Stands (admittedBy j) k q → Service t s a m
-        → Goes t s m a j k q slot (served a) (withoutFirst q)
+        → Goes t φ s m a j k q slot (served a) (withoutFirst q)
     own k q (first {q = others} f) v = served-now refl refl others refl f
     own k q (behind {k = l} h) v =
         waits-on l h (omega (arith, lower)) (omega (arith, lower, picked {A = ℕ} (eqb a a) 0 1 (eq-eqb a a refl)))
       where
-        lower : waitOf t m a (suc l) + 1 ≤ waitOf t s a (suc (suc l))
-        lower = wait-own t (sound-of t s K) s m (kept-of t s K) (kept-of t m L) a la (v .on) (v .off) (suc l)
+        lower : waitOf t φ m a (suc l) + 1 ≤ waitOf t φ s a (suc (suc l))
+        lower = wait-own t φ (sound-of t s K) s m (kept-of t s K) (kept-of t m L) F G a la (v .on) (v .off) (suc l)
 
     -- a service of another
     other : (b k : ℕ) (q : List Ticket) → (b ≡ a → ⊥) → 0 < waitingOf s a → Stands (admittedBy j) k q → Service t s b m
-        → Goes t s m a j k q slot (served b) q
+        → Goes t φ s m a j k q slot (served b) q
     other b k q d w h v =
         waits-on k h (omega (arith, lower))
         (omega (arith, lower, passed {A = ℕ} (eqb a b) 0 1 (ne-eqb a b (λ e. d (sym e)))))
       where
-        lower : waitOf t m a (suc k) + 1 ≤ waitOf t s a (suc k)
-        lower = wait-other t (sound-of t s K) s m (kept-of t s K) (kept-of t m L) b (v .acc) (v .on) (v .off) a la w d
+        lower : waitOf t φ m a (suc k) + 1 ≤ waitOf t φ s a (suc k)
+        lower = wait-other t φ (sound-of t s K) s m (kept-of t s K) (kept-of t m L) F G b (v .acc) (v .on) (v .off) a la w d
             (suc k) (omega arith)
 
     service : (b k : ℕ) (q : List Ticket) → 0 < waitingOf s a → Stands (admittedBy j) k q → Service t s b m
-        → Goes t s m a j k q slot (served b) (pick (eqb a b) (withoutFirst q) q)
+        → Goes t φ s m a j k q slot (served b) (pick (eqb a b) (withoutFirst q) q)
     service b k q w h v = elim (ℕ-discrete a b) [
-      | yes e ↦ subst (Goes t s m a j k q slot (served b)) (sym (picked _ _ _ (eq-eqb a b e)))
-          (subst (λ x. Service t s x m → Goes t s m a j k q slot (served x) (withoutFirst q)) e (own k q h) v)
-      | no d ↦ subst (Goes t s m a j k q slot (served b)) (sym (passed _ _ _ (ne-eqb a b d)))
+      | yes e ↦ subst (Goes t φ s m a j k q slot (served b)) (sym (picked _ _ _ (eq-eqb a b e)))
+          (subst (λ x. Service t s x m → Goes t φ s m a j k q slot (served x) (withoutFirst q)) e (own k q h) v)
+      | no d ↦ subst (Goes t φ s m a j k q slot (served b)) (sym (passed _ _ _ (ne-eqb a b d)))
           (other b k q (λ e. d (sym e)) w h v)
     ]
 
-  goes : (m : State) → keeps t m ≡ true → (n k : ℕ) → j < n → (q : List Ticket) (c : Call) (x : Answer) → Does t s c x m
-      → Stands (admittedBy j) k q → length q ≡ waitingOf s a → Goes t s m a j k q c x (callMoves a n q x c)
-  goes m L n k l q c x (admits {b = b} A) h e = admission m b n k l q A h
-  goes m L n k l q c x declines h e = waits-on k h (omega arith) (omega arith)
-  goes m L n k l q c x (serves {b = b} v) h e = service m L b k q (omega (arith, stands-length h)) h v
-  goes m L n k l q c x (idles i) h e = absurd (omega (arith, i .none a, stands-length h))
-  goes m L n k l q c x (halts f) h e = waits-on k h (omega arith) (omega arith)
+  goes : (m : State) → keeps t m ≡ true → WaitsWithin t φ m → (n k : ℕ) → j < n → (q : List Ticket) (c : Call) (x : Answer)
+      → Does t s c x m → Stands (admittedBy j) k q → length q ≡ waitingOf s a → Goes t φ s m a j k q c x (callMoves a n q x c)
+  goes m L G n k l q c x (admits {b = b} A) h e = admission m b n k l q A h
+  goes m L G n k l q c x declines h e = waits-on k h (omega arith) (omega arith)
+  goes m L G n k l q c x (serves {b = b} v) h e = service m L G b k q (omega (arith, stands-length h)) h v
+  goes m L G n k l q c x (idles i) h e = absurd (omega (arith, i .none a, stands-length h))
+  goes m L G n k l q c x (halts f) h e = waits-on k h (omega arith) (omega arith)
 
 -- the ticket is served within w slots of the events es that are not refused
 pub record Timely (a j n : ℕ) (q : List Ticket) (es : List Event) (w : ℕ) : Type 0 where
@@ -193,27 +208,27 @@ pub record Timely (a j n : ℕ) (q : List Ticket) (es : List Event) (w : ℕ) : 
   pub first : queueFrom a n q mid ≡ admittedBy j ∷ others
   pub within : slotsIn mid + 1 ≤ w
 
-pub timely : {t : Tree} {s r : State} {es : List Event} (a j n k : ℕ) → a < t .accs → j < n → (q : List Ticket)
-    → Walk t s es r → Stands (admittedBy j) k q → length q ≡ waitingOf s a → waitOf t s a (suc k) ≤ slotsIn es
-    → Timely a j n q es (waitOf t s a (suc k))
+pub timely : {t : Tree} (φ : ℕ → ℕ) {s r : State} {es : List Event} (a j n k : ℕ) → a < t .accs → j < n → (q : List Ticket)
+    → (w : Walk t s es r) → AllWithin φ w → Stands (admittedBy j) k q → length q ≡ waitingOf s a → waitOf t φ s a (suc k) ≤ slotsIn es
+    → Timely a j n q es (waitOf t φ s a (suc k))
 unfolding queueFrom slotsIn
-timely {t} {s} a j n k la l q (stay K) h e b = absurd (omega (arith, wait-least t s (path t a) (suc k)))
-timely {t} {s} a j n k la l q (go {m = m} {e = v} {es = es} K d w) h e b =
-    next (goes t s K a j la m (walk-start w) n k l q (v .call) (v .answer) d h e)
-    (λ i g f. timely a j (suc n) i la (omega arith) (moved a n q v) w g
+timely {t} φ {s} a j n k la l q (stay K) F h e b = absurd (omega (arith, wait-least t φ s (path t a) (suc k)))
+timely {t} φ {s} a j n k la l q (go {m = m} {e = v} {es = es} K d w) F h e b =
+    next (goes t φ s K (F .0) a j la m (walk-start w) (within-start φ w (F .1)) n k l q (v .call) (v .answer) d h e)
+    (λ i g f. timely φ a j (suc n) i la (omega arith) (moved a n q v) w (F .1) g
     (length-step t s m a n q (v .call) (v .answer) d e) f)
   where
-    next : Goes t s m a j k q (v .call) (v .answer) (moved a n q v)
-        → ((i : ℕ) → Stands (admittedBy j) i (moved a n q v) → waitOf t m a (suc i) ≤ slotsIn es
-        → Timely a j (suc n) (moved a n q v) es (waitOf t m a (suc i)))
-        → Timely a j n q (v ∷ es) (waitOf t s a (suc k))
+    next : Goes t φ s m a j k q (v .call) (v .answer) (moved a n q v)
+        → ((i : ℕ) → Stands (admittedBy j) i (moved a n q v) → waitOf t φ m a (suc i) ≤ slotsIn es
+        → Timely a j (suc n) (moved a n q v) es (waitOf t φ m a (suc i)))
+        → Timely a j n q (v ∷ es) (waitOf t φ s a (suc k))
     next (served-now f g others p z) later = record {
       mid = [];
       rest = es;
       ending = ap₂ (λ c x. event c x ∷ es) f g;
       others = others;
       first = p;
-      within = omega (arith, wait-least t s (path t a) (suc k));
+      within = omega (arith, wait-least t φ s (path t a) (suc k));
     }
     next (waits-on i g f z) later =
         let u = later i g (omega arith) in
@@ -227,20 +242,21 @@ timely {t} {s} a j n k la l q (go {m = m} {e = v} {es = es} K d w) h e b =
         }
 
 -- up to its service few others are served: each lowers the wait, and so does each of its own before it
-pub few : {t : Tree} {s r : State} {es : List Event} (a j n k : ℕ) → a < t .accs → j < n → (q : List Ticket)
-    → Walk t s es r → Stands (admittedBy j) k q → length q ≡ waitingOf s a → Holds (admittedBy j) (queueFrom a n q es)
-    → othersIn a es + suc k ≤ waitOf t s a (suc k)
+pub few : {t : Tree} (φ : ℕ → ℕ) {s r : State} {es : List Event} (a j n k : ℕ) → a < t .accs → j < n → (q : List Ticket)
+    → (w : Walk t s es r) → AllWithin φ w → Stands (admittedBy j) k q → length q ≡ waitingOf s a
+    → Holds (admittedBy j) (queueFrom a n q es)
+    → othersIn a es + suc k ≤ waitOf t φ s a (suc k)
 unfolding queueFrom othersIn
-few {t} {s} a j n k la l q (stay K) h e b = omega (arith, wait-least t s (path t a) (suc k))
-few {t} {s} a j n k la l q (go {m = m} {e = v} {es = es} K d w) h e b =
-    next (goes t s K a j la m (walk-start w) n k l q (v .call) (v .answer) d h e)
-    (λ i g. few a j (suc n) i la (omega arith) (moved a n q v) w g
+few {t} φ {s} a j n k la l q (stay K) F h e b = omega (arith, wait-least t φ s (path t a) (suc k))
+few {t} φ {s} a j n k la l q (go {m = m} {e = v} {es = es} K d w) F h e b =
+    next (goes t φ s K (F .0) a j la m (walk-start w) (within-start φ w (F .1)) n k l q (v .call) (v .answer) d h e)
+    (λ i g. few φ a j (suc n) i la (omega arith) (moved a n q v) w (F .1) g
     (length-step t s m a n q (v .call) (v .answer) d e) b)
     (λ f. gone a j (suc n) (omega arith) (moved a n q v) w f b)
   where
-    next : Goes t s m a j k q (v .call) (v .answer) (moved a n q v)
-        → ((i : ℕ) → Stands (admittedBy j) i (moved a n q v) → othersIn a es + suc i ≤ waitOf t m a (suc i))
+    next : Goes t φ s m a j k q (v .call) (v .answer) (moved a n q v)
+        → ((i : ℕ) → Stands (admittedBy j) i (moved a n q v) → othersIn a es + suc i ≤ waitOf t φ m a (suc i))
         → (Absent (admittedBy j) (moved a n q v) → ⊥)
-        → servesOther a (v .answer) + othersIn a es + suc k ≤ waitOf t s a (suc k)
+        → servesOther a (v .answer) + othersIn a es + suc k ≤ waitOf t φ s a (suc k)
     next (served-now f g others p z) later never = absurd (never z)
     next (waits-on i g f z) later never = omega (arith, later i g)

@@ -12,7 +12,7 @@ use borrow.Author.Tests.{eq-eqb}
 use Rattle.model.specs.declared.Tree.{Tree}
 use Rattle.model.specs.declared.State.{State}
 use Rattle.folds.specs.Fold.{pick}
-use Rattle.model.specs.Tree.{waitingOf}
+use Rattle.model.specs.Tree.{limitOf, waitingOf}
 use Rattle.rules.specs.Rules.{keeps}
 use Rattle.folds.proofs.Folds.{picked}
 use Rattle.rules.proofs.Sound.{sound-of, kept-of}
@@ -22,7 +22,7 @@ use Rattle.shares.specs.Shares.{shareOf}
 use Rattle.guarantee.specs.Guarantee.{Event, event, eventsOf, Ticket, admittedBy, queueFrom, startingQueue, queueAfter, slotsIn, othersIn, upTo, Holds, StillWaits, Guarantee}
 use Rattle.guarantee.proofs.Path.{waitOf, wait-most}
 use Rattle.guarantee.proofs.Walk.{Does, admits, serves, idles, halts, Walk, go, walked, walk-start, Parts, parts, step-keeps}
-use Rattle.guarantee.proofs.Queue.{start-length, queue-append, queue-length, stands-last, Timely, timely, few}
+use Rattle.guarantee.proofs.Queue.{start-length, queue-append, queue-length, stands-last, limits-hold, Timely, timely, few}
 use Rattle.guarantee.proofs.Budget.{within}
 
 keeps-after : (t : Tree) (s : State) (cs : List Call) → keeps t s ≡ true → keeps t (stateAfter t s cs) ≡ true
@@ -98,25 +98,26 @@ module _ (t : Tree) (s : State) (cs : List Call) (k : keeps t s ≡ true) where
 
     -- how long the ticket waits at most, and that this is at most (k + 1) times the share
     abbrev ticket-wait : ℕ
-    ticket-wait = waitOf t (at .next) a (suc (length (queueAfter s a front)))
+    ticket-wait = waitOf t (limitOf t) (at .next) a (suc (length (queueAfter s a front)))
 
     ticket-share : ticket-wait ≤ suc (length (queueAfter s a front)) * shareOf t a
     ticket-share =
         let l = walk-start (at .after) in
-        wait-most t (sound-of t (at .next) l) (at .next) (kept-of t (at .next) l) a _ (one .0)
+        let K = kept-of t (at .next) l in
+        wait-most t (limitOf t) (sound-of t (at .next) l) (at .next) K (K .waiting) a _ (one .0)
 
     ticket-timely : ticket-wait ≤ slotsIn back
         → Timely a (length front) (suc (length front)) with-ticket back ticket-wait
     ticket-timely h =
-        timely a (length front) (suc (length front)) (length (queueAfter s a front)) (one .0) (omega arith) with-ticket
-        (at .after) (stands-last _ (queueAfter s a front)) with-length h
+        timely (limitOf t) a (length front) (suc (length front)) (length (queueAfter s a front)) (one .0) (omega arith) with-ticket
+        (at .after) (limits-hold (at .after)) (stands-last _ (queueAfter s a front)) with-length h
 
     ticket-few : (mid rest : List Event) → back ≡ mid ++ rest → StillWaits s a front mid
         → othersIn a mid + suc (length (queueAfter s a front)) ≤ ticket-wait
     ticket-few mid rest f h =
         let p = parts mid rest (subst (λ es. Walk t (at .next) es (stateAfter t s cs)) f (at .after)) in
-        few a (length front) (suc (length front)) (length (queueAfter s a front)) (one .0) (omega arith) with-ticket
-        (p .before) (stands-last _ (queueAfter s a front)) with-length
+        few (limitOf t) a (length front) (suc (length front)) (length (queueAfter s a front)) (one .0) (omega arith) with-ticket
+        (p .before) (limits-hold (p .before)) (stands-last _ (queueAfter s a front)) with-length
         (subst (Holds (admittedBy (length front))) (following mid) h)
 
 pub guarantee : (t : Tree) (s : State) (cs : List Call) → keeps t s ≡ true → Guarantee t s cs

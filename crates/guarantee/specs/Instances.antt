@@ -6,7 +6,6 @@
 -- SpentIn t s cs a w    in the list cs from state s accelerator a is admitted in window w exactly its budget, and the next
 --                       offer is refused by 9
 -- several n cs          the calls cs, n times
--- chainOf b             the tree of document 01's case 1, each budget b
 -- caseTwo               the calls of case 2: "4, 2, 1, 1 offered at slot 0", and eight slots
 -- round                 eight slots, each but the last followed by an offer of the accelerator that it serves
 -- keptFull              four offers of each accelerator, then four rounds: accelerators 0, 1 and 2 are full before each slot
@@ -23,13 +22,12 @@ use mathlib.Core.Path.{_≡_}
 use lib.ListN.{length, replicate}
 use Rattle.model.specs.declared.Tree.{Tree}
 use Rattle.model.specs.declared.State.{State}
-use Rattle.model.specs.declared.Port.the-variants.{Acc, Int}
 use Rattle.model.specs.Tree.{budgetOf}
 use Rattle.rules.specs.Rules.{keeps}
 use Rattle.machine.specs.Machine.{served, refused, freshState}
 use Rattle.machine.specs.Calls.{Call, offer, slot, step, stateAfter}
 use Rattle.shares.specs.Shares.{shareOf}
-use Rattle.model.specs.Trees.{ports, interconnect, block, tree, chain, pair, nested}
+use Rattle.model.specs.Trees.{chain, chainOf, pair, nested}
 use Rattle.guarantee.specs.Guarantee.{Event, event, eventsOf, Ticket, admittedBy, queueAfter, slotsIn, othersIn, admissionsIn, upTo}
 
 pub record MetExactly (t : Tree) (s : State) (cs : List Call) (a k n : ℕ) : Type 0 where
@@ -53,15 +51,6 @@ pub record SpentIn (t : Tree) (s : State) (cs : List Call) (a w : ℕ) : Type 0 
 abbrev pub several : ℕ → List Call → List Call
 several zero cs = []
 several (suc n) cs = cs ++ several n cs
-
-abbrev pub chainOf : ℕ → Tree
-chainOf b =
-    tree 16
-    (interconnect 0 0 1 (ports (Acc 0) (Int 1))
-    ∷ interconnect 0 1 1 (ports (Acc 1) (Int 2))
-    ∷ interconnect 1 1 1 (ports (Acc 2) (Acc 3))
-    ∷ [])
-    (block 0 0 4 b ∷ block 1 0 4 b ∷ block 2 0 4 b ∷ block 2 1 4 b ∷ [])
 
 abbrev pub caseTwo : List Call
 caseTwo =

@@ -6,8 +6,9 @@
 -- block j p phi b      accelerator on port p of interconnect j, with outstanding limit phi and budget b
 -- tree P xs ys         the configuration with window P, interconnects xs and accelerators ys
 -- withJob r w c T x    accelerator x with r reads, w writes, computing c and period T
--- chainWith x          three interconnects, each at port 1 of the one above, with x for accelerator 1
--- chain                the tree of case 1
+-- chainWith b x        three interconnects, each at port 1 of the one above, with x for accelerator 1 and budget b for the
+--                      others
+-- chainOf b            the tree of case 1, each budget b; chain: with budget 8, as there
 -- timed T              the tree of case 9: accelerator 1 of case 1's tree is at level 2 and has share 4
 -- pair g P f h b       one interconnect of granularity g with two accelerators, of phi f and h, at ports 0 and 1, each of
 --                      budget b
@@ -57,20 +58,23 @@ withJob r w c T x =
       period = T;
     }
 
-abbrev pub chainWith : Accelerator → Tree
-chainWith x =
+abbrev pub chainWith : ℕ → Accelerator → Tree
+chainWith b x =
     tree 16
     (interconnect 0 0 1 (ports (Acc 0) (Int 1))
     ∷ interconnect 0 1 1 (ports (Acc 1) (Int 2))
     ∷ interconnect 1 1 1 (ports (Acc 2) (Acc 3))
     ∷ [])
-    (block 0 0 4 8 ∷ x ∷ block 2 0 4 8 ∷ block 2 1 4 8 ∷ [])
+    (block 0 0 4 b ∷ x ∷ block 2 0 4 b ∷ block 2 1 4 b ∷ [])
+
+abbrev pub chainOf : ℕ → Tree
+chainOf b = chainWith b (block 1 0 4 b)
 
 abbrev pub chain : Tree
-chain = chainWith (block 1 0 4 8)
+chain = chainOf 8
 
 abbrev pub timed : ℕ → Tree
-timed T = chainWith (withJob 10 5 1000 T (block 1 0 4 8))
+timed T = chainWith 8 (withJob 10 5 1000 T (block 1 0 4 8))
 
 abbrev pub pair : ℕ → ℕ → ℕ → ℕ → ℕ → Tree
 pair g P f h b =

@@ -9,7 +9,7 @@ ghost use mathlib.Core.Path.{_≡_};
 ghost use Prim.Native.Nat.{_≤_, _*_, _^_};
 ghost use lib.ListN.{length};
 ghost use Rattle.model.specs.Tree.{interconnectOf, acceleratorOf, portOf, levelOf, above, waitingOf, admittedOf, lastOf, allowanceOf};
-ghost use Rattle.model.specs.Beneath.{under, inside, waitsUnder};
+ghost use Rattle.model.specs.Beneath.{weightIn, under, inside, weightUnder, waitsUnder};
 
 pub fn interconnect_at(t: Tree, j: u8) -> Interconnect
     ensures { λ r. ⌜ r ≡ interconnectOf t j ⌝ }
@@ -126,14 +126,25 @@ fn widen(n: u8) -> u32
     n as u32
 }
 
-// What waits beneath a port that carries `port`, over `levels` levels of interconnects.
-fn waiting_beneath(t: Tree, s: State, levels: u8, port: Port) -> u32
+// The weight of accelerator a in an array of weights, one for each accelerator.
+fn weight_of(weights: [u8; 32], a: u8) -> u8
+    ensures { λ r. ⌜ r ≡ weightIn weights a ⌝ }
+{
+    let i = a as usize;
+    if i < 32 {
+        return weights[i];
+    }
+    0
+}
+
+// What is beneath a port that carries `port`, by weight, over `levels` levels of interconnects.
+fn weight_beneath(t: Tree, weights: [u8; 32], levels: u8, port: Port) -> u32
     requires { ⌜ levels ≤ 4 ⌝ }
-    ensures { λ r. ⌜ (r ≡ under (waitingOf s) (inside levels t (waitingOf s)) port) × (r ≤ 255 * 8 ^ levels) ⌝ }
+    ensures { λ r. ⌜ (r ≡ under (weightIn weights) (inside levels t (weightIn weights)) port) × (r ≤ 255 * 8 ^ levels) ⌝ }
 {
     match port {
         Port::Empty => 0,
-        Port::Acc(a) => widen(waiting_of(s, a)),
+        Port::Acc(a) => widen(weight_of(weights, a)),
         Port::Int(j) => {
             if levels == 0 {
                 return 0;
@@ -141,7 +152,7 @@ fn waiting_beneath(t: Tree, s: State, levels: u8, port: Port) -> u32
             let mut sum: u32 = 0;
             let mut p: u8 = 0;
             while p < 8 {
-                sum += waiting_beneath(t, s, levels - 1, port_at(t, j, p));
+                sum += weight_beneath(t, weights, levels - 1, port_at(t, j, p));
                 p += 1;
             }
             sum
@@ -149,9 +160,17 @@ fn waiting_beneath(t: Tree, s: State, levels: u8, port: Port) -> u32
     }
 }
 
+// What is beneath port p of interconnect j, by weight: at most three levels lie below the first.
+pub fn weight_under(t: Tree, weights: [u8; 32], j: u8, p: u8) -> u32
+    ensures { λ r. ⌜ r ≡ weightUnder t (weightIn weights) j p ⌝ }
+{
+    weight_beneath(t, weights, 3, port_at(t, j, p))
+}
+
 // What waits under port p of interconnect j.
 pub fn waits_under(t: Tree, s: State, j: u8, p: u8) -> u32
     ensures { λ r. ⌜ r ≡ waitsUnder t s j p ⌝ }
 {
-    waiting_beneath(t, s, 3, port_at(t, j, p))
+    let waiting = s.waiting;
+    weight_under(t, waiting, j, p)
 }

@@ -13,7 +13,7 @@ use lib.ListN.{length}
 use borrow.Author.Tests.{eq-eqb, ne-eqb}
 use Rattle.model.specs.declared.Tree.{Tree}
 use Rattle.folds.specs.Fold.{pick, sum}
-use Rattle.model.specs.Tree.{Crossing, granularityOf, homeOf, homePortOf, parentOf, parentPortOf, above, path}
+use Rattle.model.specs.Tree.{Crossing, granularityOf, limitOf, homeOf, homePortOf, parentOf, parentPortOf, above, path}
 use Rattle.rules.specs.Rules.{treeKeeps}
 use Rattle.folds.proofs.Folds.{picked, passed}
 use Rattle.rules.proofs.Sound.{Sound, sound}
@@ -35,31 +35,32 @@ sum-without (suc n) b p f l z h = elim (ℕ-discrete n p) [
   | no d ↦ omega (arith, sum-without n b p f (omega arith) z (λ i k. h i (omega arith)), h n (omega arith), suc-mul n b)
 ]
 
-module _ (t : Tree) where
-  pub counted-own : (j p : ℕ) → counted t j p p ≡ 0
+module _ (t : Tree) (φ : ℕ → ℕ) where
+  pub counted-own : (j p : ℕ) → counted t φ j p p ≡ 0
   counted-own j p = picked _ _ _ (eq-eqb p p refl)
 
-  pub counted-other : (j p q : ℕ) → (q ≡ p → ⊥) → counted t j p q ≡ min (granularityOf t j) (capacityOf t j q)
+  pub counted-other : (j p q : ℕ) → (q ≡ p → ⊥) → counted t φ j p q ≡ min (granularityOf t j) (capacityOf t φ j q)
   counted-other j p q d = passed _ _ _ (ne-eqb q p d)
 
-  pub counted-most : (j p q : ℕ) → counted t j p q ≤ granularityOf t j
+  pub counted-most : (j p q : ℕ) → counted t φ j p q ≤ granularityOf t j
   counted-most j p q = elim (ℕ-discrete q p) [
-    | yes e ↦ omega (arith, picked _ 0 (min (granularityOf t j) (capacityOf t j q)) (eq-eqb q p e))
+    | yes e ↦ omega (arith, picked _ 0 (min (granularityOf t j) (capacityOf t φ j q)) (eq-eqb q p e))
     | no d ↦ omega (arith, counted-other j p q d)
   ]
 
-  pub along-most : (b : ℕ) (xs : List Crossing) → ((i p : ℕ) → On i p xs → othersAt t i p ≤ b) → shareAlong t xs ≤ (1 + b) ^ length xs
+  pub along-most : (b : ℕ) (xs : List Crossing) → ((i p : ℕ) → On i p xs → othersAt t φ i p ≤ b) → shareAlong t φ xs ≤ (1 + b) ^ length xs
   unfolding shareAlong
   along-most b [] h = omega (arith, pow-zero (1 + b))
   along-most b (x ∷ xs) h =
-      let f : 1 + othersAt t (x .interconnect) (x .port) ≤ 1 + b = omega (arith, h (x .interconnect) (x .port) (here refl refl)) in
+      let f : 1 + othersAt t φ (x .interconnect) (x .port) ≤ 1 + b = omega (arith, h (x .interconnect) (x .port) (here refl refl)) in
       omega (arith, mul-le-mul f (along-most b xs (λ i p o. h i p (there o))), pow-succ' (1 + b) (length xs))
 
-  pub share-least : (xs : List Crossing) → 1 ≤ shareAlong t xs
+  pub share-least : (xs : List Crossing) → 1 ≤ shareAlong t φ xs
   unfolding shareAlong
   share-least [] = omega arith
   share-least (x ∷ xs) = one-le-mul (omega arith) (share-least xs)
 
+module _ (t : Tree) where
   abbrev crossing : ℕ → Crossing
   crossing j = record { interconnect = parentOf t j; port = parentPortOf t j }
 
@@ -79,22 +80,23 @@ module _ (t : Tree) where
         ap (λ r. pick (eqb j 0) [] (crossing j ∷ r)) (above-enough n m (parentOf t j) (omega arith) k)
   ]
 
-module _ (t : Tree) (S : Sound t) where
-  pub others-most : (j p : ℕ) → j < t .ints → p < 8 → othersAt t j p ≤ 112
+module _ (t : Tree) (φ : ℕ → ℕ) (S : Sound t) where
+  pub others-most : (j p : ℕ) → j < t .ints → p < 8 → othersAt t φ j p ≤ 112
   unfolding othersAt
   others-most j p l b =
-      omega (arith, sum-without 8 16 p (counted t j p) b (counted-own t j p) (λ q _. omega (arith, counted-most t j p q, S .granularity j l)))
+      omega (arith, sum-without 8 16 p (counted t φ j p) b (counted-own t φ j p) (λ q _. omega (arith, counted-most t φ j p q, S .granularity j l)))
 
+  pub share-most : (a : ℕ) → a < t .accs → shareAlong t φ (path t a) ≤ 163047361
+  share-most a l =
+      le-trans (along-most t φ 112 (path t a) (λ i p o. let h = path-bounds t S a l i p o in others-most i p (h .0) (h .1)))
+      (pow-le-pow-right (lit< tt) (S .level (homeOf t a) (S .home a l)))
+
+module _ (t : Tree) (S : Sound t) where
   pub share-within : (a : ℕ) → a < t .accs → shareWithin 3 t a ≡ shareOf t a
   share-within a l =
       let k : length (above 15 t (homeOf t a)) ≤ 3 = omega (arith, S .level (homeOf t a) (S .home a l)) in
-      ap (λ xs. shareAlong t (record { interconnect = homeOf t a; port = homePortOf t a } ∷ xs)) (above-enough t 3 15 (homeOf t a) (lit≤ tt) k)
-
-  pub share-most : (a : ℕ) → a < t .accs → shareOf t a ≤ 163047361
-  share-most a l =
-      le-trans (along-most t 112 (path t a) (λ i p o. let h = path-bounds t S a l i p o in others-most i p (h .0) (h .1)))
-      (pow-le-pow-right (lit< tt) (S .level (homeOf t a) (S .home a l)))
+      ap (λ xs. shareAlong t (limitOf t) (record { interconnect = homeOf t a; port = homePortOf t a } ∷ xs)) (above-enough t 3 15 (homeOf t a) (lit≤ tt) k)
 
 -- "No share exceeds 163,047,361 (113 to the fourth power)", and none is below 1
 pub share-bounds : (t : Tree) → treeKeeps t ≡ true → (a : ℕ) → a < t .accs → (1 ≤ shareOf t a) × (shareOf t a ≤ 163047361)
-share-bounds t e a l = (share-least t (path t a), share-most t (sound t e) a l)
+share-bounds t e a l = (share-least t (limitOf t) (path t a), share-most t (limitOf t) (sound t e) a l)

@@ -15,7 +15,7 @@ use Rattle.model.specs.Beneath.{under, inside, weightUnder}
 use Rattle.rules.specs.Rules.{treeKeeps}
 use Rattle.folds.proofs.Folds.{sum-zero, term-le}
 use Rattle.rules.proofs.Sound.{Sound, sound, above-step}
-use Rattle.rules.proofs.Beneath.{only, only-same, only-other, some-port, On, here, there, lane, at-port, path-bounds, path-unique, path-root, beneath-on, beneath-once}
+use Rattle.rules.proofs.Beneath.{only, only-same, only-other, some-port, On, here, there, lane, at-port, path-bounds, path-unique, path-root, path-holds, beneath-on, beneath-once}
 use Rattle.shares.specs.Shares.{capacityOf, counted, othersAt, shareAlong, shareOf}
 use Rattle.shares.proofs.Shares.{counted-own, counted-other, share-least}
 
@@ -24,16 +24,16 @@ factors-one d s l e =
     let f : 1 ≤ 1 + d = omega arith in
     (omega (arith, le-mul-of-pos-right (1 + d) l), omega (arith, mul-le-mul-right s f))
 
-module _ (t : Tree) where
-  along-one : (xs : List Crossing) → ((i p : ℕ) → On i p xs → othersAt t i p ≡ 0) → shareAlong t xs ≡ 1
+module _ (t : Tree) (φ : ℕ → ℕ) where
+  along-one : (xs : List Crossing) → ((i p : ℕ) → On i p xs → othersAt t φ i p ≡ 0) → shareAlong t φ xs ≡ 1
   unfolding shareAlong
   along-one [] h = refl
   along-one (x ∷ xs) h = ap₂ (λ d s. (1 + d) * s) (h (x .interconnect) (x .port) (here refl refl)) (along-one xs (λ i p o. h i p (there o)))
 
-  one-along : (xs : List Crossing) → shareAlong t xs ≡ 1 → (i p : ℕ) → On i p xs → othersAt t i p ≡ 0
+  one-along : (xs : List Crossing) → shareAlong t φ xs ≡ 1 → (i p : ℕ) → On i p xs → othersAt t φ i p ≡ 0
   unfolding shareAlong
-  one-along (x ∷ xs) e i p (here f g) = subst₂ (λ j q. othersAt t j q ≡ 0) f g (factors-one _ _ (share-least t xs) e .0)
-  one-along (x ∷ xs) e i p (there o) = one-along xs (factors-one _ _ (share-least t xs) e .1) i p o
+  one-along (x ∷ xs) e i p (here f g) = subst₂ (λ j q. othersAt t φ j q ≡ 0) f g (factors-one _ _ (share-least t φ xs) e .0)
+  one-along (x ∷ xs) e i p (there o) = one-along xs (factors-one _ _ (share-least t φ xs) e .1) i p o
 
 module _ (t : Tree) (S : Sound t) where
   port-positive : (n : ℕ) (v w : ℕ → ℕ) → ((a : ℕ) → a < t .accs → 0 < v a → 0 < w a)
@@ -54,23 +54,23 @@ module _ (t : Tree) (S : Sound t) where
   weight-positive : (v w : ℕ → ℕ) → ((a : ℕ) → a < t .accs → 0 < v a → 0 < w a) → (j p : ℕ) → j < t .ints → p < 8 → 0 < weightUnder t v j p → 0 < weightUnder t w j p
   weight-positive v w h = port-positive 3 v w h (inside-positive 3 v w h)
 
-  module _ (b : ℕ) (lb : b < t .accs) where
-    -- an accelerator counts at the interconnects of its path, for every other port
-    others-some : (i p r : ℕ) → On i r (path t b) → (r ≡ p → ⊥) → 0 < othersAt t i p
+  module _ (φ : ℕ → ℕ) (b : ℕ) (lb : b < t .accs) (some : 0 < φ b) where
+    -- an accelerator with a limit above 0 counts at the interconnects of its path, for every other port
+    others-some : (i p r : ℕ) → On i r (path t b) → (r ≡ p → ⊥) → 0 < othersAt t φ i p
     unfolding othersAt
     others-some i p r o d =
         let h = path-bounds t S b lb i r o in
-        let c : 0 < capacityOf t i r = weight-positive (only b) (limitOf t) (λ x lx _. S .limit x lx .0) i r (h .0) (h .1) (omega (arith, beneath-once t S b lb i r o 3 (omega arith))) in
-        omega (arith, counted-other t i p r d, S .granularity i (h .0), term-le 8 (counted t i p) r (h .1))
+        let c : 0 < capacityOf t φ i r = omega (arith, path-holds t S b lb φ i r o) in
+        omega (arith, counted-other t φ i p r d, S .granularity i (h .0), term-le 8 (counted t φ i p) r (h .1))
 
-    leaves : (k q r : ℕ) → othersAt t k q ≡ 0 → On k r (path t b) → On k q (path t b)
+    leaves : (k q r : ℕ) → othersAt t φ k q ≡ 0 → On k r (path t b) → On k q (path t b)
     leaves k q r z o = elim (ℕ-discrete r q) [
       | yes e ↦ subst (λ y. On k y (path t b)) e o
       | no d ↦ absurd (omega (arith, others-some k q r o d))
     ]
 
     -- where nothing counts along a lane, the accelerator is beneath its first crossing
-    follows : (n k q : ℕ) → k < n → k < t .ints → ((i p : ℕ) → On i p (lane t k q) → othersAt t i p ≡ 0) → On k q (path t b)
+    follows : (n k q : ℕ) → k < n → k < t .ints → ((i p : ℕ) → On i p (lane t k q) → othersAt t φ i p ≡ 0) → On k q (path t b)
     follows zero k q c l z = absurd (omega arith)
     follows (suc n) k q c l z = elim (decLt 0 k) [
       | yes g ↦
@@ -85,28 +85,36 @@ module _ (t : Tree) (S : Sound t) where
           leaves k q (r .0) (z k q (here refl refl)) (subst (λ i. On i (r .0) (path t b)) e (r .1))
     ]
 
-  module _ (a : ℕ) (la : a < t .accs) where
-    alone-if : shareOf t a ≡ 1 → (b : ℕ) → b < t .accs → b ≡ a
-    alone-if e b lb = elim (ℕ-discrete b a) [
+  module _ (φ : ℕ → ℕ) (a : ℕ) (la : a < t .accs) where
+    alone-if : shareAlong t φ (path t a) ≡ 1 → (b : ℕ) → b < t .accs → 0 < φ b → b ≡ a
+    alone-if e b lb z = elim (ℕ-discrete b a) [
       | yes q ↦ q
       | no d ↦
-          let o = follows b lb (suc (homeOf t a)) (homeOf t a) (homePortOf t a) (omega arith) (S .home a la) (one-along t (path t a) e) in
+          let o = follows φ b lb z (suc (homeOf t a)) (homeOf t a) (homePortOf t a) (omega arith) (S .home a la) (one-along t φ (path t a) e) in
           let w : only b a ≡ 1 = subst (λ X. under (only b) (inside 3 t (only b)) X ≡ 1) (S .home-carries a la) (beneath-once t S b lb (homeOf t a) (homePortOf t a) o 3 (omega arith)) in
           absurd (omega (arith, only-other b a d))
     ]
 
-    none-counts : ((b : ℕ) → b < t .accs → b ≡ a) → (i p : ℕ) → On i p (path t a) → othersAt t i p ≡ 0
+    none-counts : ((b : ℕ) → b < t .accs → 0 < φ b → b ≡ a) → (i p : ℕ) → On i p (path t a) → othersAt t φ i p ≡ 0
     unfolding othersAt
-    none-counts h i p o = sum-zero 8 (counted t i p) (λ q l. elim (ℕ-discrete q p) [
-      | yes e ↦ subst (λ y. counted t i p y ≡ 0) (sym e) (counted-own t i p)
-      | no d ↦ elim (decLt 0 (capacityOf t i q)) [
+    none-counts h i p o = sum-zero 8 (counted t φ i p) (λ q l. elim (ℕ-discrete q p) [
+      | yes e ↦ subst (λ y. counted t φ i p y ≡ 0) (sym e) (counted-own t φ i p)
+      | no d ↦ elim (decLt 0 (capacityOf t φ i q)) [
         | yes c ↦
             let b = path-bounds t S a la i p o in
-            let k = weight-positive (limitOf t) (only a) (λ x lx _. omega (arith, only-same a x (sym (h x lx)))) i q (b .0) l c in
+            let k = weight-positive φ (only a) (λ x lx z. omega (arith, only-same a x (sym (h x lx z)))) i q (b .0) l c in
             absurd (d (path-unique t S a la i q p (beneath-on t S a la 3 i q (b .0) l k) o))
-        | no c ↦ omega (arith, counted-other t i p q d)
+        | no c ↦ omega (arith, counted-other t φ i p q d)
       ]
     ])
 
+-- the share with limits φ is 1 exactly if no other accelerator has a limit above 0
+pub sole-within : (t : Tree) → treeKeeps t ≡ true → (φ : ℕ → ℕ) (a : ℕ) → a < t .accs
+    → (shareAlong t φ (path t a) ≡ 1) ↔ ((b : ℕ) → b < t .accs → 0 < φ b → b ≡ a)
+sole-within t e φ a la =
+    (alone-if t (sound t e) φ a la, λ h. along-one t φ (path t a) (none-counts t (sound t e) φ a la h))
+
 pub sole : (t : Tree) → treeKeeps t ≡ true → (a : ℕ) → a < t .accs → (shareOf t a ≡ 1) ↔ ((b : ℕ) → b < t .accs → b ≡ a)
-sole t e a la = (alone-if t (sound t e) a la, λ h. along-one t (path t a) (none-counts t (sound t e) a la h))
+sole t e a la =
+    let w = sole-within t e (limitOf t) a la in
+    (λ h b lb. w .0 h b lb (sound t e .limit b lb .0), λ h. w .1 (λ b lb _. h b lb))

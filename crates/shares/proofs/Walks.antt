@@ -12,20 +12,20 @@ use Rattle.model.specs.Tree.{parentOf, parentPortOf, above}
 use Rattle.folds.proofs.Folds.{picked, passed}
 use Rattle.shares.specs.Shares.{othersAt, shareAlong}
 
-module _ (t : Tree) where
-  pub walk-none : (n j : ℕ) → n ≡ 0 → 1 ≡ shareAlong t (above n t j)
+module _ (t : Tree) (φ : ℕ → ℕ) where
+  pub walk-none : (n j : ℕ) → n ≡ 0 → 1 ≡ shareAlong t φ (above n t j)
   unfolding above shareAlong
   walk-none n j e = rw e
 
-  pub walk-root : (n j : ℕ) → j ≡ 0 → 1 ≡ shareAlong t (above n t j)
+  pub walk-root : (n j : ℕ) → j ≡ 0 → 1 ≡ shareAlong t φ (above n t j)
   unfolding above shareAlong
   walk-root zero j e = refl
-  walk-root (suc n) j e = ap (shareAlong t) (sym (picked _ _ _ (eq-eqb j 0 e)))
+  walk-root (suc n) j e = ap (shareAlong t φ) (sym (picked _ _ _ (eq-eqb j 0 e)))
 
-  pub walk-step : (n j : ℕ) → (n ≡ 0 → ⊥) → (j ≡ 0 → ⊥) → (1 + othersAt t (parentOf t j) (parentPortOf t j)) * shareAlong t (above (n - 1) t (parentOf t j)) ≡ shareAlong t (above n t j)
+  pub walk-step : (n j : ℕ) → (n ≡ 0 → ⊥) → (j ≡ 0 → ⊥) → (1 + othersAt t φ (parentOf t j) (parentPortOf t j)) * shareAlong t φ (above (n - 1) t (parentOf t j)) ≡ shareAlong t φ (above n t j)
   unfolding above shareAlong
   walk-step zero j h k = absurd (h refl)
-  walk-step (suc n) j h k = rw sub-one (ap (shareAlong t) (sym (passed _ _ _ (ne-eqb j 0 k))))
+  walk-step (suc n) j h k = rw sub-one (ap (shareAlong t φ) (sym (passed _ _ _ (ne-eqb j 0 k))))
 
 pub walk-most : (n f r : ℕ) → (n ≡ 0 → ⊥) → f ≤ 2041 → r ≤ 2041 ^ (n - 1) → f * r ≤ 2041 ^ n
 walk-most zero f r h a b = absurd (h refl)

@@ -15,7 +15,7 @@ returns c = (sym (picked _ _ _ (eq-eqb _ _ (c .if1 .taken))), search needs)
 returns-2 : tie.Need-returns-2
 returns-2 c =
     let g = ap (λ (x : Interconnect). x .granularity) (c .before .before .before .interconnect-at .ensures) in (
-      c .smaller .ensures ∙ ap₂ min g (c .before .capacity-of .ensures) ∙ sym (passed _ _ _ (ne-eqb _ _ (c .before .before .before .before .if1 .left))),
+      c .smaller .ensures ∙ ap₂ min g (c .before .weight-under .ensures) ∙ sym (passed _ _ _ (ne-eqb _ _ (c .before .before .before .before .if1 .left))),
       omega (arith, c .smaller .ensures),
     )
 

@@ -1,4 +1,5 @@
--- `share_of` meets its contract: the first factor is that of its own crossing, and four factors fit on any tables.
+-- `share_of` meets its contract: the first factor is that of its own crossing, the array's limits are the configuration's,
+-- and four factors fit on any tables.
 use mathlib.Core.Path.{ap, ap₂, _∙_}
 use Prim.Native.Nat.{ℕ, _+_, _*_}
 use native.Mathlib.Omega.{arith}
@@ -17,11 +18,12 @@ mul-result c =
 returns : tie.Need-returns
 unfolding shareAlong
 returns c =
-    let a = c .before .before .before .args in
+    let t = c .before .before .before .before .args .t in
+    let l = c .before .before .before .limits .ensures in
     let e = c .before .before .accelerator-at .ensures in
-    let f = c .before .factor-at .ensures .0 ∙ ap (λ (x : Accelerator). 1 + othersAt (a .t) (x .interconnect) (x .port)) e in
-    let r = c .share-above .ensures .0 ∙ ap (λ (x : Accelerator). shareAlong (a .t) (above 3 (a .t) (x .interconnect))) e in
-    ap₂ (λ (x y : ℕ). x * y) f r
+    let D : (ℕ → ℕ) → Accelerator → ℕ = λ φ x. 1 + othersAt t φ (x .interconnect) (x .port) in
+    let S : (ℕ → ℕ) → Accelerator → ℕ = λ φ x. shareAlong t φ (above 3 t (x .interconnect)) in
+    ap₂ (λ (x y : ℕ). x * y) (c .before .factor-at .ensures .0 ∙ ap₂ D l e) (c .share-above .ensures .0 ∙ ap₂ S l e)
 
 pub share-of-spec : {M : Type 1} → statement M
-share-of-spec = tie.close (tie.spec (λ c κs. search needs) (λ c κs. search needs) (λ c κs. search needs) mul-result returns)
+share-of-spec = tie.close (tie.spec (λ c κs. search needs) (λ c κs. search needs) (λ c κs. search needs) (λ c κs. search needs) mul-result returns)
