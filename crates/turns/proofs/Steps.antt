@@ -19,6 +19,7 @@ use Rattle.model.specs.declared.Port.{Port}
 use Rattle.model.specs.declared.Port.the-variants.{Empty, Acc, Int}
 use Rattle.folds.specs.Fold.{pick}
 use Rattle.model.specs.Tree.{lastOf, allowanceOf, granularityOf, portOf}
+use Rattle.model.specs.Builders.{withTurns}
 use Rattle.model.specs.Beneath.{waitsUnder}
 use Rattle.folds.proofs.Folds.{picked, passed}
 use Rattle.turns.specs.Turns.{withTurn, bitsBelow, liveSet, nextPort, turnPort, turnAllowance, nobody, reached, who, turned, after}
@@ -26,7 +27,7 @@ use Rattle.turns.proofs.Next.{bits-bound}
 
 pub turn-far : (s : State) (j port allowance : ℕ) → length (s .last) ≡ 15 → length (s .allowance) ≡ 15 → 15 ≤ j → s ≡ withTurn s j port allowance
 turn-far s j port allowance l o h =
-    ap₂ (λ (x y : List ℕ). record { waiting = s .waiting; admitted = s .admitted; last = x; allowance = y; slot = s .slot })
+    ap₂ (withTurns s)
     (sym (set-out (s .last) j port (omega arith))) (sym (set-out (s .allowance) j allowance (omega arith)))
 
 -- the table's index is set and last port
