@@ -118,11 +118,11 @@ module _ (t : Tree) (s : State) where
   slot-10 h = sym (picked _ _ _ (eq-eqb _ _ h))
 
   module _ (h : s .slot ≡ lastSlot → ⊥) where
-    pub slot-idle : noneWaits s ≡ true → outcome idle (tick t s) ≡ slottedWithin t s
-    slot-idle w = sym (passed _ _ _ (ne-eqb _ _ h) ∙ picked _ _ _ w)
+    pub idle-within : noneWaits s ≡ true → outcome idle (tick t s) ≡ slottedWithin t s
+    idle-within w = sym (passed _ _ _ (ne-eqb _ _ h) ∙ picked _ _ _ w)
 
-    pub slot-serves : noneWaits s ≡ false → outcome (served (chosen t s)) (tick t (serve t s)) ≡ slottedWithin t s
-    slot-serves w = sym (passed _ _ _ (ne-eqb _ _ h) ∙ passed _ _ _ w)
+    pub serves-within : noneWaits s ≡ false → outcome (served (chosen t s)) (tick t (serve t s)) ≡ slottedWithin t s
+    serves-within w = sym (passed _ _ _ (ne-eqb _ _ h) ∙ passed _ _ _ w)
 
 -- the start
 module _ (t : Tree) where
