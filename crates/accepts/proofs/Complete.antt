@@ -19,7 +19,8 @@ use Rattle.folds.proofs.Folds.{picked, passed, tests, joined, at-all}
 use Rattle.rules.proofs.Sound.{Sound, sound}
 use Rattle.placing.specs.declared.TreeRead.{TreeRead}
 use Rattle.lines.specs.Lines.{lineOf}
-use Rattle.records.specs.Records.{emptyTree, withBus, withAcc}
+use Rattle.model.specs.Builders.{withBus}
+use Rattle.records.specs.Records.{emptyTree, withAcc}
 use Rattle.placing.specs.Placing.{given, complete, finish, treeLine}
 use Rattle.reader.specs.TreeFile.{onward, readLines, readTree}
 use Rattle.accepts.specs.TreeText.{numbers, busValues, accValues, busText, intText, accText, rows, treeLines, treeText}

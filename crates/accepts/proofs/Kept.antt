@@ -31,7 +31,8 @@ use Rattle.lines.specs.declared.Kind.{Kind}
 use Rattle.lines.specs.declared.Kind.the-variants.{NoRecord, BusLine, IntLine, AccLine, OfferLine}
 use Rattle.lines.specs.declared.Line.{Line}
 use Rattle.lines.specs.Lines.{lineOf, valueAt, dashAt, inTree, shaped, limitsKept}
-use Rattle.records.specs.Records.{emptyTree, busOf, withBus, carrying, withPort, withInterconnect, withRoot, withChild, accOf, withAcc}
+use Rattle.model.specs.Builders.{withBus, carrying}
+use Rattle.records.specs.Records.{emptyTree, busOf, withPort, withInterconnect, withRoot, withChild, accOf, withAcc}
 use Rattle.placing.specs.Placing.{refusedAt, given, busLine, intInOrder, rootRule, childLine, intLine, accLine, complete, finish, recordLine, treeLine}
 use Rattle.reader.specs.TreeFile.{onward, readLines, readTree}
 use Rattle.lines.proofs.Limits.{least, most}

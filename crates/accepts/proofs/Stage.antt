@@ -23,7 +23,8 @@ use Rattle.folds.proofs.Folds.{picked, passed, tests, joined, clash}
 use Rattle.rules.proofs.Sound.{Sound, sound, level-step}
 use Rattle.lines.specs.declared.Kind.the-variants.{BusLine, IntLine, AccLine}
 use Rattle.lines.specs.Lines.{limitsKept, shaped}
-use Rattle.records.specs.Records.{emptyTree, withBus, withRoot, withChild, withAcc}
+use Rattle.model.specs.Builders.{withBus}
+use Rattle.records.specs.Records.{emptyTree, withRoot, withChild, withAcc}
 use Rattle.placing.specs.Placing.{given, busLine, intInOrder, treeLine}
 use Rattle.accepts.specs.TreeText.{busValues}
 use Rattle.placing.proofs.Tests.{line-record, int-root, int-child, child-given, acc-given}

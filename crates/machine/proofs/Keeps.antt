@@ -12,6 +12,7 @@ use Rattle.model.specs.declared.Tree.{Tree}
 use Rattle.model.specs.declared.State.{State}
 use Rattle.folds.specs.Fold.{pick}
 use Rattle.model.specs.Tree.{granularityOf, limitOf, budgetOf, path, waitingOf, outstandingOf, admittedOf, lastOf, allowanceOf, portOf}
+use Rattle.model.specs.Builders.{atSlot}
 use Rattle.model.specs.Beneath.{weightUnder, waitsUnder}
 use Rattle.rules.proofs.Sound.{Sound, Kept}
 use Rattle.rules.proofs.Beneath.{On, on?, only, only-same, only-other, under-sum, weight-on, weight-off, path-bounds}
@@ -75,13 +76,7 @@ module _ (t : Tree) (S : Sound t) where
   module _ (s : State) (K : Kept t s) where
     recount : (m : List ℕ) → length m ≡ 32 → ((a : ℕ) → a < t .accs → getD m a 0 ≤ budgetOf t a)
         → ((a : ℕ) → t .accs ≤ a → getD m a 0 ≡ 0)
-        → Kept t (record {
-          waiting = s .waiting;
-          admitted = m;
-          last = s .last;
-          allowance = s .allowance;
-          slot = s .slot + 1;
-        })
+        → Kept t (atSlot s m (s .slot + 1))
     recount m e h z = record {
       waiting-size = K .waiting-size;
       admitted-size = e;
@@ -103,14 +98,7 @@ module _ (t : Tree) (S : Sound t) where
     unfolding tick
     tick-kept = go (opens t (s .slot))
       where
-        go : (c : Bool) → Kept t
-            (record {
-              waiting = s .waiting;
-              admitted = pick c (replicate 32 0) (s .admitted);
-              last = s .last;
-              allowance = s .allowance;
-              slot = s .slot + 1;
-            })
+        go : (c : Bool) → Kept t (atSlot s (pick c (replicate 32 0) (s .admitted)) (s .slot + 1))
         go true = recount (replicate 32 0) refl (λ a l. omega (arith, zeros 32 a)) (λ a l. zeros 32 a)
         go false = recount (s .admitted) (K .admitted-size) (K .admitted) (K .no-admitted)
 

@@ -13,26 +13,27 @@ use borrow.Author.Tests.{eq-eqb, ne-eqb, le-leb, lt-leb, leb-false}
 use Rattle.model.specs.declared.Tree.{Tree}
 use Rattle.model.specs.declared.State.{State}
 use Rattle.model.specs.Tree.{windowOf, waitingOf, outstandingOf, admittedOf, limitOf, budgetOf}
+use Rattle.model.specs.Builders.{zeroState, withCounts, atSlot}
 use Rattle.rules.specs.Rules.{treeKeeps, keeps}
 use Rattle.folds.specs.Fold.{pick}
 use Rattle.folds.proofs.Folds.{picked, passed, clash}
-use Rattle.machine.specs.Machine.{Answer, outcome, admitted, served, idle, refused, started, notStarted, beginning, zeroState, freshState, freshened, admit, limitsAnswer, verdictOf, onAdmitted, offeredWithin, offered, noneWaits, lastSlot, chosen, takeOne, serve, tick, opens, slottedWithin, slotted}
+use Rattle.machine.specs.Machine.{Answer, outcome, admitted, served, idle, refused, started, notStarted, beginning, freshState, freshened, admit, limitsAnswer, verdictOf, onAdmitted, offeredWithin, offered, noneWaits, lastSlot, chosen, takeOne, serve, tick, opens, slottedWithin, slotted}
 
 pub admit-far : (s : State) (a : ℕ) → length (s .waiting) ≡ 32 → length (s .admitted) ≡ 32 → 32 ≤ a → s ≡ admit s a
 admit-far s a w d h =
-    ap₂ (λ (x y : List ℕ). record { waiting = x; admitted = y; last = s .last; allowance = s .allowance; slot = s .slot })
+    ap₂ (withCounts s)
     (sym (set-out (s .waiting) a (waitingOf s a + 1) (omega arith))) (sym (set-out (s .admitted) a (admittedOf s a + 1) (omega arith)))
 
 pub take-far : (s : State) (a : ℕ) → length (s .waiting) ≡ 32 → 32 ≤ a → s ≡ takeOne s a
 take-far s a w h =
-    ap (λ (x : List ℕ). record { waiting = x; admitted = s .admitted; last = s .last; allowance = s .allowance; slot = s .slot })
+    ap (λ (x : List ℕ). withCounts s x (s .admitted))
     (sym (set-out (s .waiting) a (waitingOf s a - 1) (omega arith)))
 
-pub take-near : (s : State) (a n : ℕ) → n ≡ waitingOf s a - 1 → record { waiting = set (s .waiting) a n; admitted = s .admitted; last = s .last; allowance = s .allowance; slot = s .slot } ≡ takeOne s a
-take-near s a n e = ap (λ (k : ℕ). record { waiting = set (s .waiting) a k; admitted = s .admitted; last = s .last; allowance = s .allowance; slot = s .slot }) e
+pub take-near : (s : State) (a n : ℕ) → n ≡ waitingOf s a - 1 → withCounts s (set (s .waiting) a n) (s .admitted) ≡ takeOne s a
+take-near s a n e = ap (λ (k : ℕ). withCounts s (set (s .waiting) a k) (s .admitted)) e
 
 abbrev after-slot : State → List ℕ → State
-after-slot s x = record { waiting = s .waiting; admitted = x; last = s .last; allowance = s .allowance; slot = s .slot + 1 }
+after-slot s x = atSlot s x (s .slot + 1)
 
 pub tick-opens : (t : Tree) (s : State) → (windowOf t (s .slot + 1) ≡ windowOf t (s .slot) → ⊥) → after-slot s (replicate 32 0) ≡ tick t s
 unfolding tick
@@ -117,11 +118,11 @@ module _ (t : Tree) (s : State) where
   slot-10 h = sym (picked _ _ _ (eq-eqb _ _ h))
 
   module _ (h : s .slot ≡ lastSlot → ⊥) where
-    pub slot-idle : noneWaits s ≡ true → outcome idle (tick t s) ≡ slottedWithin t s
-    slot-idle w = sym (passed _ _ _ (ne-eqb _ _ h) ∙ picked _ _ _ w)
+    pub idle-within : noneWaits s ≡ true → outcome idle (tick t s) ≡ slottedWithin t s
+    idle-within w = sym (passed _ _ _ (ne-eqb _ _ h) ∙ picked _ _ _ w)
 
-    pub slot-serves : noneWaits s ≡ false → outcome (served (chosen t s)) (tick t (serve t s)) ≡ slottedWithin t s
-    slot-serves w = sym (passed _ _ _ (ne-eqb _ _ h) ∙ passed _ _ _ w)
+    pub serves-within : noneWaits s ≡ false → outcome (served (chosen t s)) (tick t (serve t s)) ≡ slottedWithin t s
+    serves-within w = sym (passed _ _ _ (ne-eqb _ _ h) ∙ passed _ _ _ w)
 
 -- the start
 module _ (t : Tree) where

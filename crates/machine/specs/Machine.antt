@@ -3,7 +3,6 @@
 -- Answer               what an offer or a slot answers: an offer is admitted, a slot serves an accelerator or is idle, and
 --                      either is refused by a number of document 01's table
 -- Outcome              a call's answer and the state that it returns; outcome a s: the answer a with the state s
--- zeroState            the state with nothing in it
 -- freshState t         "At the start nothing waits, all admitted counts and the slot are 0, every allowance is 0 and the
 --                      last port of every interconnect in the tree is 7"
 -- Start                what the start answers: started, or refused by a number
@@ -36,6 +35,7 @@ use Rattle.model.specs.declared.Tree.{Tree}
 use Rattle.model.specs.declared.State.{State}
 use Rattle.folds.specs.Fold.{pick, all}
 use Rattle.model.specs.Tree.{limitOf, budgetOf, windowOf, waitingOf, outstandingOf, admittedOf}
+use Rattle.model.specs.Builders.{zeroState, withCounts, withTurns, atSlot}
 use Rattle.rules.specs.Rules.{treeKeeps, keeps}
 use Rattle.turns.specs.Turns.{who, after}
 
@@ -52,25 +52,8 @@ pub record Outcome : Type 0 where
 abbrev pub outcome : Answer → State → Outcome
 outcome a s = record { answer = a; state = s }
 
-abbrev pub zeroState : State
-zeroState =
-    record {
-      waiting = replicate 32 0;
-      admitted = replicate 32 0;
-      last = replicate 15 0;
-      allowance = replicate 15 0;
-      slot = 0;
-    }
-
 abbrev pub freshState : Tree → State
-freshState t =
-    record {
-      waiting = replicate 32 0;
-      admitted = replicate 32 0;
-      last = replicate (t .ints) 7 ++ replicate (15 - t .ints) 0;
-      allowance = replicate 15 0;
-      slot = 0;
-    }
+freshState t = withTurns zeroState (replicate (t .ints) 7 ++ replicate (15 - t .ints) 0) (replicate 15 0)
 
 pub data Start : Type 0 where
   started : Start
@@ -87,14 +70,7 @@ unfoldable pub freshened : Tree → Beginning
 freshened t = pick (treeKeeps t) (beginning started (freshState t)) (beginning (notStarted 11) zeroState)
 
 abbrev pub admit : State → ℕ → State
-admit s a =
-    record {
-      waiting = set (s .waiting) a (waitingOf s a + 1);
-      admitted = set (s .admitted) a (admittedOf s a + 1);
-      last = s .last;
-      allowance = s .allowance;
-      slot = s .slot;
-    }
+admit s a = withCounts s (set (s .waiting) a (waitingOf s a + 1)) (set (s .admitted) a (admittedOf s a + 1))
 
 abbrev pub limitsAnswer : ℕ → ℕ → ℕ → ℕ → Answer
 limitsAnswer limit outstanding budget count =
@@ -123,14 +99,7 @@ abbrev pub opens : Tree → ℕ → Bool
 opens t n = not (eqb (windowOf t (n + 1)) (windowOf t n))
 
 unfoldable pub tick : Tree → State → State
-tick t s =
-    record {
-      waiting = s .waiting;
-      admitted = pick (opens t (s .slot)) (replicate 32 0) (s .admitted);
-      last = s .last;
-      allowance = s .allowance;
-      slot = s .slot + 1;
-    }
+tick t s = atSlot s (pick (opens t (s .slot)) (replicate 32 0) (s .admitted)) (s .slot + 1)
 
 abbrev pub lastSlot : ℕ
 lastSlot = 4294967295
@@ -139,14 +108,7 @@ abbrev pub chosen : Tree → State → ℕ
 chosen t s = who 4 t s 0
 
 abbrev pub takeOne : State → ℕ → State
-takeOne s a =
-    record {
-      waiting = set (s .waiting) a (waitingOf s a - 1);
-      admitted = s .admitted;
-      last = s .last;
-      allowance = s .allowance;
-      slot = s .slot;
-    }
+takeOne s a = withCounts s (set (s .waiting) a (waitingOf s a - 1)) (s .admitted)
 
 abbrev pub serve : Tree → State → State
 serve t s = takeOne (after 4 t s 0) (chosen t s)

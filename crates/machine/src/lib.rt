@@ -9,13 +9,14 @@ use model::access::admitted_of;
 use model::access::outstanding_of;
 use model::access::waiting_of;
 use rules::both_keep;
+use rules::less_one;
 use rules::tree_keeps;
 use turns::choose;
-use turns::less_one;
 ghost use mathlib.Core.Path.{_≡_};
 ghost use Prim.Native.Nat.{_<_, _≤_};
 ghost use Rattle.model.specs.Tree.{waitingOf, admittedOf};
-ghost use Rattle.machine.specs.Machine.{admitted, freshState, zeroState, freshened, admit, limitsAnswer, verdictOf, offeredWithin, offered, noneWaits, tick, takeOne, lastSlot, slottedWithin, slotted};
+ghost use Rattle.model.specs.Builders.{zeroState};
+ghost use Rattle.machine.specs.Machine.{admitted, freshState, freshened, admit, limitsAnswer, verdictOf, offeredWithin, offered, noneWaits, tick, takeOne, lastSlot, slottedWithin, slotted};
 ghost use Rattle.machine.specs.Answers.{offerMeans, freshOutcome, offerOutcome, slotOutcome};
 
 // What the start answers.
@@ -78,13 +79,9 @@ fn fresh_state(t: Tree) -> State
         last[j] = 7;
         j += 1;
     }
-    State {
-        waiting: [0u8; 32],
-        admitted: [0u16; 32],
-        last: last,
-        allowance: [0u8; 15],
-        slot: 0,
-    }
+    let mut state = zero_state();
+    state.last = last;
+    state
 }
 
 // The starting state of a configuration that keeps its rules; else refusal 11, with a state of zeros.
@@ -220,7 +217,7 @@ fn take_one(s: State, a: u8) -> State
     let i = a as usize;
     let mut next = s;
     if i < 32 {
-        next.waiting[i] = less_one(s.waiting[i]);
+        next.waiting[i] = less_one(waiting_of(s, a) as u32) as u8;
     }
     next
 }
