@@ -1,4 +1,5 @@
--- Each consequence is read off one field of demand 3, by the laws of queues and of lists of events alone.
+-- Each consequence is read off one field of demand 3, by the laws of queues and of lists of events alone; that a transaction
+-- waits until its one service is such a law.
 use Prim.Native.Nat.{ℕ, suc, _+_, _-_, _*_, _≤_, _<_}
 use mathlib.Core.List.{List, [], _∷_, _++_, append-assoc}
 use mathlib.Core.Path.{_≡_, refl, sym, _∙_, ap, subst}
@@ -15,9 +16,10 @@ use Rattle.model.specs.Tree.{windowOf, budgetOf, waitingOf, admittedOf}
 use Rattle.machine.specs.Machine.{Answer, admitted, served, idle}
 use Rattle.machine.specs.Calls.{Call, offer, slot, step, stateAfter}
 use Rattle.guarantee.specs.Guarantee.{Event, event, eventsOf, Ticket, admittedBy, withoutFirst, queueFrom, startingQueue, queueAfter, slotsIn, admissionsFrom, admissionsIn, upTo, Holds, StillWaits, Guarantee}
-use Rattle.guarantee.specs.Consequences.{Consequences}
+use Rattle.guarantee.specs.Consequences.{WaitsUntilServed, Consequences}
 use Rattle.guarantee.proofs.Queue.{queue-append, absent-nil}
 use Rattle.guarantee.proofs.Events.{events-append, admitted-append}
+use Rattle.guarantee.proofs.Once.{served-once, waits-until}
 use Rattle.guarantee.proofs.Theorem.{guarantee}
 
 one-less : (q : List Ticket) → 0 < length q → suc (length (withoutFirst q)) ≡ length q
@@ -48,6 +50,12 @@ last-admitted : (t : Tree) (s : State) (front : List Call) (a : ℕ) → step t 
 unfolding eventsOf
 last-admitted t s front a e =
     events-append t s front (offer a ∷ []) ∙ ap (λ x. eventsOf t s front ++ event (offer a) x ∷ []) e
+
+pub waits-until-served : (s : State) → WaitsUntilServed s
+waits-until-served s = record {
+  once = λ a front back. served-once s a front back;
+  still = λ a front back. waits-until s a front back;
+}
 
 pub consequences : (t : Tree) (s : State) (cs : List Call) → Guarantee t s cs → Consequences t s cs
 consequences t s cs G = record {

@@ -18,9 +18,10 @@ use Rattle.machine.specs.Calls.{Call, offer, slot, answersOf, stateAfter}
 use Rattle.shares.specs.Shares.{othersAt, shareAlong, shareOf}
 use Rattle.model.specs.Trees.{chain}
 use Rattle.guarantee.specs.Guarantee.{Event, event, eventsOf, queueFrom, startingQueue, queueAfter, slotsIn, othersIn, admissionsFrom, ServedWithin, Holds, here, Guarantee}
-use Rattle.guarantee.specs.Instances.{MetExactly, backOf, Tight, several, unreached, Sharp}
+use Rattle.guarantee.specs.Instances.{MetExactly, backOf, Tight, several, unreached, Sharp, AllTight}
 use Rattle.guarantee.proofs.Events.{slots-append}
 use Rattle.guarantee.proofs.Once.{served-once}
+use Rattle.guarantee.proofs.Theorem.{guarantee}
 use Rattle.guarantee.proofs.Walk.{Does, admits, declines, serves, idles, halts, Walk, stay, go, walked}
 
 -- offers that are admitted; slots that serve; slots that serve, each followed by an offer of the accelerator served
@@ -166,3 +167,15 @@ sharp = record {
   first-window = record { start = refl; spent = refl; refusal = refl };
   never-reached = no-run refl;
 }
+
+pub all-tight : AllTight sharp
+all-tight = record {
+  none-before = by-demand-3 (sharp .none-before);
+  three-before = by-demand-3 (sharp .three-before);
+  wide-turn = by-demand-3 (sharp .wide-turn);
+  from-unreached = by-demand-3 (sharp .from-unreached);
+  with-refusals = by-demand-3 (sharp .with-refusals);
+}
+  where
+    by-demand-3 : {t : Tree} {s : State} {cs : List Call} {a k n : ℕ} (m : MetExactly t s cs a k n) → Tight m
+    by-demand-3 {t} {s} {cs} m = tight m (guarantee t s cs (m .start))

@@ -1,6 +1,8 @@
 -- What each field of demand 3 gives a caller. Each field here is derived from one field of `Guarantee`, and is lost if that
 -- one is weakened; the numbers of in-time and few-others stand in `Tight` of Instances.antt.
 --
+-- WaitsUntilServed s    "from its admission up to its service": a transaction is served once, and `StillWaits` holds of it at
+--                       each moment up to then
 -- Consequences t s cs   of the list of calls cs from state s
 use Prim.Native.Nat.{ℕ, suc, _+_, _<_}
 use mathlib.Core.List.{List, [], _∷_, _++_}
@@ -12,7 +14,13 @@ use Rattle.model.specs.Tree.{windowOf, budgetOf}
 use Rattle.machine.specs.Machine.{admitted, served, idle, refused}
 use Rattle.machine.specs.Calls.{Call, offer, slot, step, stateAfter}
 use Rattle.shares.specs.Shares.{shareOf}
-use Rattle.guarantee.specs.Guarantee.{Event, event, eventsOf, queueAfter, slotsIn, othersIn, admissionsIn, upTo, StillWaits, Guarantee}
+use Rattle.guarantee.specs.Guarantee.{Event, event, eventsOf, queueAfter, slotsIn, othersIn, admissionsIn, upTo, ServedWithin, StillWaits, Guarantee}
+
+pub record WaitsUntilServed (s : State) : Type 0 where
+  pub once : (a : ℕ) (front back : List Event) (n m : ℕ) (u : ServedWithin s a front back n) (v : ServedWithin s a front back m)
+      → u .mid ≡ v .mid
+  pub still : (a : ℕ) (front back : List Event) (n : ℕ) (u : ServedWithin s a front back n) (xs ys : List Event)
+      → u .mid ≡ xs ++ ys → StillWaits s a front xs
 
 pub record Consequences (t : Tree) (s : State) (cs : List Call) : Type 0 where
   -- every-state-keeps: what follows any first part of the list is such a list itself, from the state handed on to it

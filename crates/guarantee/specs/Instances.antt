@@ -22,6 +22,7 @@
 -- untilLast             case 2's slots from there, with offers that are refused before and between them, up to the last
 --                       slot and beyond it
 -- Sharp                 the instances
+-- AllTight h            demand 3 is tight at each of them
 use Prim.Native.Nat.{ℕ, zero, suc, _+_, _-_, _*_, _≤_}
 use mathlib.Core.Bool.{true}
 use mathlib.Core.List.{List, [], _∷_, _++_}
@@ -135,3 +136,10 @@ pub record Sharp : Type 0 where
   -- there accelerator 0 is admitted once in the first window, and with its starting admitted count that is its budget
   pub first-window : SpentIn chain late untilLast 0 268435455
   pub never-reached : (cs : List Call) → stateAfter chain (freshState chain) cs ≡ unreached → ⊥
+
+pub record AllTight (h : Sharp) : Type 0 where
+  pub none-before : Tight (h .none-before)
+  pub three-before : Tight (h .three-before)
+  pub wide-turn : Tight (h .wide-turn)
+  pub from-unreached : Tight (h .from-unreached)
+  pub with-refusals : Tight (h .with-refusals)
