@@ -19,8 +19,12 @@ use Rattle.rules.proofs.Sound.{sound-of, kept-of}
 use Rattle.machine.specs.Machine.{Answer, admitted}
 use Rattle.machine.specs.Calls.{Call, slot}
 use Rattle.machine.proofs.Laws.{Ticked}
-use Rattle.guarantee.specs.Guarantee.{Event, slotCounts, admitsOne, admissionsFrom, admissionsIn}
+use Rattle.guarantee.specs.Guarantee.{Event, slotCounts, admitsOne, admissionsFrom}
 use Rattle.guarantee.proofs.Walk.{Does, admits, declines, serves, idles, halts, Walk, stay, go}
+
+-- what counts in window w of the state s, with n added
+abbrev Counts : Tree → ℕ → ℕ → State → ℕ → ℕ
+Counts t a w s n = pick (eqb (windowOf t (s .slot)) w) (admittedOf s a) 0 + n
 
 module _ (t : Tree) (P : 1 ≤ t .bus .window) (a w : ℕ) where
   -- windows do not fall
@@ -39,16 +43,12 @@ module _ (t : Tree) (P : 1 ≤ t .bus .window) (a w : ℕ) where
         past m es (omega (arith, window-up n m (omega arith))),
       )
 
-  -- what counts in window w of the state s, with n added
-  abbrev Counts : State → ℕ → ℕ
-  Counts s n = pick (eqb (windowOf t (s .slot)) w) (admittedOf s a) 0 + n
-
   apart : (c : Bool) (x y n z : ℕ) → pick c (x + y) 0 + n ≤ z → pick c x 0 + (pick c y 0 + n) ≤ z
   apart true x y n z h = omega arith
   apart false x y n z h = omega arith
 
-  added : (s m : State) (y n z : ℕ) → m .slot ≡ s .slot → admittedOf m a ≡ admittedOf s a + y → Counts m n ≤ z
-      → Counts s (pick (eqb (windowOf t (s .slot)) w) y 0 + n) ≤ z
+  added : (s m : State) (y n z : ℕ) → m .slot ≡ s .slot → admittedOf m a ≡ admittedOf s a + y → Counts t a w m n ≤ z
+      → Counts t a w s (pick (eqb (windowOf t (s .slot)) w) y 0 + n) ≤ z
   added s m y n z e f h =
       apart (eqb (windowOf t (s .slot)) w) (admittedOf s a) y n z
       (omega (arith, ap₂ (λ i x. pick (eqb (windowOf t i) w) x 0) e f))
@@ -59,8 +59,8 @@ module _ (t : Tree) (P : 1 ≤ t .bus .window) (a w : ℕ) where
 
   -- a slot that is not refused stays in its window, or leaves it
   module _ (s m : State) (es : List Event) (z : ℕ) (T : Ticked t s m) (k : admittedOf s a ≤ z)
-      (h : Counts m (admissionsFrom t a w (m .slot) es) ≤ z) where
-    stays : windowOf t (s .slot + 1) ≡ windowOf t (s .slot) → Counts s (admissionsFrom t a w (s .slot + 1) es) ≤ z
+      (h : Counts t a w m (admissionsFrom t a w (m .slot) es) ≤ z) where
+    stays : windowOf t (s .slot + 1) ≡ windowOf t (s .slot) → Counts t a w s (admissionsFrom t a w (s .slot + 1) es) ≤ z
     stays e = omega (
       arith,
       from (m .slot) (s .slot + 1) es (T .slot),
@@ -68,7 +68,7 @@ module _ (t : Tree) (P : 1 ≤ t .bus .window) (a w : ℕ) where
     )
 
     leaves : (windowOf t (s .slot + 1) ≡ windowOf t (s .slot) → ⊥)
-        → Counts s (admissionsFrom t a w (s .slot + 1) es) ≤ z
+        → Counts t a w s (admissionsFrom t a w (s .slot + 1) es) ≤ z
     leaves d = elim (ℕ-discrete (windowOf t (s .slot)) w) [
       | yes e ↦ omega (
         arith,
@@ -82,26 +82,26 @@ module _ (t : Tree) (P : 1 ≤ t .bus .window) (a w : ℕ) where
       )
     ]
 
-    ticks : Counts s (pick (eqb (windowOf t (s .slot)) w) 0 0 + admissionsFrom t a w (s .slot + 1) es) ≤ z
+    ticks : Counts t a w s (pick (eqb (windowOf t (s .slot)) w) 0 0 + admissionsFrom t a w (s .slot + 1) es) ≤ z
     ticks =
         apart (eqb (windowOf t (s .slot)) w) (admittedOf s a) 0 _ z
         (omega (
           arith,
           ap (λ x. pick (eqb (windowOf t (s .slot)) w) x 0) {x = admittedOf s a + 0} {y = admittedOf s a} (omega arith),
           elim (ℕ-discrete (windowOf t (s .slot + 1)) (windowOf t (s .slot))) as
-              (λ _. Counts s (admissionsFrom t a w (s .slot + 1) es) ≤ z) [ yes e ↦ stays e | no d ↦ leaves d ],
+              (λ _. Counts t a w s (admissionsFrom t a w (s .slot + 1) es) ≤ z) [ yes e ↦ stays e | no d ↦ leaves d ],
         ))
 
   -- a call that leaves the slot count
   still : (s m : State) (es : List Event) (y z : ℕ) → m .slot ≡ s .slot → admittedOf m a ≡ admittedOf s a + y
-      → Counts m (admissionsFrom t a w (m .slot) es) ≤ z
-      → Counts s (pick (eqb (windowOf t (s .slot)) w) y 0 + admissionsFrom t a w (s .slot + 0) es) ≤ z
+      → Counts t a w m (admissionsFrom t a w (m .slot) es) ≤ z
+      → Counts t a w s (pick (eqb (windowOf t (s .slot)) w) y 0 + admissionsFrom t a w (s .slot + 0) es) ≤ z
   still s m es y z e f h =
       added s m y _ z e f (omega (arith, from (s .slot + 0) (m .slot) es (omega arith)))
 
   step : (s m : State) (c : Call) (x : Answer) (es : List Event) (z : ℕ) → Does t s c x m → admittedOf s a ≤ z
-      → Counts m (admissionsFrom t a w (m .slot) es) ≤ z
-      → Counts s (pick (eqb (windowOf t (s .slot)) w) (admitsOne a x c) 0
+      → Counts t a w m (admissionsFrom t a w (m .slot) es) ≤ z
+      → Counts t a w s (pick (eqb (windowOf t (s .slot)) w) (admitsOne a x c) 0
       + admissionsFrom t a w (s .slot + slotCounts x c) es) ≤ z
   step s m c x es z (admits A) k h = still s m es _ z (A .slot) (A .admitted a) h
   step s m c x es z declines k h = still s m es 0 z refl (omega arith) h
@@ -110,7 +110,7 @@ module _ (t : Tree) (P : 1 ≤ t .bus .window) (a w : ℕ) where
   step s m c x es z (halts f) k h = still s m es 0 z refl (omega arith) h
 
 pub within : {t : Tree} {s r : State} {es : List Event} (a w : ℕ) → a < t .accs → Walk t s es r
-    → admissionsIn t s a w es ≤ budgetOf t a
+    → Counts t a w s (admissionsFrom t a w (s .slot) es) ≤ budgetOf t a
 unfolding admissionsFrom
 within {t} {s} a w la (stay K) = start (eqb (windowOf t (s .slot)) w)
   where

@@ -1,9 +1,10 @@
 -- The instances are computed from the definitions. That no run reaches a state is read off its slot: in slot 0 nothing has
 -- been served, so all that waits was admitted there.
-use Prim.Native.Nat.{ℕ, zero, suc}
+use Prim.Native.Nat.{ℕ, zero, suc, _-_, _*_, _≤_}
 use mathlib.Core.Bool.{true}
 use mathlib.Core.List.{List, [], _∷_, _++_}
-use mathlib.Core.Path.{_≡_, refl, sym, _∙_, subst}
+use mathlib.Core.Path.{_≡_, refl, sym, _∙_, ap, subst}
+use lib.ListN.{length}
 use native.Mathlib.Omega.{arith}
 use Rattle.model.specs.declared.Tree.{Tree}
 use Rattle.model.specs.declared.State.{State}
@@ -12,12 +13,15 @@ use Rattle.model.specs.Tree.{above, waitingOf, admittedOf}
 use Rattle.model.specs.Beneath.{inside}
 use Rattle.rules.specs.Rules.{treeKeeps, stateKeeps, sized, recordKeeps, turnKeeps, busKeeps, carries, rootPlaced, childPlaced, usedInterconnect, unusedInterconnect, usedAccelerator, unusedAccelerator, keeps}
 use Rattle.turns.specs.Turns.{who, after, turnPort, turnAllowance, seek, bitsBelow}
-use Rattle.machine.specs.Machine.{Answer, admitted, served, freshState, offered, slotted, tick}
-use Rattle.machine.specs.Calls.{Call, offer, slot, stateAfter}
-use Rattle.shares.specs.Shares.{othersAt, shareAlong}
+use Rattle.machine.specs.Machine.{Answer, admitted, served, idle, refused, freshState, offered, slotted, tick}
+use Rattle.machine.specs.Calls.{Call, offer, slot, answersOf, stateAfter}
+use Rattle.shares.specs.Shares.{othersAt, shareAlong, shareOf}
 use Rattle.model.specs.Trees.{chain}
-use Rattle.guarantee.specs.Guarantee.{Event, event, eventsOf, queueFrom, startingQueue, slotsIn, othersIn, admissionsFrom}
-use Rattle.guarantee.specs.Instances.{several, unreached, Sharp}
+use Rattle.guarantee.specs.Guarantee.{Event, event, eventsOf, queueFrom, startingQueue, queueAfter, slotsIn, othersIn, admissionsFrom, ServedWithin, Holds, here, Guarantee}
+use Rattle.guarantee.specs.Instances.{MetExactly, backOf, Tight, several, unreached, Sharp, AllTight}
+use Rattle.guarantee.proofs.Events.{slots-append}
+use Rattle.guarantee.proofs.Once.{served-once}
+use Rattle.guarantee.proofs.Theorem.{guarantee}
 use Rattle.guarantee.proofs.Walk.{Does, admits, declines, serves, idles, halts, Walk, stay, go, walked}
 
 -- offers that are admitted; slots that serve; slots that serve, each followed by an offer of the accelerator served
@@ -63,8 +67,32 @@ no-run k cs e =
     let z : _≡_ {A = ℕ} 4 0 = subst (λ s. Fresh s 0) e f refl in
     omega arith
 
+-- by demand 3, and by the law that a transaction is served once
+pub tight : {t : Tree} {s : State} {cs : List Call} {a k n : ℕ} (m : MetExactly t s cs a k n) → Guarantee t s cs → Tight m
+unfolding slotsIn
+tight {t} {s} {cs} {a} {k} {n} m G = record {
+  granted = subst (ServedWithin s a (m .front) (backOf m)) share
+      (G .in-time (m .front) (backOf m) a (m .events) (omega (arith, share, slots-append (m .mid) (event slot (served a) ∷ m .rest), m .slots)));
+  no-sooner = λ v. omega (arith, v .within, m .slots, ap slotsIn (served-once s a (m .front) (backOf m) n (n - 1) met v));
+  few-others = subst (λ i. othersIn a (m .mid) ≤ suc i * (shareOf t a - 1)) (m .before)
+      (G .few-others (m .front) (backOf m) a (m .events) (m .mid) _ refl (subst (Holds _) (sym (m .first)) here));
+}
+  where
+    share : suc (length (queueAfter s a (m .front))) * shareOf t a ≡ n
+    share = ap (λ i. suc i * shareOf t a) (m .before) ∙ sym (m .granted)
+
+    met : ServedWithin s a (m .front) (backOf m) n
+    met = record {
+      mid = m .mid;
+      rest = m .rest;
+      ending = refl;
+      others = m .others;
+      first = m .first;
+      within = omega (arith, m .slots);
+    }
+
 pub sharp : Sharp
-unfolding eventsOf stateAfter queueFrom startingQueue slotsIn othersIn admissionsFrom offered slotted tick who after turnPort turnAllowance seek bitsBelow treeKeeps stateKeeps sized recordKeeps turnKeeps busKeeps carries rootPlaced childPlaced usedInterconnect unusedInterconnect usedAccelerator unusedAccelerator inside above sum all othersAt shareAlong
+unfolding eventsOf answersOf stateAfter queueFrom startingQueue slotsIn othersIn admissionsFrom offered slotted tick who after turnPort turnAllowance seek bitsBelow treeKeeps stateKeeps sized recordKeeps turnKeeps busKeeps carries rootPlaced childPlaced usedInterconnect unusedInterconnect usedAccelerator unusedAccelerator inside above sum all othersAt shareAlong
 sharp = record {
   none-before = record {
     front = taken (several 4 (offer 0 ∷ []) ++ several 2 (offer 1 ∷ []) ++ offer 2 ∷ []);
@@ -120,5 +148,34 @@ sharp = record {
     granted = refl;
     others-served = refl;
   };
+  with-refusals = record {
+    front = event (offer 0) admitted ∷ event (offer 0) (refused 8) ∷ taken (offer 1 ∷ offer 1 ∷ offer 2 ∷ [])
+        ++ event (offer 4) (refused 7) ∷ [];
+    mid = event slot (served 0) ∷ event (offer 0) (refused 9) ∷ served-in (1 ∷ 0 ∷ 2 ∷ [])
+        ++ event (offer 9) (refused 7) ∷ served-in (0 ∷ 1 ∷ 0 ∷ []);
+    rest = event slot idle ∷ event slot (refused 10) ∷ event (offer 3) admitted ∷ [];
+    others = [];
+    start = refl;
+    events = refl;
+    before = refl;
+    first = refl;
+    slots = refl;
+    granted = refl;
+    others-served = refl;
+  };
+  every-answer = refl;
+  first-window = record { start = refl; spent = refl; refusal = refl };
   never-reached = no-run refl;
 }
+
+pub all-tight : AllTight sharp
+all-tight = record {
+  none-before = by-demand-3 (sharp .none-before);
+  three-before = by-demand-3 (sharp .three-before);
+  wide-turn = by-demand-3 (sharp .wide-turn);
+  from-unreached = by-demand-3 (sharp .from-unreached);
+  with-refusals = by-demand-3 (sharp .with-refusals);
+}
+  where
+    by-demand-3 : {t : Tree} {s : State} {cs : List Call} {a k n : ℕ} (m : MetExactly t s cs a k n) → Tight m
+    by-demand-3 {t} {s} {cs} m = tight m (guarantee t s cs (m .start))

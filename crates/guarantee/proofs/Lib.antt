@@ -3,7 +3,10 @@ pub mod Circle
 pub mod Ahead
 pub mod Path
 pub mod Walk
+pub mod Events
 pub mod Queue
+pub mod Once
 pub mod Budget
 pub mod Theorem
+pub mod Consequences
 pub mod Instances

@@ -18,11 +18,11 @@ use Rattle.model.specs.declared.State.{State}
 use Rattle.folds.specs.Fold.{pick}
 use Rattle.model.specs.Tree.{path, limitOf, waitingOf}
 use Rattle.rules.specs.Rules.{keeps}
-use Rattle.folds.proofs.Folds.{picked, passed}
+use Rattle.folds.proofs.Folds.{picked, passed, clash}
 use Rattle.rules.proofs.Sound.{sound-of, kept-of}
-use Rattle.machine.specs.Machine.{Answer, admitted, served}
+use Rattle.machine.specs.Machine.{Answer, admitted, served, idle, refused}
 use Rattle.machine.specs.Calls.{Call, offer, slot}
-use Rattle.guarantee.specs.Guarantee.{Event, event, Ticket, admittedBy, withoutFirst, callMoves, moved, queueFrom, startingQueue, slotCounts, slotsIn, servesOther, othersIn, Holds, here, there}
+use Rattle.guarantee.specs.Guarantee.{Event, event, Ticket, waitedAtStart, admittedBy, withoutFirst, callMoves, moved, queueFrom, startingQueue, queueAfter, upTo, slotCounts, slotsIn, servesOther, othersIn, Holds, here, there}
 use Rattle.guarantee.proofs.Ahead.{WaitsWithin}
 use Rattle.guarantee.proofs.Path.{waitOf, wait-least, wait-same, wait-other, wait-own}
 use Rattle.guarantee.proofs.Walk.{Admission, Service, Does, admits, declines, serves, idles, halts, Walk, stay, go, walk-start}
@@ -66,7 +66,7 @@ queue-length a n q (stay k) e = e
 queue-length {t} {s} a n q (go {m = m} {e = v} k d w) e =
     queue-length a (suc n) (moved a n q v) w (length-step t s m a n q (v .call) (v .answer) d e)
 
-abbrev Absent : Ticket → List Ticket → Type 0
+abbrev pub Absent : Ticket → List Ticket → Type 0
 Absent x q = Holds x q → ⊥
 
 pub data Stands (x : Ticket) : ℕ → List Ticket → Type 0 where
@@ -77,7 +77,7 @@ no-ticket : (x : Ticket) (q : List Ticket) → length q ≡ 0 → Absent x q
 no-ticket x q e here = omega arith
 no-ticket x q e (there h) = omega arith
 
-absent-nil : (x : Ticket) → Absent x []
+pub absent-nil : (x : Ticket) → Absent x []
 absent-nil x = no-ticket x [] refl
 
 pub stands-last : (x : Ticket) (q : List Ticket) → Stands x (length q) (q ++ x ∷ [])
@@ -88,17 +88,20 @@ stands-length : {x : Ticket} {k : ℕ} {q : List Ticket} → Stands x k q → k 
 stands-length (first f) = omega arith
 stands-length (behind h) = omega (arith, stands-length h)
 
--- an admission later than the ticket's own
-absent-append : (j n : ℕ) → j < n → (q : List Ticket) → Absent (admittedBy j) q
+-- another ticket is put last
+absent-put : (x y : Ticket) → (x ≡ y → ⊥) → (q : List Ticket) → Absent x q → Absent x (q ++ y ∷ [])
+absent-put x y d [] f here = d refl
+absent-put x y d [] f (there h) = absent-nil x h
+absent-put x y d (z ∷ q) f here = f here
+absent-put x y d (z ∷ q) f (there h) = absent-put x y d q (λ g. f (there g)) h
+
+pub absent-append : (j n : ℕ) → (j ≡ n → ⊥) → (q : List Ticket) → Absent (admittedBy j) q
     → Absent (admittedBy j) (q ++ admittedBy n ∷ [])
-absent-append j n l [] f here = omega arith
-absent-append j n l [] f (there h) = absent-nil (admittedBy j) h
-absent-append j n l (y ∷ q) f here = f here
-absent-append j n l (y ∷ q) f (there h) = absent-append j n l q (λ g. f (there g)) h
+absent-append j n d q f = absent-put (admittedBy j) (admittedBy n) (λ e. d (cc e)) q f
 
 stands-append : (j n : ℕ) → j < n → {k : ℕ} {q : List Ticket} → Stands (admittedBy j) k q
     → Stands (admittedBy j) k (q ++ admittedBy n ∷ [])
-stands-append j n l (first {q = q} f) = first (absent-append j n l q f)
+stands-append j n l (first {q = q} f) = first (absent-append j n (λ e. omega arith) q f)
 stands-append j n l (behind h) = behind (stands-append j n l h)
 
 absent-without : (x : Ticket) (q : List Ticket) → Absent x q → Absent x (withoutFirst q)
@@ -110,23 +113,59 @@ test : {A : Type 0} (P : A → Type 0) (c : Bool) {x y : A} → P x → P y → 
 test P true f g = f
 test P false f g = g
 
-absent-step : (t : Tree) (s m : State) (a j n : ℕ) → j < n → (q : List Ticket) (c : Call) (x : Answer) → Does t s c x m
-    → Absent (admittedBy j) q → Absent (admittedBy j) (callMoves a n q x c)
-absent-step t s m a j n l q c x (admits {b = b} A) f =
-    test (Absent (admittedBy j)) (eqb a b) (absent-append j n l q f) f
-absent-step t s m a j n l q c x declines f = f
-absent-step t s m a j n l q c x (serves {b = b} v) f =
-    test (Absent (admittedBy j)) (eqb a b) (absent-without (admittedBy j) q f) f
-absent-step t s m a j n l q c x (idles i) f = f
-absent-step t s m a j n l q c x (halts e) f = f
+-- what holds of a queue, of the queue with the newcomer last and of the queue without its first holds after any event
+pub after-event : (P : List Ticket → Type 0) (a n : ℕ) (q : List Ticket) (e : Event) → P q → P (q ++ admittedBy n ∷ [])
+    → P (withoutFirst q) → P (moved a n q e)
+after-event P a n q e f g h = go (e .answer) (e .call)
+  where
+    go : (x : Answer) (c : Call) → P (callMoves a n q x c)
+    go admitted (offer b) = test P (eqb a b) g f
+    go (served c) (offer b) = f
+    go idle (offer b) = f
+    go (refused k) (offer b) = f
+    go admitted slot = f
+    go (served b) slot = test P (eqb a b) h f
+    go idle slot = f
+    go (refused k) slot = f
+
+absent-step : (a j n : ℕ) → (j ≡ n → ⊥) → (q : List Ticket) (e : Event) → Absent (admittedBy j) q
+    → Absent (admittedBy j) (moved a n q e)
+absent-step a j n d q e f =
+    after-event (Absent (admittedBy j)) a n q e f (absent-append j n d q f) (absent-without (admittedBy j) q f)
 
 -- a ticket that has been served does not come back
-gone : {t : Tree} {s r : State} {es : List Event} (a j n : ℕ) → j < n → (q : List Ticket) → Walk t s es r
-    → Absent (admittedBy j) q → Absent (admittedBy j) (queueFrom a n q es)
+pub gone : (a j n : ℕ) → j < n → (q : List Ticket) (es : List Event) → Absent (admittedBy j) q
+    → Absent (admittedBy j) (queueFrom a n q es)
 unfolding queueFrom
-gone a j n l q (stay k) f = f
-gone {t} {s} a j n l q (go {m = m} {e = v} k d w) f =
-    gone a j (suc n) (omega arith) (moved a n q v) w (absent-step t s m a j n l q (v .call) (v .answer) d f)
+gone a j n l q [] f = f
+gone a j n l q (e ∷ es) f =
+    gone a j (suc n) (omega arith) (moved a n q e) es (absent-step a j n (λ z. omega arith) q e f)
+
+-- a ticket is not there before its admission
+pub not-yet : (a j n : ℕ) (q : List Ticket) (es : List Event) → n + length es ≤ j → Absent (admittedBy j) q
+    → Absent (admittedBy j) (queueFrom a n q es)
+unfolding queueFrom
+not-yet a j n q [] l f = f
+not-yet a j n q (e ∷ es) l f =
+    not-yet a j (suc n) (moved a n q e) es (omega arith) (absent-step a j n (λ z. omega arith) q e f)
+
+pub not-at-start : (j n : ℕ) → Absent (admittedBy j) (startingQueue n)
+unfolding startingQueue
+not-at-start j zero = absent-nil (admittedBy j)
+not-at-start j (suc n) =
+    absent-put (admittedBy j) (waitedAtStart n) (λ e. clash cc) (startingQueue n) (not-at-start j n)
+
+-- the queue after an admission of the accelerator and the events that follow
+pub queue-up-to : (s : State) (a : ℕ) (front mid : List Event) → queueAfter s a (upTo a front mid)
+    ≡ queueFrom a (suc (length front)) (queueAfter s a front ++ admittedBy (length front) ∷ []) mid
+unfolding queueFrom
+queue-up-to s a front mid =
+    let q = queueAfter s a front in
+    let put : ℕ → List Ticket = λ n. pick (eqb a a) (q ++ admittedBy n ∷ []) q in
+    queue-append a 0 (startingQueue (waitingOf s a)) front (event (offer a) admitted ∷ mid)
+    ∙ ap (λ n. queueFrom a (suc n) (put n) mid) {x = length front + 0} {y = length front} (omega arith)
+    ∙ ap (λ r. queueFrom a (suc (length front)) r mid)
+    (picked (eqb a a) (q ++ admittedBy (length front) ∷ []) q (eq-eqb a a refl))
 
 -- no state of the walk has more waiting than φ allows
 abbrev pub AllWithin : {t : Tree} {s r : State} {es : List Event} (φ : ℕ → ℕ) → Walk t s es r → Type 0
@@ -252,7 +291,7 @@ few {t} φ {s} a j n k la l q (go {m = m} {e = v} {es = es} K d w) F h e b =
     next (goes t φ s K (F .0) a j la m (walk-start w) (within-start φ w (F .1)) n k l q (v .call) (v .answer) d h e)
     (λ i g. few φ a j (suc n) i la (omega arith) (moved a n q v) w (F .1) g
     (length-step t s m a n q (v .call) (v .answer) d e) b)
-    (λ f. gone a j (suc n) (omega arith) (moved a n q v) w f b)
+    (λ f. gone a j (suc n) (omega arith) (moved a n q v) es f b)
   where
     next : Goes t φ s m a j k q (v .call) (v .answer) (moved a n q v)
         → ((i : ℕ) → Stands (admittedBy j) i (moved a n q v) → othersIn a es + suc i ≤ waitOf t φ m a (suc i))

@@ -22,7 +22,7 @@ use Rattle.shares.specs.Shares.{shareOf}
 use Rattle.guarantee.specs.Guarantee.{Event, event, eventsOf, Ticket, admittedBy, queueFrom, startingQueue, queueAfter, slotsIn, othersIn, upTo, Holds, StillWaits, Guarantee}
 use Rattle.guarantee.proofs.Path.{waitOf, wait-most}
 use Rattle.guarantee.proofs.Walk.{Does, admits, serves, idles, halts, Walk, go, walked, walk-start, Parts, parts, step-keeps}
-use Rattle.guarantee.proofs.Queue.{start-length, queue-append, queue-length, stands-last, limits-hold, Timely, timely, few}
+use Rattle.guarantee.proofs.Queue.{start-length, queue-length, queue-up-to, stands-last, limits-hold, Timely, timely, few}
 use Rattle.guarantee.proofs.Budget.{within}
 
 keeps-after : (t : Tree) (s : State) (cs : List Call) → keeps t s ≡ true → keeps t (stateAfter t s cs) ≡ true
@@ -86,16 +86,6 @@ module _ (t : Tree) (s : State) (cs : List Call) (k : keeps t s ≡ true) where
     with-length : length with-ticket ≡ waitingOf (at .next) a
     with-length = length-append (queueAfter s a front) _ ∙ omega (arith, queue-waits front a (at .before), one)
 
-    following : (mid : List Event)
-        → queueAfter s a (upTo a front mid) ≡ queueFrom a (suc (length front)) with-ticket mid
-    unfolding queueFrom
-    following mid =
-        let q = queueAfter s a front in
-        let put : ℕ → List Ticket = λ n. pick (eqb a a) (q ++ admittedBy n ∷ []) q in
-        queue-append a 0 (startingQueue (waitingOf s a)) front (event (offer a) admitted ∷ mid)
-        ∙ ap (λ n. queueFrom a (suc n) (put n) mid) {x = length front + 0} {y = length front} (omega arith)
-        ∙ ap (λ r. queueFrom a (suc (length front)) r mid) (picked (eqb a a) with-ticket q (eq-eqb a a refl))
-
     -- how long the ticket waits at most, and that this is at most (k + 1) times the share
     abbrev ticket-wait : ℕ
     ticket-wait = waitOf t (limitOf t) (at .next) a (suc (length (queueAfter s a front)))
@@ -118,12 +108,12 @@ module _ (t : Tree) (s : State) (cs : List Call) (k : keeps t s ≡ true) where
         let p = parts mid rest (subst (λ es. Walk t (at .next) es (stateAfter t s cs)) f (at .after)) in
         few (limitOf t) a (length front) (suc (length front)) (length (queueAfter s a front)) (one .0) (omega arith) with-ticket
         (p .before) (limits-hold (p .before)) (stands-last _ (queueAfter s a front)) with-length
-        (subst (Holds (admittedBy (length front))) (following mid) h)
+        (subst (Holds (admittedBy (length front))) (queue-up-to s a front mid) h)
 
 pub guarantee : (t : Tree) (s : State) (cs : List Call) → keeps t s ≡ true → Guarantee t s cs
 guarantee t s cs k = record {
   every-state-keeps = λ front back e. keeps-after t s front k;
-  slot-refused-by-10 = λ front back n e. refused-by-10 (comes t s cs k front back _ e .does);
+  slot-refused-by-10 = λ front back n e. omega (arith, refused-by-10 (comes t s cs k front back _ e .does));
   first-is-there = λ front back a e.
       let p = comes t s cs k front back _ e in
       omega (arith, queue-waits t s cs k front a (p .before), serves-some (p .does));
@@ -138,7 +128,7 @@ guarantee t s cs k = record {
         rest = u .rest;
         ending = u .ending;
         others = u .others;
-        first = following t s cs k front back a e (u .mid) ∙ u .first;
+        first = queue-up-to s a front (u .mid) ∙ u .first;
         within = omega (arith, u .within);
       };
   few-others = λ front back a e mid rest f h.

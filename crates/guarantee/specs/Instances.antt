@@ -3,6 +3,9 @@
 -- MetExactly t s cs a k n   in the list cs from state s a transaction of accelerator a is admitted with k of its own
 --                       waiting before it and served in the n-th slot from there, the very last that demand 3 grants it;
 --                       up to then as many transactions of others are served as demand 3 allows
+-- backOf m              what follows the admission in such an instance m
+-- Tight m               of such an instance m demand 3 itself says what was computed, and no less: served within n slots,
+--                       and not within n - 1; at most as many others served
 -- SpentIn t s cs a w    in the list cs from state s accelerator a is admitted in window w exactly its budget, and the next
 --                       offer is refused by 9
 -- several n cs          the calls cs, n times
@@ -14,8 +17,13 @@
 -- unreached             a state of `chain`: accelerators 0, 1 and 2 full and one of 3 waiting, none of them admitted, no slot
 --                       passed, and a turn of port 0 running at each interconnect
 -- fromUnreached         an offer of accelerator 3, then two rounds
+-- late                  a state of `chain` nine slots before the last: of accelerator 0 three wait and its admitted count is
+--                       one less than its budget
+-- untilLast             case 2's slots from there, with offers that are refused before and between them, up to the last
+--                       slot and beyond it
 -- Sharp                 the instances
-use Prim.Native.Nat.{ℕ, zero, suc, _+_, _-_, _*_}
+-- AllTight h            demand 3 is tight at each of them
+use Prim.Native.Nat.{ℕ, zero, suc, _+_, _-_, _*_, _≤_}
 use mathlib.Core.Bool.{true}
 use mathlib.Core.List.{List, [], _∷_, _++_}
 use mathlib.Core.Path.{_≡_}
@@ -24,11 +32,11 @@ use Rattle.model.specs.declared.Tree.{Tree}
 use Rattle.model.specs.declared.State.{State}
 use Rattle.model.specs.Tree.{budgetOf}
 use Rattle.rules.specs.Rules.{keeps}
-use Rattle.machine.specs.Machine.{served, refused, freshState}
-use Rattle.machine.specs.Calls.{Call, offer, slot, step, stateAfter}
+use Rattle.machine.specs.Machine.{admitted, served, idle, refused, freshState, lastSlot}
+use Rattle.machine.specs.Calls.{Call, offer, slot, step, answersOf, stateAfter}
 use Rattle.shares.specs.Shares.{shareOf}
 use Rattle.model.specs.Trees.{chain, chainOf, pair, nested}
-use Rattle.guarantee.specs.Guarantee.{Event, event, eventsOf, Ticket, admittedBy, queueAfter, slotsIn, othersIn, admissionsIn, upTo}
+use Rattle.guarantee.specs.Guarantee.{Event, event, eventsOf, Ticket, admittedBy, queueAfter, slotsIn, othersIn, admissionsIn, upTo, ServedWithin}
 
 pub record MetExactly (t : Tree) (s : State) (cs : List Call) (a k n : ℕ) : Type 0 where
   pub front : List Event
@@ -42,6 +50,14 @@ pub record MetExactly (t : Tree) (s : State) (cs : List Call) (a k n : ℕ) : Ty
   pub slots : slotsIn mid + 1 ≡ n
   pub granted : n ≡ suc k * shareOf t a
   pub others-served : othersIn a mid ≡ suc k * (shareOf t a - 1)
+
+abbrev pub backOf : {t : Tree} {s : State} {cs : List Call} {a k n : ℕ} → MetExactly t s cs a k n → List Event
+backOf {a = a} m = m .mid ++ event slot (served a) ∷ m .rest
+
+pub record Tight {t : Tree} {s : State} {cs : List Call} {a k n : ℕ} (m : MetExactly t s cs a k n) : Type 0 where
+  pub granted : ServedWithin s a (m .front) (backOf m) n
+  pub no-sooner : ServedWithin s a (m .front) (backOf m) (n - 1) → ⊥
+  pub few-others : othersIn a (m .mid) ≤ suc k * (shareOf t a - 1)
 
 pub record SpentIn (t : Tree) (s : State) (cs : List Call) (a w : ℕ) : Type 0 where
   pub start : keeps t s ≡ true
@@ -85,6 +101,21 @@ unreached =
 abbrev pub fromUnreached : List Call
 fromUnreached = offer 3 ∷ several 2 round
 
+abbrev pub late : State
+late =
+    record {
+      waiting = 3 ∷ replicate 31 0;
+      admitted = 7 ∷ replicate 31 0;
+      last = freshState chain .last;
+      allowance = freshState chain .allowance;
+      slot = lastSlot - 9;
+    }
+
+abbrev pub untilLast : List Call
+untilLast =
+    offer 0 ∷ offer 0 ∷ several 2 (offer 1 ∷ []) ++ offer 2 ∷ offer 4 ∷ offer 3
+    ∷ slot ∷ offer 0 ∷ several 3 (slot ∷ []) ++ offer 9 ∷ several 6 (slot ∷ []) ++ offer 3 ∷ []
+
 pub record Sharp : Type 0 where
   -- case 2: accelerator 3, share 8, served in the eighth slot
   pub none-before : MetExactly chain (freshState chain) caseTwo 3 0 8
@@ -96,4 +127,19 @@ pub record Sharp : Type 0 where
   pub second-window : SpentIn (pair 1 4 4 4 2) (freshState (pair 1 4 4 4 2)) twoWindows 0 1
   -- from a state to which no list of calls leads from the fresh one
   pub from-unreached : MetExactly chain unreached fromUnreached 3 1 16
+  -- refused offers in the list, an idle slot and one refused by 10: accelerator 3's transaction is served in the eighth slot
+  pub with-refusals : MetExactly chain late untilLast 3 0 8
+  pub every-answer : answersOf chain late untilLast
+      ≡ admitted ∷ refused 8 ∷ admitted ∷ admitted ∷ admitted ∷ refused 7 ∷ admitted
+      ∷ served 0 ∷ refused 9 ∷ served 1 ∷ served 0 ∷ served 2 ∷ refused 7 ∷ served 0 ∷ served 1 ∷ served 0 ∷ served 3
+      ∷ idle ∷ refused 10 ∷ admitted ∷ []
+  -- there accelerator 0 is admitted once in the first window, and with its starting admitted count that is its budget
+  pub first-window : SpentIn chain late untilLast 0 268435455
   pub never-reached : (cs : List Call) → stateAfter chain (freshState chain) cs ≡ unreached → ⊥
+
+pub record AllTight (h : Sharp) : Type 0 where
+  pub none-before : Tight (h .none-before)
+  pub three-before : Tight (h .three-before)
+  pub wide-turn : Tight (h .wide-turn)
+  pub from-unreached : Tight (h .from-unreached)
+  pub with-refusals : Tight (h .with-refusals)

@@ -1,2 +1,3 @@
 pub mod Guarantee
+pub mod Consequences
 pub mod Instances

@@ -22,7 +22,8 @@ use Rattle.runner.specs.Offers.{Offering}
 use Rattle.runner.specs.Offers.{heldOf, release, onAdmitted, offering, offerHeld, offerEach}
 use Rattle.runner.proofs.Held.{release-own}
 use Rattle.runs.specs.Calls.{offersHeld, offersEach, bytesIn, admissionsBy}
-use Rattle.runs.proofs.Events.{state-append, events-append, bytes-append, slots-append, admissions-append}
+use Rattle.guarantee.proofs.Events.{state-append, events-append, slots-append}
+use Rattle.runs.proofs.Events.{bytes-append, admissions-append}
 
 -- the events es are offers that go from o to r, which has the state s
 pub record Offers (o : Offering) (es : List Event) (s : State) (r : Offering) : Type 0 where

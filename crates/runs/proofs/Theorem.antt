@@ -33,7 +33,8 @@ use Rattle.runner.specs.Slots.{standing, bytesBefore, leftFrom, dueBefore}
 use Rattle.runner.proofs.Laws.{ran, ending-done, ending-stopped, Stood, stood, stood-unrefused, due-long}
 use Rattle.runner.proofs.Asked.{held-asked, asked-more, asked-start}
 use Rattle.runs.specs.Calls.{offersEach, slotCalls, callsBefore, bytesIn, admissionsBy, Reports, RunIsCalls}
-use Rattle.runs.proofs.Events.{state-append, events-append, bytes-append, slots-append, admissions-append}
+use Rattle.guarantee.proofs.Events.{state-append, events-append, slots-append}
+use Rattle.runs.proofs.Events.{bytes-append, admissions-append}
 use Rattle.runs.proofs.Offers.{makes-each}
 
 -- a slot that is not refused counts
