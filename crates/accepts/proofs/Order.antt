@@ -86,8 +86,8 @@ carry-comm c p q x y d =
 abbrev storedIn : List Interconnect → ℕ → ℕ → Port → List Interconnect
 storedIn l i p x = set l i (carrying (getD l i noInterconnect) p x)
 
-same-interconnect : (l : List Interconnect) (i p q : ℕ) (x y : Port) → i < length l → storedIn (storedIn l i p x) i q y ≡ set l i (carrying (carrying (getD l i noInterconnect) p x) q y)
-same-interconnect l i p q x y h =
+stored-twice : (l : List Interconnect) (i p q : ℕ) (x y : Port) → i < length l → storedIn (storedIn l i p x) i q y ≡ set l i (carrying (carrying (getD l i noInterconnect) p x) q y)
+stored-twice l i p q x y h =
     ap (λ (c : Interconnect). set (storedIn l i p x) i (carrying c q y)) (getD-set-same l i (carrying (getD l i noInterconnect) p x) noInterconnect h)
     ∙ set-set l i (carrying (getD l i noInterconnect) p x) (carrying (carrying (getD l i noInterconnect) p x) q y)
 
@@ -98,7 +98,7 @@ other-interconnect l i p j q x y d =
 ports-comm : (l : List Interconnect) (i p j q : ℕ) (x y : Port) → i < length l → (i ≡ j → p ≡ q → ⊥) → storedIn (storedIn l i p x) j q y ≡ storedIn (storedIn l j q y) i p x
 ports-comm l i p j q x y h d = elim (ℕ-discrete i j) [
   | yes e ↦ subst (λ (k : ℕ). storedIn (storedIn l i p x) k q y ≡ storedIn (storedIn l k q y) i p x) e
-      (same-interconnect l i p q x y h ∙ ap (set l i) (carry-comm (getD l i noInterconnect) p q x y (d e)) ∙ sym (same-interconnect l i q p y x h))
+      (stored-twice l i p q x y h ∙ ap (set l i) (carry-comm (getD l i noInterconnect) p q x y (d e)) ∙ sym (stored-twice l i q p y x h))
   | no f ↦ other-interconnect l i p j q x y (λ e. f (sym e))
       ∙ set-comm l i j (carrying (getD l i noInterconnect) p x) (carrying (getD l j noInterconnect) q y) f
       ∙ sym (other-interconnect l j q i p y x f)

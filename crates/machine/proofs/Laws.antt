@@ -1,6 +1,6 @@
 -- The laws of the machine. Each follows from what the call does, by its cases.
 use Prim.Native.Nat.{ℕ, _+_, _%_, _≤_, _<_, min}
-use mathlib.Core.Bool.{Bool, true, false, not}
+use mathlib.Core.Bool.{true, false, not}
 use mathlib.Core.Logic.{_↔_}
 use mathlib.Core.Path.{_≡_, refl, sym, _∙_, ap, ap₂, subst}
 use native.Mathlib.Decide.{decLt}
@@ -19,7 +19,7 @@ use Rattle.folds.proofs.Folds.{joined, picked, passed, clash}
 use Rattle.rules.proofs.Sound.{Sound, sound, Kept, keeping, sound-of, kept-of, keeps-of}
 use Rattle.rules.proofs.Beneath.{On, only, only-same, only-other, root-zero}
 use Rattle.turns.specs.Turns.{turnPort, after}
-use Rattle.machine.specs.Machine.{Answer, admitted, served, idle, refused, Outcome, outcome, freshState, admit, limitsAnswer, verdictOf, offered, opens, lastSlot, tick, chosen, takeOne, slotted}
+use Rattle.machine.specs.Machine.{admitted, served, idle, refused, Outcome, freshState, admit, limitsAnswer, verdictOf, offered, opens, lastSlot, tick, chosen, takeOne, slotted}
 use Rattle.turns.proofs.Descent.{Turned, Unturned, Choice, choice}
 use Rattle.machine.proofs.Cases.{Offered, refuses, admits, offer-cases, Stops, stopped, Slotted, stops, idles, serves, slot-cases}
 use Rattle.machine.proofs.Keeps.{zeros, fresh-kept, tick-kept, admit-waiting, admit-admitted, admit-kept, take-waiting, take-kept}

@@ -93,17 +93,6 @@ module _ (t : Tree) (s : State) (a : ℕ) where
   pub offer-answered : (v : Answer) → v ≡ verdictOf t s a → outcome v (onAdmitted v (admit s a) s) ≡ offeredWithin t s a
   offer-answered v e = ap (λ (x : Answer). outcome x (onAdmitted x (admit s a) s)) e
 
-  module _ (h : a < t .accs) where
-    pub offer-8 : limitOf t a ≤ outstandingOf s a → outcome (refused 8) s ≡ offeredWithin t s a
-    offer-8 w = offer-answered (refused 8) (limits-8 _ _ (budgetOf t a) (admittedOf s a) w ∙ verdict-known h)
-
-    module _ (w : outstandingOf s a < limitOf t a) where
-      pub offer-9 : budgetOf t a ≤ admittedOf s a → outcome (refused 9) s ≡ offeredWithin t s a
-      offer-9 b = offer-answered (refused 9) (limits-9 _ _ _ _ w b ∙ verdict-known h)
-
-      pub offer-admitted : admittedOf s a < budgetOf t a → outcome admitted (admit s a) ≡ offeredWithin t s a
-      offer-admitted b = offer-answered admitted (limits-admitted _ _ _ _ w b ∙ verdict-known h)
-
 -- the tests of a slot, in the definition's order
 module _ (t : Tree) (s : State) where
   pub slot-11 : keeps t s ≡ false → outcome (refused 11) s ≡ slotted t s

@@ -23,9 +23,9 @@ module _ (n : ℕ) (t : Tree) (v : List ℕ) where
   unfolding childLine
   child-taken f = picked _ _ _ (yes-not _ f)
 
-  pub child-level : isEmpty (portOf t (getD v 1 0) (getD v 2 0)) ≡ true → 4 ≤ levelOf t (getD v 1 0) → childLine n t v ≡ refusedAt Level n
+  pub child-deep : isEmpty (portOf t (getD v 1 0) (getD v 2 0)) ≡ true → 4 ≤ levelOf t (getD v 1 0) → childLine n t v ≡ refusedAt Level n
   unfolding childLine
-  child-level f l = passed _ _ _ (no-not _ f) ∙ picked _ _ _ (le-leb _ _ l)
+  child-deep f l = passed _ _ _ (no-not _ f) ∙ picked _ _ _ (le-leb _ _ l)
 
   pub child-given : isEmpty (portOf t (getD v 1 0) (getD v 2 0)) ≡ true → levelOf t (getD v 1 0) < 4 → childLine n t v ≡ given (withChild t (getD v 0 0) (getD v 1 0) (getD v 2 0) (getD v 3 0))
   unfolding childLine

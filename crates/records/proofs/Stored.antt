@@ -16,8 +16,8 @@ use Rattle.records.specs.Records.{withPort, withInterconnect, busOf, wit
 
 module _ (t : Tree) (v : List ℕ) where
   -- an int line that has room is in its limits, and there is an entry left; and the other way
-  pub room : hasRoom t v ≡ true → (limitsKept IntLine v ≡ true) × (t .ints < 15)
-  room e = let b = both _ _ e in (b .0, ltb-true _ _ (b .1))
+  pub room-kept : hasRoom t v ≡ true → (limitsKept IntLine v ≡ true) × (t .ints < 15)
+  room-kept e = let b = both _ _ e in (b .0, ltb-true _ _ (b .1))
 
   pub has-room : limitsKept IntLine v ≡ true → t .ints < 15 → hasRoom t v ≡ true
   has-room e h = joined _ _ e (lt-ltb _ _ h)

@@ -4,7 +4,7 @@ use Prim.Native.Nat.{ℕ, zero, suc, _+_, _≤_, _<_}
 use mathlib.Core.List.{List, [], _∷_}
 use mathlib.Core.Logic.{_↔_, _⊎_, inl, inr}
 use mathlib.Core.Path.{_≡_, refl, sym, _∙_, ap, ap₂, subst, subst₂}
-use native.Mathlib.Decide.{decLt, ℕ-discrete, le-ind}
+use native.Mathlib.Decide.{decLt, ℕ-discrete}
 use native.Mathlib.Omega.{arith}
 use lib.Dec.{eqb}
 use borrow.Author.Tests.{eq-eqb, ne-eqb}
@@ -144,11 +144,6 @@ module _ (t : Tree) (S : Sound t) where
   settled (suc n) w j l h =
       sum-cong 8 _ _ (λ p b. at-port (λ P. under w (inside n t w) P ≡ under w (inside (suc n) t w) P) j p l b refl
       (λ _ _ _ _. refl) (λ k z lk e _. settled n w k lk (omega (arith, child-level k j z lk e))))
-
-  pub settled-from : (n m : ℕ) (w : ℕ → ℕ) (j : ℕ) → j < t .ints → 5 ≤ n + levelOf t j → n ≤ m
-      → inside n t w j ≡ inside m t w j
-  settled-from n m w j l h =
-      le-ind (λ k. inside n t w j ≡ inside k t w j) refl (λ k b e. e ∙ settled k w j l (omega arith)) m
 
   pub child-lane : (k j q : ℕ) → 0 < k → k < t .ints → parentOf t k ≡ j → parentPortOf t k ≡ q
       → above 15 t k ≡ lane t j q

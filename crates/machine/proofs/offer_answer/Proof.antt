@@ -1,6 +1,6 @@
 -- `offer_answer` meets its contract: the test of the number picks 7 or the answer of the limits, which leaves room where it
 -- admits.
-use mathlib.Core.Path.{_≡_, ap, ap₂, sym, _∙_}
+use mathlib.Core.Path.{ap, ap₂, sym, _∙_}
 use Prim.Native.Nat.{ℕ}
 use native.Mathlib.Omega.{arith}
 use borrow.Author.Needs.{needs}

@@ -7,17 +7,17 @@ use lib.Dec.{lit<}
 use borrow.Author.Needs.{needs}
 use Rattle.lines.specs.declared.Kind.the-variants.{IntLine}
 use Rattle.lines.proofs.Limits.{most}
-use Rattle.records.proofs.Stored.{room, child-stored}
+use Rattle.records.proofs.Stored.{room-kept, child-stored}
 use Rattle.placing.specs.Placing.{given}
-use Rattle.placing.proofs.Tests.{child-taken, child-level, child-given}
+use Rattle.placing.proofs.Tests.{child-taken, child-deep, child-given}
 use Rattle.placing.proofs.child_line.Statement.{statement}
 use Rattle.placing.proofs.child_line.Tie as tie
 
 cast-parent : tie.Need-cast-parent
-cast-parent c = omega (arith, most IntLine (c .args .t3) (room (c .args .t) (c .args .t3) (c .pre) .0) 1 (lit< tt))
+cast-parent c = omega (arith, most IntLine (c .args .t3) (room-kept (c .args .t) (c .args .t3) (c .pre) .0) 1 (lit< tt))
 
 cast-port : tie.Need-cast-port
-cast-port c = omega (arith, most IntLine (c .args .t3) (room (c .args .t) (c .args .t3) (c .pre) .0) 2 (lit< tt))
+cast-port c = omega (arith, most IntLine (c .args .t3) (room-kept (c .args .t) (c .args .t3) (c .pre) .0) 2 (lit< tt))
 
 returns : tie.Need-returns
 returns c =
@@ -25,7 +25,7 @@ returns c =
 
 returns-2 : tie.Need-returns-2
 returns-2 c =
-    c .refused2 .ensures ∙ sym (child-level _ _ _ (sym (c .before .before .before .before .is-free .ensures) ∙ not-false _ (c .before .before .before .if1 .left)) (subst (λ (k : ℕ). 4 ≤ k) (c .before .before .level-of .ensures) (c .before .if2 .taken)))
+    c .refused2 .ensures ∙ sym (child-deep _ _ _ (sym (c .before .before .before .before .is-free .ensures) ∙ not-false _ (c .before .before .before .if1 .left)) (subst (λ (k : ℕ). 4 ≤ k) (c .before .before .level-of .ensures) (c .before .if2 .taken)))
 
 returns-3 : tie.Need-returns-3
 returns-3 c =

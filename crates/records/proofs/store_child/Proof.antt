@@ -11,7 +11,7 @@ use Rattle.lines.specs.declared.Kind.the-variants.{IntLine}
 use Rattle.lines.specs.Lines.{limitsKept}
 use Rattle.lines.proofs.Limits.{most}
 use Rattle.records.specs.Records.{hasRoom, childStored}
-use Rattle.records.proofs.Stored.{room, child-stored, child-entry}
+use Rattle.records.proofs.Stored.{room-kept, child-stored, child-entry}
 use Rattle.records.proofs.store_child.Statement.{statement}
 use Rattle.records.proofs.store_child.Tie as tie
 
@@ -19,7 +19,7 @@ held : (c : tie.Else1) → hasRoom (c .before .before .args .t) (c .before .befo
 held c = sym (c .before .has-room .ensures) ∙ not-false _ (c .if1 .left)
 
 kept : (c : tie.Else1) → limitsKept IntLine (c .before .before .args .t2) ≡ true
-kept c = room (c .before .before .args .t) (c .before .before .args .t2) (held c) .0
+kept c = room-kept (c .before .before .args .t) (c .before .before .args .t2) (held c) .0
 
 returns : tie.Need-returns
 unfolding childStored
@@ -44,7 +44,7 @@ cast-with-interconnect c = omega (arith, most IntLine (c .before .before .before
 with-interconnect-requires : tie.Need-with-interconnect-requires
 with-interconnect-requires c κs =
     let a = c .before .before .before .args in
-    omega (arith, most IntLine (a .t2) (kept (c .before)) 0 (lit< tt), ap (λ (t : Tree). t .ints) (c .with-port .ensures), room (a .t) (a .t2) (held (c .before)) .1)
+    omega (arith, most IntLine (a .t2) (kept (c .before)) 0 (lit< tt), ap (λ (t : Tree). t .ints) (c .with-port .ensures), room-kept (a .t) (a .t2) (held (c .before)) .1)
 
 returns-2 : tie.Need-returns-2
 returns-2 c =

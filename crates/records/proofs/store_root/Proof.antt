@@ -9,7 +9,7 @@ use Rattle.folds.proofs.Folds.{passed}
 use Rattle.lines.specs.declared.Kind.the-variants.{IntLine}
 use Rattle.lines.proofs.Limits.{most}
 use Rattle.records.specs.Records.{hasRoom, rootStored}
-use Rattle.records.proofs.Stored.{room, root-stored}
+use Rattle.records.proofs.Stored.{room-kept, root-stored}
 use Rattle.records.proofs.store_root.Statement.{statement}
 use Rattle.records.proofs.store_root.Tie as tie
 
@@ -22,11 +22,11 @@ returns c = sym (passed _ _ _ (sym (c .before .has-room .ensures) ∙ not-true _
 
 cast-with-interconnect : tie.Need-cast-with-interconnect
 cast-with-interconnect c =
-    let a = c .before .before .args in omega (arith, most IntLine (a .t2) (room (a .t) (a .t2) (held c) .0) 3 (lit< tt))
+    let a = c .before .before .args in omega (arith, most IntLine (a .t2) (room-kept (a .t) (a .t2) (held c) .0) 3 (lit< tt))
 
 with-interconnect-requires : tie.Need-with-interconnect-requires
 with-interconnect-requires c κs =
-    let a = c .before .before .args in omega (arith, room (a .t) (a .t2) (held c) .1)
+    let a = c .before .before .args in omega (arith, room-kept (a .t) (a .t2) (held c) .1)
 
 returns-2 : tie.Need-returns-2
 returns-2 c = c .with-interconnect .ensures ∙ sym (root-stored _ _ (held (c .before)))
