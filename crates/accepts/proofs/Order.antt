@@ -31,7 +31,8 @@ use Rattle.lines.specs.declared.Kind.{Kind}
 use Rattle.lines.specs.declared.Kind.the-variants.{AccLine}
 use Rattle.lines.specs.declared.Line.{Line}
 use Rattle.lines.specs.Lines.{lineOf, inTree, shaped, limitsKept}
-use Rattle.records.specs.Records.{emptyTree, carrying, accOf, withAcc}
+use Rattle.model.specs.Builders.{withInterconnects, withAccelerators, carrying}
+use Rattle.records.specs.Records.{emptyTree, accOf, withAcc}
 use Rattle.placing.specs.Placing.{refusedAt, given, accLine, recordLine, treeLine}
 use Rattle.reader.specs.TreeFile.{onward, readLines, readTree}
 use Rattle.lines.proofs.Limits.{least}
@@ -109,10 +110,10 @@ accs-comm n a b = omega arith
 -- two accelerators of different numbers and ports are stored in either order
 acc-comm : (t : Tree) (v w : List ℕ) → getD v 1 0 < length (t .interconnects) → (getD v 0 0 ≡ getD w 0 0 → ⊥) → (getD v 1 0 ≡ getD w 1 0 → getD v 2 0 ≡ getD w 2 0 → ⊥) → withAcc (withAcc t v) w ≡ withAcc (withAcc t w) v
 acc-comm t v w h d f =
-    ap₂ (λ (l : List Interconnect) (m : List Accelerator). record { bus = t .bus; interconnects = l; accelerators = m; ints = t .ints; accs = max (max (t .accs) (getD v 0 0 + 1)) (getD w 0 0 + 1) })
+    ap₂ (λ (l : List Interconnect) (m : List Accelerator). withAccelerators (withInterconnects t (t .ints) l) (max (max (t .accs) (getD v 0 0 + 1)) (getD w 0 0 + 1)) m)
     (ports-comm (t .interconnects) (getD v 1 0) (getD v 2 0) (getD w 1 0) (getD w 2 0) (Acc (getD v 0 0)) (Acc (getD w 0 0)) h f)
     (set-comm (t .accelerators) (getD v 0 0) (getD w 0 0) (accOf v) (accOf w) d)
-    ∙ ap (λ (k : ℕ). record { bus = t .bus; interconnects = withAcc (withAcc t w) v .interconnects; accelerators = withAcc (withAcc t w) v .accelerators; ints = t .ints; accs = k }) (accs-comm (t .accs) (getD v 0 0 + 1) (getD w 0 0 + 1))
+    ∙ ap (λ (k : ℕ). withAccelerators (withAcc (withAcc t w) v) k (withAcc (withAcc t w) v .accelerators)) (accs-comm (t .accs) (getD v 0 0 + 1) (getD w 0 0 + 1))
 
 -- two accepted acc lines, one after the other
 module _ (t : Tree) (x y : Line) (P : Partial t) (X : Placed t x) (Y : Placed (withAcc t (x .values)) y) where

@@ -3,14 +3,19 @@
 -- Answer               what an offer or a slot answers: an offer is admitted, a slot serves an accelerator or is idle, and
 --                      either is refused by a number of document 01's table
 -- Outcome              a call's answer and the state that it returns; outcome a s: the answer a with the state s
--- zeroState            the state with nothing in it
 -- freshState t         "At the start nothing waits, all admitted counts and the slot are 0, every allowance is 0 and the
 --                      last port of every interconnect in the tree is 7"
 -- Start                what the start answers: started, or refused by a number
 -- Beginning            the start's answer and the state that it returns; beginning a s: the answer a with the state s
 -- freshened t          the starting state, or 11, and then no state but zeros
 -- admit s a            "waiting and admitted rise by one"
--- offeredWithin t s a  the offer of one transaction once configuration and state have passed: 7, 8, 9, or admitted
+-- limitsAnswer l o b n what an offer answers to an accelerator with outstanding limit l and budget b, of which o are
+--                      outstanding and n were admitted in this window: 8, 9, or admitted
+-- verdictOf t s a      what the offer of one transaction answers once configuration and state have passed: 7, 8, 9, or
+--                      admitted
+-- onAdmitted v x y     x where the answer v is admitted, else y
+-- offeredWithin t s a  that answer, with the state that an admission changes ("The first that holds refuses, and nothing
+--                      changes")
 -- offered t s a        the offer of one transaction: 11, 7, 8, 9 in this order, or admitted
 -- noneWaits s          nothing waits
 -- opens t n            slot n + 1 is in another window than slot n
@@ -30,6 +35,7 @@ use Rattle.model.specs.declared.Tree.{Tree}
 use Rattle.model.specs.declared.State.{State}
 use Rattle.folds.specs.Fold.{pick, all}
 use Rattle.model.specs.Tree.{limitOf, budgetOf, windowOf, waitingOf, outstandingOf, admittedOf}
+use Rattle.model.specs.Builders.{zeroState, withCounts, withTurns, atSlot}
 use Rattle.rules.specs.Rules.{treeKeeps, keeps}
 use Rattle.turns.specs.Turns.{who, after}
 
@@ -46,25 +52,8 @@ pub record Outcome : Type 0 where
 abbrev pub outcome : Answer → State → Outcome
 outcome a s = record { answer = a; state = s }
 
-abbrev pub zeroState : State
-zeroState =
-    record {
-      waiting = replicate 32 0;
-      admitted = replicate 32 0;
-      last = replicate 15 0;
-      allowance = replicate 15 0;
-      slot = 0;
-    }
-
 abbrev pub freshState : Tree → State
-freshState t =
-    record {
-      waiting = replicate 32 0;
-      admitted = replicate 32 0;
-      last = replicate (t .ints) 7 ++ replicate (15 - t .ints) 0;
-      allowance = replicate 15 0;
-      slot = 0;
-    }
+freshState t = withTurns zeroState (replicate (t .ints) 7 ++ replicate (15 - t .ints) 0) (replicate 15 0)
 
 pub data Start : Type 0 where
   started : Start
@@ -81,21 +70,24 @@ unfoldable pub freshened : Tree → Beginning
 freshened t = pick (treeKeeps t) (beginning started (freshState t)) (beginning (notStarted 11) zeroState)
 
 abbrev pub admit : State → ℕ → State
-admit s a =
-    record {
-      waiting = set (s .waiting) a (waitingOf s a + 1);
-      admitted = set (s .admitted) a (admittedOf s a + 1);
-      last = s .last;
-      allowance = s .allowance;
-      slot = s .slot;
-    }
+admit s a = withCounts s (set (s .waiting) a (waitingOf s a + 1)) (set (s .admitted) a (admittedOf s a + 1))
+
+abbrev pub limitsAnswer : ℕ → ℕ → ℕ → ℕ → Answer
+limitsAnswer limit outstanding budget count =
+    pick (leb limit outstanding) (refused 8) (pick (leb budget count) (refused 9) admitted)
+
+abbrev pub verdictOf : Tree → State → ℕ → Answer
+verdictOf t s a =
+    pick (leb (t .accs) a) (refused 7) (limitsAnswer (limitOf t a) (outstandingOf s a) (budgetOf t a) (admittedOf s a))
+
+abbrev pub onAdmitted : {A : Type 0} → Answer → A → A → A
+onAdmitted admitted x y = x
+onAdmitted (served a) x y = y
+onAdmitted idle x y = y
+onAdmitted (refused n) x y = y
 
 abbrev pub offeredWithin : Tree → State → ℕ → Outcome
-offeredWithin t s a =
-    pick (leb (t .accs) a) (outcome (refused 7) s)
-    (pick (leb (limitOf t a) (outstandingOf s a)) (outcome (refused 8) s)
-    (pick (leb (budgetOf t a) (admittedOf s a)) (outcome (refused 9) s)
-    (outcome admitted (admit s a))))
+offeredWithin t s a = outcome (verdictOf t s a) (onAdmitted (verdictOf t s a) (admit s a) s)
 
 unfoldable pub offered : Tree → State → ℕ → Outcome
 offered t s a = pick (not (keeps t s)) (outcome (refused 11) s) (offeredWithin t s a)
@@ -107,14 +99,7 @@ abbrev pub opens : Tree → ℕ → Bool
 opens t n = not (eqb (windowOf t (n + 1)) (windowOf t n))
 
 unfoldable pub tick : Tree → State → State
-tick t s =
-    record {
-      waiting = s .waiting;
-      admitted = pick (opens t (s .slot)) (replicate 32 0) (s .admitted);
-      last = s .last;
-      allowance = s .allowance;
-      slot = s .slot + 1;
-    }
+tick t s = atSlot s (pick (opens t (s .slot)) (replicate 32 0) (s .admitted)) (s .slot + 1)
 
 abbrev pub lastSlot : ℕ
 lastSlot = 4294967295
@@ -123,14 +108,7 @@ abbrev pub chosen : Tree → State → ℕ
 chosen t s = who 4 t s 0
 
 abbrev pub takeOne : State → ℕ → State
-takeOne s a =
-    record {
-      waiting = set (s .waiting) a (waitingOf s a - 1);
-      admitted = s .admitted;
-      last = s .last;
-      allowance = s .allowance;
-      slot = s .slot;
-    }
+takeOne s a = withCounts s (set (s .waiting) a (waitingOf s a - 1)) (s .admitted)
 
 abbrev pub serve : Tree → State → State
 serve t s = takeOne (after 4 t s 0) (chosen t s)

@@ -50,19 +50,19 @@ eight-ports (suc n) h = rw (sub-one, pow-suc) (omega (arith, mul-left-comm 8 255
 pub four-levels : (n : ℕ) → n ≤ 4 → 255 * 8 ^ n ≤ 1044480
 four-levels n h = mul-le-mul-left 255 (pow-le-pow-right (lit< tt) h)
 
-pub above-none : (n : ℕ) (t : Tree) (j : ℕ) → n ≡ 0 → 0 ≡ length (above n t j)
+pub parents-none : (n : ℕ) (t : Tree) (j : ℕ) → n ≡ 0 → 0 ≡ length (above n t j)
 unfolding above
-above-none n t j e = rw e
+parents-none n t j e = rw e
 
-pub above-root : (n : ℕ) (t : Tree) (j : ℕ) → j ≡ 0 → 0 ≡ length (above n t j)
+pub parents-root : (n : ℕ) (t : Tree) (j : ℕ) → j ≡ 0 → 0 ≡ length (above n t j)
 unfolding above
-above-root zero t j e = refl
-above-root (suc n) t j e = simp (eq-eqb j 0 e)
+parents-root zero t j e = refl
+parents-root (suc n) t j e = simp (eq-eqb j 0 e)
 
-pub above-step : (n : ℕ) (t : Tree) (j : ℕ) → (n ≡ 0 → ⊥) → (j ≡ 0 → ⊥) → length (above (n - 1) t (parentOf t j)) + 1 ≡ length (above n t j)
+pub parents-step : (n : ℕ) (t : Tree) (j : ℕ) → (n ≡ 0 → ⊥) → (j ≡ 0 → ⊥) → length (above (n - 1) t (parentOf t j)) + 1 ≡ length (above n t j)
 unfolding above
-above-step zero t j h k = absurd (h refl)
-above-step (suc n) t j h k = simp (sub-one, ne-eqb j 0 k, add-one)
+parents-step zero t j h k = absurd (h refl)
+parents-step (suc n) t j h k = simp (sub-one, ne-eqb j 0 k, add-one)
 
 pub sum-turn : (p : ℕ) (f : ℕ → ℕ) (s r : ℕ) → s ≡ sum p f → r ≡ f p → s + r ≡ sum (p + 1) f
 sum-turn p f s r e d = cc (sum-more p f)

@@ -5,7 +5,6 @@
 -- interconnect j p g c interconnect on port p of interconnect j, with granularity g and the port table c
 -- block j p phi b      accelerator on port p of interconnect j, with outstanding limit phi and budget b
 -- tree P xs ys         the configuration with window P, interconnects xs and accelerators ys
--- withJob r w c T x    accelerator x with r reads, w writes, computing c and period T
 -- chainWith b x        three interconnects, each at port 1 of the one above, with x for accelerator 1 and budget b for the
 --                      others
 -- chainOf b            the tree of case 1, each budget b; chain: with budget 8, as there
@@ -24,6 +23,7 @@ use Rattle.model.specs.declared.PortCell.{PortCell}
 use Rattle.model.specs.declared.Port.{Port}
 use Rattle.model.specs.declared.Port.the-variants.{Empty, Acc, Int}
 use Rattle.model.specs.Tree.{emptyCell, noInterconnect, noAccelerator}
+use Rattle.model.specs.Builders.{withJob}
 
 abbrev pub ports : Port → Port → List PortCell
 ports x y = record { port = x } ∷ record { port = y } ∷ replicate 6 emptyCell
@@ -43,19 +43,6 @@ tree P xs ys =
       accelerators = ys ++ replicate (32 - length ys) noAccelerator;
       ints = length xs;
       accs = length ys;
-    }
-
-abbrev pub withJob : ℕ → ℕ → ℕ → ℕ → Accelerator → Accelerator
-withJob r w c T x =
-    record {
-      interconnect = x .interconnect;
-      port = x .port;
-      phi = x .phi;
-      budget = x .budget;
-      reads = r;
-      writes = w;
-      computing = c;
-      period = T;
     }
 
 abbrev pub chainWith : ℕ → Accelerator → Tree

@@ -30,7 +30,8 @@ use Rattle.lines.specs.declared.Kind.{Kind}
 use Rattle.lines.specs.declared.Kind.the-variants.{NoRecord, BusLine, IntLine, AccLine, OfferLine}
 use Rattle.lines.specs.declared.Line.{Line}
 use Rattle.lines.specs.declared.FileAnswer.the-variants.{Accepted, Refused}
-use Rattle.records.specs.Records.{emptyTree, busOf, withBus, withRoot, withChild, withAcc}
+use Rattle.model.specs.Builders.{withBus}
+use Rattle.records.specs.Records.{emptyTree, busOf, withRoot, withChild, withAcc}
 use Rattle.placing.specs.declared.TreeRead.{TreeRead}
 use Rattle.lines.specs.Lines.{valueAt, dashAt, shaped, limitsKept, inTree}
 

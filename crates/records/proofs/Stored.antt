@@ -11,7 +11,8 @@ use Rattle.model.specs.declared.Port.the-variants.{Acc, Int}
 use Rattle.folds.proofs.Folds.{picked, both, joined}
 use Rattle.lines.specs.declared.Kind.the-variants.{BusLine, IntLine, AccLine}
 use Rattle.lines.specs.Lines.{limitsKept}
-use Rattle.records.specs.Records.{withPort, withInterconnect, busOf, withBus, withRoot, withChild, accOf, withAcc, busStored, hasRoom, rootStored, childStored, accStored}
+use Rattle.model.specs.Builders.{withBus, withAccelerators}
+use Rattle.records.specs.Records.{withPort, withInterconnect, busOf, withRoot, withChild, accOf, withAcc, busStored, hasRoom, rootStored, childStored, accStored}
 
 module _ (t : Tree) (v : List ℕ) where
   -- an int line that has room is in its limits, and there is an entry left; and the other way
@@ -43,7 +44,9 @@ child-entry t v w r e f =
     f ∙ ap (λ (w : Tree). withInterconnect w (getD v 0 0) (getD v 1 0) (getD v 2 0) (getD v 3 0)) e
 
 -- an accelerator is stored in its port, its record and the count
-pub acc-entry : (t : Tree) (v : List ℕ) (w : Tree) (x : Accelerator) (k : ℕ) → w ≡ withPort t (getD v 1 0) (getD v 2 0) (Acc (getD v 0 0)) → x ≡ accOf v → k ≡ max (t .accs) (getD v 0 0 + 1) → record { bus = w .bus; interconnects = w .interconnects; accelerators = set (w .accelerators) (getD v 0 0) x; ints = w .ints; accs = k } ≡ withAcc t v
+pub acc-entry : (t : Tree) (v : List ℕ) (w : Tree) (x : Accelerator) (k : ℕ)
+    → w ≡ withPort t (getD v 1 0) (getD v 2 0) (Acc (getD v 0 0)) → x ≡ accOf v → k ≡ max (t .accs) (getD v 0 0 + 1)
+    → withAccelerators w k (set (w .accelerators) (getD v 0 0) x) ≡ withAcc t v
 acc-entry t v w x k e f g =
-    ap (λ (w : Tree). record { bus = w .bus; interconnects = w .interconnects; accelerators = set (w .accelerators) (getD v 0 0) x; ints = w .ints; accs = k }) e
-    ∙ ap₂ (λ (x : Accelerator) (k : ℕ). record { bus = t .bus; interconnects = withPort t (getD v 1 0) (getD v 2 0) (Acc (getD v 0 0)) .interconnects; accelerators = set (t .accelerators) (getD v 0 0) x; ints = t .ints; accs = k }) f g
+    ap (λ (w : Tree). withAccelerators w k (set (w .accelerators) (getD v 0 0) x)) e
+    ∙ ap₂ (λ (x : Accelerator) (k : ℕ). withAccelerators (withPort t (getD v 1 0) (getD v 2 0) (Acc (getD v 0 0))) k (set (t .accelerators) (getD v 0 0) x)) f g

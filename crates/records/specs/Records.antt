@@ -6,8 +6,6 @@
 --                      what is read so far is held as a tree: a window of 0 says that no bus line was read, a phi of 0
 --                      that the accelerator's line was not read
 -- busOf v, accOf v     the bus and the accelerator that the fields v write
--- withBus t b          tree t with the bus b
--- carrying c p x       interconnect c with port p carrying x
 -- withPort t j p x     tree t with port p of interconnect j carrying x
 -- withInterconnect     tree t with one interconnect more, number j, its eight ports empty
 -- withRoot t g         tree t with the root; withChild t j p q g: with interconnect j on port q of interconnect p
@@ -24,12 +22,12 @@ use lib.ListN.{getD, set, replicate}
 use lib.Dec.{ltb}
 use Rattle.model.specs.declared.Tree.{Tree}
 use Rattle.model.specs.declared.Bus.{Bus}
-use Rattle.model.specs.declared.Interconnect.{Interconnect}
 use Rattle.model.specs.declared.Accelerator.{Accelerator}
 use Rattle.model.specs.declared.Port.{Port}
 use Rattle.model.specs.declared.Port.the-variants.{Acc, Int}
 use Rattle.folds.specs.Fold.{pick}
 use Rattle.model.specs.Tree.{emptyCell, noInterconnect, noAccelerator, interconnectOf}
+use Rattle.model.specs.Builders.{withBus, withInterconnects, withAccelerators, carrying}
 use Rattle.lines.specs.declared.Kind.the-variants.{BusLine, IntLine, AccLine}
 use Rattle.lines.specs.Lines.{limitsKept}
 
@@ -61,31 +59,13 @@ busOf v =
       burst = getD v 9 0;
     }
 
-abbrev pub withBus : Tree → Bus → Tree
-withBus t b = record { bus = b; interconnects = t .interconnects; accelerators = t .accelerators; ints = t .ints; accs = t .accs }
-
-abbrev pub carrying : Interconnect → ℕ → Port → Interconnect
-carrying c p x = record { parent = c .parent; port = c .port; granularity = c .granularity; ports = set (c .ports) p (record { port = x }) }
-
 abbrev pub withPort : Tree → ℕ → ℕ → Port → Tree
-withPort t j p x =
-    record {
-      bus = t .bus;
-      interconnects = set (t .interconnects) j (carrying (interconnectOf t j) p x);
-      accelerators = t .accelerators;
-      ints = t .ints;
-      accs = t .accs;
-    }
+withPort t j p x = withInterconnects t (t .ints) (set (t .interconnects) j (carrying (interconnectOf t j) p x))
 
 abbrev pub withInterconnect : Tree → ℕ → ℕ → ℕ → ℕ → Tree
 withInterconnect t j parent port g =
-    record {
-      bus = t .bus;
-      interconnects = set (t .interconnects) j (record { parent = parent; port = port; granularity = g; ports = replicate 8 emptyCell });
-      accelerators = t .accelerators;
-      ints = t .ints + 1;
-      accs = t .accs;
-    }
+    withInterconnects t (t .ints + 1)
+    (set (t .interconnects) j (record { parent = parent; port = port; granularity = g; ports = replicate 8 emptyCell }))
 
 abbrev pub withRoot : Tree → ℕ → Tree
 withRoot t g = withInterconnect t 0 0 0 g
@@ -108,13 +88,8 @@ accOf v =
 
 abbrev pub withAcc : Tree → List ℕ → Tree
 withAcc t v =
-    record {
-      bus = t .bus;
-      interconnects = withPort t (getD v 1 0) (getD v 2 0) (Acc (getD v 0 0)) .interconnects;
-      accelerators = set (t .accelerators) (getD v 0 0) (accOf v);
-      ints = t .ints;
-      accs = max (t .accs) (getD v 0 0 + 1);
-    }
+    withAccelerators (withPort t (getD v 1 0) (getD v 2 0) (Acc (getD v 0 0))) (max (t .accs) (getD v 0 0 + 1))
+    (set (t .accelerators) (getD v 0 0) (accOf v))
 
 unfoldable pub busStored : Tree → List ℕ → Tree
 busStored t v = pick (limitsKept BusLine v) (withBus t (busOf v)) t

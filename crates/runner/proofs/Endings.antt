@@ -14,7 +14,8 @@ use Rattle.folds.proofs.Folds.{picked, passed, clash}
 use Rattle.text.specs.Text.{lines}
 use Rattle.lines.specs.declared.FileAnswer.{FileAnswer}
 use Rattle.trace.specs.TraceFile.{readTrace, requests}
-use Rattle.machine.specs.Machine.{Start, started, notStarted, Beginning, beginning, zeroState, freshState, freshened}
+use Rattle.model.specs.Builders.{zeroState}
+use Rattle.machine.specs.Machine.{Start, started, notStarted, Beginning, beginning, freshState, freshened}
 use Rattle.runner.specs.Run.{runFor, refusedAt, broken, answered, overwritten, ranOf, bufferAfter}
 
 -- what the start's answer says of the configuration

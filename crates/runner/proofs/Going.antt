@@ -23,7 +23,7 @@ use Rattle.machine.proofs.Cases.{some-waits}
 use Rattle.turns.proofs.Descent.{Choice, choice}
 use Rattle.machine.proofs.Keeps.{zeros, take-waiting}
 use Rattle.machine.proofs.Laws.{offer-others}
-use Rattle.machine.proofs.Steps.{slot-idle, slot-serves}
+use Rattle.machine.proofs.Steps.{idle-within, serves-within}
 use Rattle.machine.proofs.Windows.{window-opens}
 use Rattle.counts.specs.Wiring.{Wired}
 use Rattle.counts.specs.Counts.{Counted}
@@ -117,7 +117,7 @@ module _ (t : Tree) (s : State) (k : keeps t s ≡ true) where
   served-answer = by-waiting (λ _ b a. b ≡ byteOf a) (λ _. refl) (λ _. refl)
 
   pub served-outcome : (s .slot ≡ lastSlot → ⊥) → outcome answer (tick t (servedFrom t s)) ≡ slottedWithin t s
-  served-outcome d = by-waiting (λ r _ a. outcome a (tick t r) ≡ slottedWithin t s) (slot-idle t s d) (slot-serves t s d)
+  served-outcome d = by-waiting (λ r _ a. outcome a (tick t r) ≡ slottedWithin t s) (idle-within t s d) (serves-within t s d)
 
   -- only the accelerator served has less waiting
   pub served-others : (a : ℕ) → (a ≡ byteFrom t s → ⊥) → waitingOf (servedFrom t s) a ≡ waitingOf s a

@@ -21,6 +21,7 @@ use Rattle.rules.proofs.Sound.{Sound, Kept, above-root}
 use Rattle.rules.proofs.Beneath.{On, here, there, no-crossing, lane, at-port, child-level, settled, some-port, child-lane, path-unique, path-up}
 use Rattle.turns.specs.Turns.{liveSet, nextPort, goesOn, turnPort, turnAllowance, reached, who, withTurn, turned, after}
 use Rattle.turns.proofs.Next.{bit-of, next-found}
+use Rattle.turns.proofs.Steps.{choice-same}
 
 -- the turn of interconnect j: its port has something waiting, and its allowance is above zero and within both its limits
 pub record Turn (t : Tree) (s : State) (j : ℕ) : Type 0 where
@@ -54,7 +55,8 @@ pub record Went (t : Tree) (s : State) (l : List Crossing) (a : ℕ) (r : State)
   pub waits : 0 < waitingOf s a
   pub on : (i p : ℕ) → On i p (path t a) → On i p l ⊎ Turned t s r i p
   pub off : (i : ℕ) → On i (turnPort t s i) (path t a) ⊎ Unturned s r i
-  pub frame : Frame s r
+  pub last-size : length (r .last) ≡ length (s .last)
+  pub allowance-size : length (r .allowance) ≡ length (s .allowance)
 
 -- the choice has come to accelerator a from the root: the turns of its path are taken, and no other
 pub record Choice (t : Tree) (s : State) (a : ℕ) (r : State) : Type 0 where
@@ -113,7 +115,8 @@ module _ (t : Tree) (S : Sound t) (s : State) (K : Kept t s) where
       waits = h;
       on = λ i p o. inl (subst (On i p) (ap₂ (lane t) e f) o);
       off = λ i. inr (record { last = refl; allowance = refl });
-      frame = record { waiting = refl; admitted = refl; slot = refl; last-size = refl; allowance-size = refl };
+      last-size = refl;
+      allowance-size = refl;
     },
     here e f,
   )
@@ -153,13 +156,8 @@ module _ (t : Tree) (S : Sound t) (s : State) (K : Kept t s) where
         | yes e ↦ inl (subst (λ x. On x (turnPort t s x) (path t a)) (sym e) (g .1))
         | no d ↦ other i d (g .0 .off i)
       ];
-      frame = record {
-        waiting = g .0 .frame .waiting;
-        admitted = g .0 .frame .admitted;
-        slot = g .0 .frame .slot;
-        last-size = length-set (r .last) _ _ ∙ g .0 .frame .last-size;
-        allowance-size = length-set (r .allowance) _ _ ∙ g .0 .frame .allowance-size;
-      };
+      last-size = length-set (r .last) _ _ ∙ g .0 .last-size;
+      allowance-size = length-set (r .allowance) _ _ ∙ g .0 .allowance-size;
     },
     g .1,
   )
@@ -171,9 +169,9 @@ module _ (t : Tree) (S : Sound t) (s : State) (K : Kept t s) where
       at p o = record {
         turn = u;
         port = path-unique t S a (g .0 .acc) j p (turnPort t s j) o (g .1);
-        last = getD-set-same (r .last) j _ 0 (omega (arith, S .most-ints, K .last-size, g .0 .frame .last-size));
+        last = getD-set-same (r .last) j _ 0 (omega (arith, S .most-ints, K .last-size, g .0 .last-size));
         allowance = getD-set-same (r .allowance) j _ 0
-            (omega (arith, S .most-ints, K .allowance-size, g .0 .frame .allowance-size));
+            (omega (arith, S .most-ints, K .allowance-size, g .0 .allowance-size));
       }
 
       own : (i p : ℕ) → i ≡ j → On i p (path t a) → Turned t s r′ i p
@@ -217,7 +215,13 @@ module _ (t : Tree) (S : Sound t) (s : State) (K : Kept t s) where
     waits = g .waits;
     on = λ i p o. rooted i p (g .on i p o);
     off = λ i d. elim (g .off i) [ inl o ↦ absurd (d o) | inr u ↦ u ];
-    frame = g .frame;
+    frame = record {
+      waiting = choice-same (λ x. x .waiting) (λ x j p o. refl) 4 t s 0;
+      admitted = choice-same (λ x. x .admitted) (λ x j p o. refl) 4 t s 0;
+      slot = choice-same (λ x. x .slot) (λ x j p o. refl) 4 t s 0;
+      last-size = g .last-size;
+      allowance-size = g .allowance-size;
+    };
   }
     where
       g : Went t s (above 15 t 0) (who 4 t s 0) (after 4 t s 0)

@@ -19,6 +19,7 @@ use Rattle.model.specs.declared.Port.{Port}
 use Rattle.model.specs.declared.Port.the-variants.{Empty, Acc, Int}
 use Rattle.folds.specs.Fold.{pick}
 use Rattle.model.specs.Tree.{lastOf, allowanceOf, granularityOf, portOf}
+use Rattle.model.specs.Builders.{withTurns}
 use Rattle.model.specs.Beneath.{waitsUnder}
 use Rattle.folds.proofs.Folds.{picked, passed}
 use Rattle.turns.specs.Turns.{withTurn, bitsBelow, liveSet, nextPort, turnPort, turnAllowance, nobody, reached, who, turned, after}
@@ -26,7 +27,7 @@ use Rattle.turns.proofs.Next.{bits-bound}
 
 pub turn-far : (s : State) (j port allowance : ℕ) → length (s .last) ≡ 15 → length (s .allowance) ≡ 15 → 15 ≤ j → s ≡ withTurn s j port allowance
 turn-far s j port allowance l o h =
-    ap₂ (λ (x y : List ℕ). record { waiting = s .waiting; admitted = s .admitted; last = x; allowance = y; slot = s .slot })
+    ap₂ (withTurns s)
     (sym (set-out (s .last) j port (omega arith))) (sym (set-out (s .allowance) j allowance (omega arith)))
 
 -- the table's index is set and last port
@@ -113,13 +114,15 @@ module _ (n : ℕ) (t : Tree) (s : State) (j port : ℕ) (P : Port) (h : n ≡ 0
       ∙ ap₂ (λ (p a : ℕ). withTurn (turned s (after (n - 1) t s) (portOf t j (turnPort t s j))) j p a) e w
       ∙ after-step n t s j h
 
--- the choice leaves the slot count
-turned-slot : (s : State) (v : ℕ → State) → ((k : ℕ) → v k .slot ≡ s .slot) → (P : Port) → turned s v P .slot ≡ s .slot
-turned-slot s v h Empty = refl
-turned-slot s v h (Acc a) = refl
-turned-slot s v h (Int k) = h k
+-- the choice leaves whatever a turn leaves
+module _ {A : Type 0} (f : State → A) (same : (s : State) (j port allowance : ℕ) → f (withTurn s j port allowance) ≡ f s) where
+  turned-same : (s : State) (v : ℕ → State) → ((k : ℕ) → f (v k) ≡ f s) → (P : Port) → f (turned s v P) ≡ f s
+  turned-same s v h Empty = refl
+  turned-same s v h (Acc a) = refl
+  turned-same s v h (Int k) = h k
 
-pub choice-slot : (n : ℕ) (t : Tree) (s : State) (j : ℕ) → after n t s j .slot ≡ s .slot
-unfolding after
-choice-slot zero t s j = refl
-choice-slot (suc n) t s j = turned-slot s (after n t s) (choice-slot n t s) (portOf t j (turnPort t s j))
+  pub choice-same : (n : ℕ) (t : Tree) (s : State) (j : ℕ) → f (after n t s j) ≡ f s
+  unfolding after
+  choice-same zero t s j = refl
+  choice-same (suc n) t s j =
+      same _ j _ _ ∙ turned-same s (after n t s) (choice-same n t s) (portOf t j (turnPort t s j))

@@ -33,6 +33,7 @@ use Rattle.model.specs.declared.Port.{Port}
 use Rattle.model.specs.declared.Port.the-variants.{Empty, Acc, Int}
 use Rattle.folds.specs.Fold.{pick}
 use Rattle.model.specs.Tree.{portOf, granularityOf, lastOf, allowanceOf}
+use Rattle.model.specs.Builders.{withTurns}
 use Rattle.model.specs.Beneath.{waitsUnder}
 
 unfoldable pub bitsBelow : ℕ → (ℕ → Bool) → ℕ
@@ -78,14 +79,7 @@ who zero t s j = nobody
 who (suc n) t s j = reached (who n t s) (portOf t j (turnPort t s j))
 
 abbrev pub withTurn : State → ℕ → ℕ → ℕ → State
-withTurn s j port allowance =
-    record {
-      waiting = s .waiting;
-      admitted = s .admitted;
-      last = set (s .last) j port;
-      allowance = set (s .allowance) j allowance;
-      slot = s .slot;
-    }
+withTurn s j port allowance = withTurns s (set (s .last) j port) (set (s .allowance) j allowance)
 
 abbrev pub turned : State → (ℕ → State) → Port → State
 turned s v Empty = s

@@ -1,5 +1,5 @@
 // The next port for each set of live ports and each last port: the entry of set s and last port l is at 8 * s + l. Its
-// rule, `nextPort`, is proved over the whole table in proofs/next_port.
+// rule, `nextPort`, is proved over the whole table in proofs/next_ports.
 pub const NEXT: [u8; 2048] = [
     8,
     8,

@@ -1,11 +1,13 @@
 -- `fresh_state` meets its contract: the loop has filled the last ports below the next one.
-use mathlib.Core.Path.{_≡_, ap, _∙_}
+use mathlib.Core.Path.{_≡_, ap, ap₂, _∙_}
 use mathlib.Core.List.{List, _++_}
 use Prim.Native.Nat.{ℕ, _≤_, _-_}
 use native.Mathlib.Omega.{arith}
 use lib.ListN.{drop, set, replicate}
 use borrow.Author.Needs.{needs}
 use borrow.Author.Fill.{fill-none, fill-more}
+use Rattle.model.specs.declared.State.{State}
+use Rattle.model.specs.Builders.{withTurns}
 use Rattle.machine.proofs.Steps.{last-ports}
 use Rattle.machine.proofs.fresh_state.Statement.{statement}
 use Rattle.machine.proofs.fresh_state.Tie as tie
@@ -28,8 +30,9 @@ loop-again c =
 
 returns : tie.Need-returns Inv-loop μ-loop
 returns c =
-    ap (λ (l : List ℕ). record { waiting = replicate 32 0; admitted = replicate 32 0; last = l; allowance = replicate 15 0; slot = 0 })
-    (last-ports (c .before .before .before .args .t) (c .before .loop .last) (c .before .loop .j) (c .before .loop .inv .1) (c .before .loop .inv .0) (c .loop-test .left))
+    let l = c .before .before .loop in
+    ap₂ (λ (s : State) (x : List ℕ). withTurns s x (s .allowance)) (c .zero-state .ensures)
+    (last-ports (c .before .before .before .before .args .t) (l .last) (l .j) (l .inv .1) (l .inv .0) (c .before .loop-test .left))
 
 pub fresh-state-spec : {M : Type 1} → statement M
-fresh-state-spec = tie.close (tie.spec Inv-loop μ-loop (λ c. search needs) loop-holds array-write-last (λ c. search needs) (λ c. search needs) loop-again returns)
+fresh-state-spec = tie.close (tie.spec Inv-loop μ-loop (λ c. search needs) loop-holds array-write-last (λ c. search needs) (λ c. search needs) loop-again (λ c κs. search needs) returns)

@@ -1,12 +1,12 @@
 -- `slot_within` meets its contract: each return is the case of the definition that the tests before it pick.
-use mathlib.Core.Path.{ap, ap₂, sym, _∙_}
+use mathlib.Core.Path.{refl, ap, ap₂, sym, _∙_}
 use Prim.Native.Nat.{ℕ}
 use native.Mathlib.Omega.{arith}
 use borrow.Author.Needs.{needs}
 use Rattle.model.specs.declared.State.{State}
 use Rattle.machine.specs.Machine.{outcome, served, idle, tick, takeOne}
-use Rattle.turns.proofs.Steps.{choice-slot}
-use Rattle.machine.proofs.Steps.{slot-10, slot-idle, slot-serves}
+use Rattle.turns.proofs.Steps.{choice-same}
+use Rattle.machine.proofs.Steps.{slot-10, idle-within, serves-within}
 use Rattle.machine.proofs.slot_within.Statement.{statement}
 use Rattle.machine.proofs.slot_within.Tie as tie
 
@@ -18,12 +18,12 @@ ticked-requires c κs = omega arith
 
 returns-2 : tie.Need-returns-2
 returns-2 c =
-    ap (outcome idle) (c .ticked .ensures) ∙ slot-idle (c .before .before .before .before .before .args .t) (c .before .before .before .before .before .args .s) (c .before .before .before .if1 .left) (sym (c .before .before .none-waits .ensures) ∙ c .before .if2 .taken)
+    ap (outcome idle) (c .ticked .ensures) ∙ idle-within (c .before .before .before .before .before .args .t) (c .before .before .before .before .before .args .s) (c .before .before .before .if1 .left) (sym (c .before .before .none-waits .ensures) ∙ c .before .if2 .taken)
 
 ticked-requires-2 : tie.Need-ticked-requires-2
 ticked-requires-2 c κs =
     let x = c .before .before .before .before .before .before .before .args in
-    let e = ap (λ (r : State). r .slot) (c .take-one .ensures) ∙ ap (λ (r : State). r .slot) (c .before .before .choose .ensures .1) ∙ choice-slot 4 (x .t) (x .s) 0 in
+    let e = ap (λ (r : State). r .slot) (c .take-one .ensures) ∙ ap (λ (r : State). r .slot) (c .before .before .choose .ensures .1) ∙ choice-same (λ (r : State). r .slot) (λ r j p o. refl) 4 (x .t) (x .s) 0 in
     omega arith
 
 returns-3 : tie.Need-returns-3
@@ -31,7 +31,7 @@ returns-3 c =
     let x = c .before .before .before .before .before .before .before .before .args in
     ap₂ (λ (a : ℕ) (r : State). outcome (served a) r) (c .before .before .before .choose .ensures .0)
     (c .ticked2 .ensures ∙ ap (tick (x .t)) (c .before .take-one .ensures ∙ ap₂ takeOne (c .before .before .before .choose .ensures .1) (c .before .before .before .choose .ensures .0)))
-    ∙ slot-serves (c .before .before .before .before .before .before .before .before .args .t) (c .before .before .before .before .before .before .before .before .args .s) (c .before .before .before .before .before .before .if1 .left) (sym (c .before .before .before .before .before .none-waits .ensures) ∙ c .before .before .before .before .if2 .left)
+    ∙ serves-within (c .before .before .before .before .before .before .before .before .args .t) (c .before .before .before .before .before .before .before .before .args .s) (c .before .before .before .before .before .before .if1 .left) (sym (c .before .before .before .before .before .none-waits .ensures) ∙ c .before .before .before .before .if2 .left)
 
 pub slot-within-spec : {M : Type 1} → statement M
 slot-within-spec = tie.close (tie.spec returns (λ c κs. search needs) ticked-requires returns-2 (λ c κs. search needs) (λ c κs. search needs) ticked-requires-2 returns-3)

@@ -7,7 +7,8 @@ use Rattle.model.specs.declared.Bus.{Bus}
 use Rattle.folds.proofs.Folds.{passed}
 use Rattle.lines.specs.declared.Kind.the-variants.{BusLine}
 use Rattle.lines.specs.Lines.{limitsKept}
-use Rattle.records.specs.Records.{withBus, busStored}
+use Rattle.model.specs.Builders.{withBus}
+use Rattle.records.specs.Records.{busStored}
 use Rattle.records.proofs.Stored.{bus-stored}
 use Rattle.records.proofs.store_bus.Statement.{statement}
 use Rattle.records.proofs.store_bus.Tie as tie

@@ -4,7 +4,7 @@ use lib.ListN.{set}
 use borrow.Author.Needs.{needs}
 use Rattle.model.specs.declared.Interconnect.{Interconnect}
 use Rattle.model.specs.Tree.{noInterconnect}
-use Rattle.records.specs.Records.{carrying}
+use Rattle.model.specs.Builders.{withInterconnects, carrying}
 use Rattle.model.proofs.Lists.{any-default, long}
 use Rattle.records.proofs.with_port.Statement.{statement}
 use Rattle.records.proofs.with_port.Tie as tie
@@ -13,7 +13,7 @@ returns : tie.Need-returns
 returns c =
     let a = c .before .args in
     let t = a .t1 in
-    ap (λ (x : Interconnect). record { bus = t .bus; interconnects = set (t .interconnects) (a .j) (carrying x (a .p) (a .x)); accelerators = t .accelerators; ints = t .ints; accs = t .accs })
+    ap (λ (x : Interconnect). withInterconnects t (t .ints) (set (t .interconnects) (a .j) (carrying x (a .p) (a .x))))
     (any-default (t .interconnects) _ noInterconnect (a .j) (search (needs, long)))
 
 pub with-port-spec : {M : Type 1} → statement M

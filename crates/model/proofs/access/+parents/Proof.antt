@@ -9,7 +9,7 @@ use borrow.Fn.PlainCycle.{Measures, is, falls, and}
 use native.Mathlib.Nat.{pos-of-ne-zero}
 use Rattle.model.specs.declared.Interconnect.{Interconnect}
 use Rattle.model.specs.Tree.{above}
-use Rattle.model.proofs.Sums.{above-none, above-root, above-step}
+use Rattle.model.proofs.Sums.{parents-none, parents-root, parents-step}
 use Rattle.model.proofs.access.parents.Reads as parents
 use Rattle.model.proofs.access.parents.Kinds as parents-kinds
 use Rattle.model.proofs.access.+parents.Lts-parents as lts
@@ -31,10 +31,10 @@ calls t = (interconnect-at-reads.Asked, interconnect-at-reads.Learnt, below t, p
 
 module _ (t : ℕ) where
   returns : lts.Need-returns (calls t) (at t) parents.Post
-  returns c = (above-none _ _ _ (c .if1 .taken), search needs)
+  returns c = (parents-none _ _ _ (c .if1 .taken), search needs)
 
   returns-2 : lts.Need-returns-2 (calls t) (at t) parents.Post
-  returns-2 c = (above-root _ _ _ (c .if2 .taken), search needs)
+  returns-2 c = (parents-root _ _ _ (c .if2 .taken), search needs)
 
   interconnect-at-requires : lts.Need-interconnect-at-requires (calls t) (at t) parents.Post
   interconnect-at-requires c κs = search needs
@@ -53,7 +53,7 @@ module _ (t : ℕ) where
       let a = c .before .before .before .before .args in
       let h : (a .n ≡ 0 → ⊥) = c .before .before .before .if1 .left in (
         ap (λ (k : ℕ). k + 1) (c .parents .ensures .0 ∙ ap (λ (x : Interconnect). length (above (a .n - 1) (a .t) (x .parent))) (c .before .interconnect-at .ensures))
-            ∙ above-step (a .n) (a .t) (a .j) h (c .before .before .if2 .left),
+            ∙ parents-step (a .n) (a .t) (a .j) h (c .before .before .if2 .left),
         omega (arith, c .parents .ensures .1, pos-of-ne-zero h),
       )
 

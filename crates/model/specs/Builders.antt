@@ -1,0 +1,72 @@
+-- A state, a configuration and its parts with some fields changed and the others as they were. Who changes a part names what
+-- it changes, so that a new field of a record is an edit of this file and of the values that are written out whole.
+--
+-- zeroState              the state with nothing in it
+-- withCounts s w m       state s with the waiting counts w and the admitted counts m
+-- withTurns s l o        state s with the last ports l and the allowances o
+-- atSlot s m n           state s with the admitted counts m and the slot count n
+-- withBus t b            configuration t with the bus b
+-- withInterconnects t n l  configuration t with n interconnects, those of the list l
+-- withAccelerators t n l   configuration t with n accelerators, those of the list l
+-- carrying c p x         interconnect c with port p carrying x
+-- withJob r w c T x      accelerator x with r reads, w writes, computing c and period T
+use Prim.Native.Nat.{ℕ}
+use mathlib.Core.List.{List}
+use lib.ListN.{set, replicate}
+use Rattle.model.specs.declared.Tree.{Tree}
+use Rattle.model.specs.declared.State.{State}
+use Rattle.model.specs.declared.Bus.{Bus}
+use Rattle.model.specs.declared.Interconnect.{Interconnect}
+use Rattle.model.specs.declared.Accelerator.{Accelerator}
+use Rattle.model.specs.declared.Port.{Port}
+
+abbrev pub zeroState : State
+zeroState =
+    record {
+      waiting = replicate 32 0;
+      admitted = replicate 32 0;
+      last = replicate 15 0;
+      allowance = replicate 15 0;
+      slot = 0;
+    }
+
+abbrev pub withCounts : State → List ℕ → List ℕ → State
+withCounts s waiting admitted =
+    record { waiting = waiting; admitted = admitted; last = s .last; allowance = s .allowance; slot = s .slot }
+
+abbrev pub withTurns : State → List ℕ → List ℕ → State
+withTurns s last allowance =
+    record { waiting = s .waiting; admitted = s .admitted; last = last; allowance = allowance; slot = s .slot }
+
+abbrev pub atSlot : State → List ℕ → ℕ → State
+atSlot s admitted slot =
+    record { waiting = s .waiting; admitted = admitted; last = s .last; allowance = s .allowance; slot = slot }
+
+abbrev pub withBus : Tree → Bus → Tree
+withBus t bus =
+    record { bus = bus; interconnects = t .interconnects; accelerators = t .accelerators; ints = t .ints; accs = t .accs }
+
+abbrev pub withInterconnects : Tree → ℕ → List Interconnect → Tree
+withInterconnects t ints interconnects =
+    record { bus = t .bus; interconnects = interconnects; accelerators = t .accelerators; ints = ints; accs = t .accs }
+
+abbrev pub withAccelerators : Tree → ℕ → List Accelerator → Tree
+withAccelerators t accs accelerators =
+    record { bus = t .bus; interconnects = t .interconnects; accelerators = accelerators; ints = t .ints; accs = accs }
+
+abbrev pub carrying : Interconnect → ℕ → Port → Interconnect
+carrying c p x =
+    record { parent = c .parent; port = c .port; granularity = c .granularity; ports = set (c .ports) p (record { port = x }) }
+
+abbrev pub withJob : ℕ → ℕ → ℕ → ℕ → Accelerator → Accelerator
+withJob r w c T x =
+    record {
+      interconnect = x .interconnect;
+      port = x .port;
+      phi = x .phi;
+      budget = x .budget;
+      reads = r;
+      writes = w;
+      computing = c;
+      period = T;
+    }
