@@ -20,7 +20,7 @@ use Rattle.machine.specs.Machine.{Answer, admitted}
 use Rattle.machine.specs.Calls.{Call, slot}
 use Rattle.machine.proofs.Laws.{Ticked}
 use Rattle.guarantee.specs.Guarantee.{Event, slotCounts, admitsOne, admissionsFrom}
-use Rattle.guarantee.proofs.Walk.{Does, admits, declines, serves, idles, halts, Walk, stay, go}
+use Rattle.guarantee.proofs.Leads.{Does, admits, declines, serves, idles, halts, Leads, stay, go}
 
 -- what counts in window w of the state s, with n added
 abbrev Counts : Tree → ℕ → ℕ → State → ℕ → ℕ
@@ -109,7 +109,7 @@ module _ (t : Tree) (P : 1 ≤ t .bus .window) (a w : ℕ) where
   step s m c x es z (idles i) k h = ticks s m es z (i .ticked) k h
   step s m c x es z (halts f) k h = still s m es 0 z refl (omega arith) h
 
-pub within : {t : Tree} {s r : State} {es : List Event} (a w : ℕ) → a < t .accs → Walk t s es r
+pub within : {t : Tree} {s r : State} {es : List Event} (a w : ℕ) → a < t .accs → Leads t s es r
     → Counts t a w s (admissionsFrom t a w (s .slot) es) ≤ budgetOf t a
 unfolding admissionsFrom
 within {t} {s} a w la (stay K) = start (eqb (windowOf t (s .slot)) w)

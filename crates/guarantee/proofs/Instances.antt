@@ -22,7 +22,7 @@ use Rattle.guarantee.specs.Instances.{MetExactly, backOf, Tight, several
 use Rattle.guarantee.proofs.Events.{slots-append}
 use Rattle.guarantee.proofs.Once.{served-once}
 use Rattle.guarantee.proofs.Theorem.{guarantee}
-use Rattle.guarantee.proofs.Walk.{Does, admits, declines, serves, idles, halts, Walk, stay, go, walked}
+use Rattle.guarantee.proofs.Leads.{Does, admits, declines, serves, idles, halts, Leads, stay, go, calls-lead}
 
 -- offers that are admitted; slots that serve; slots that serve, each followed by an offer of the accelerator served
 abbrev taken : List Call → List Event
@@ -56,14 +56,14 @@ fresh-step t s m c x a (serves v) f e = absurd (omega (arith, v .ticked .slot))
 fresh-step t s m c x a (idles i) f e = absurd (omega (arith, i .ticked .slot))
 fresh-step t s m c x a (halts q) f e = f e
 
-fresh-walk : {t : Tree} {s r : State} {es : List Event} (a : ℕ) → Walk t s es r → Fresh s a → Fresh r a
-fresh-walk a (stay k) f = f
-fresh-walk {t} {s} a (go {m = m} {e = v} k d w) f = fresh-walk a w (fresh-step t s m (v .call) (v .answer) a d f)
+fresh-leads : {t : Tree} {s r : State} {es : List Event} (a : ℕ) → Leads t s es r → Fresh s a → Fresh r a
+fresh-leads a (stay k) f = f
+fresh-leads {t} {s} a (go {m = m} {e = v} k d w) f = fresh-leads a w (fresh-step t s m (v .call) (v .answer) a d f)
 
 no-run : keeps chain (freshState chain) ≡ true → (cs : List Call)
     → stateAfter chain (freshState chain) cs ≡ unreached → ⊥
 no-run k cs e =
-    let f = fresh-walk 0 (walked chain (freshState chain) cs k) (λ _. refl) in
+    let f = fresh-leads 0 (calls-lead chain (freshState chain) cs k) (λ _. refl) in
     let z : _≡_ {A = ℕ} 4 0 = subst (λ s. Fresh s 0) e f refl in
     omega arith
 

@@ -2,7 +2,7 @@ pub mod Answered
 pub mod Circle
 pub mod Ahead
 pub mod Path
-pub mod Walk
+pub mod Leads
 pub mod Events
 pub mod Queue
 pub mod Once

@@ -52,7 +52,8 @@ wait-same t φ s r u (x ∷ xs) w =
     (ahead-same t φ s r (x .interconnect) (x .port) (u (x .interconnect)))
 
 module _ (t : Tree) (φ : ℕ → ℕ) (S : Sound t) where
-  most : (s : State) → Kept t s → WaitsWithin t φ s → (xs : List Crossing) → ((i p : ℕ) → On i p xs → (i < t .ints) × (p < 8)) → (w : ℕ) → waitAlong t φ s xs w ≤ w * shareAlong t φ xs
+  most : (s : State) → Kept t s → WaitsWithin t φ s → (xs : List Crossing)
+      → ((i p : ℕ) → On i p xs → (i < t .ints) × (p < 8)) → (w : ℕ) → waitAlong t φ s xs w ≤ w * shareAlong t φ xs
   unfolding waitAlong shareAlong
   most s K F [] h w = omega (arith, mul-one w)
   most s K F (x ∷ xs) h w =

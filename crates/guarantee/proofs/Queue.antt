@@ -25,7 +25,7 @@ use Rattle.machine.specs.Calls.{Call, offer, slot}
 use Rattle.guarantee.specs.Guarantee.{Event, event, Ticket, waitedAtStart, admittedBy, withoutFirst, callMoves, moved, queueFrom, startingQueue, queueAfter, upTo, slotCounts, slotsIn, servesOther, othersIn, Holds, here, there}
 use Rattle.guarantee.proofs.Ahead.{WaitsWithin}
 use Rattle.guarantee.proofs.Path.{waitOf, wait-least, wait-same, wait-other, wait-own}
-use Rattle.guarantee.proofs.Walk.{Admission, Service, Does, admits, declines, serves, idles, halts, Walk, stay, go, walk-start}
+use Rattle.guarantee.proofs.Leads.{Admission, Service, Does, admits, declines, serves, idles, halts, Leads, stay, go, leads-start}
 
 pub start-length : (n : ℕ) → length (startingQueue n) ≡ n
 unfolding startingQueue
@@ -59,7 +59,7 @@ length-step t s m a n q c x (serves {b = b} v) e = shorter (eqb a b) q (waitingO
 length-step t s m a n q c x (idles i) e = e ∙ sym (i .waiting a)
 length-step t s m a n q c x (halts f) e = e
 
-pub queue-length : {t : Tree} {s r : State} {es : List Event} (a n : ℕ) (q : List Ticket) → Walk t s es r
+pub queue-length : {t : Tree} {s r : State} {es : List Event} (a n : ℕ) (q : List Ticket) → Leads t s es r
     → length q ≡ waitingOf s a → length (queueFrom a n q es) ≡ waitingOf r a
 unfolding queueFrom
 queue-length a n q (stay k) e = e
@@ -167,17 +167,17 @@ queue-up-to s a front mid =
     ∙ ap (λ r. queueFrom a (suc (length front)) r mid)
     (picked (eqb a a) (q ++ admittedBy (length front) ∷ []) q (eq-eqb a a refl))
 
--- no state of the walk has more waiting than φ allows
-abbrev pub AllWithin : {t : Tree} {s r : State} {es : List Event} (φ : ℕ → ℕ) → Walk t s es r → Type 0
+-- no state on the way has more waiting than φ allows
+abbrev pub AllWithin : {t : Tree} {s r : State} {es : List Event} (φ : ℕ → ℕ) → Leads t s es r → Type 0
 AllWithin {t} {s} φ (stay K) = WaitsWithin t φ s
 AllWithin {t} {s} φ (go K d w) = WaitsWithin t φ s × AllWithin φ w
 
-within-start : {t : Tree} {s r : State} {es : List Event} (φ : ℕ → ℕ) (w : Walk t s es r) → AllWithin φ w → WaitsWithin t φ s
+within-start : {t : Tree} {s r : State} {es : List Event} (φ : ℕ → ℕ) (w : Leads t s es r) → AllWithin φ w → WaitsWithin t φ s
 within-start φ (stay K) F = F
 within-start φ (go K d w) F = F .0
 
 -- a state that keeps its rules has no more waiting than the outstanding limits allow
-pub limits-hold : {t : Tree} {s r : State} {es : List Event} (w : Walk t s es r) → AllWithin (limitOf t) w
+pub limits-hold : {t : Tree} {s r : State} {es : List Event} (w : Leads t s es r) → AllWithin (limitOf t) w
 limits-hold {t} {s} (stay K) = kept-of t s K .waiting
 limits-hold {t} {s} (go K d w) = (kept-of t s K .waiting, limits-hold w)
 
@@ -248,12 +248,12 @@ pub record Timely (a j n : ℕ) (q : List Ticket) (es : List Event) (w : ℕ) : 
   pub within : slotsIn mid + 1 ≤ w
 
 pub timely : {t : Tree} (φ : ℕ → ℕ) {s r : State} {es : List Event} (a j n k : ℕ) → a < t .accs → j < n → (q : List Ticket)
-    → (w : Walk t s es r) → AllWithin φ w → Stands (admittedBy j) k q → length q ≡ waitingOf s a → waitOf t φ s a (suc k) ≤ slotsIn es
+    → (w : Leads t s es r) → AllWithin φ w → Stands (admittedBy j) k q → length q ≡ waitingOf s a → waitOf t φ s a (suc k) ≤ slotsIn es
     → Timely a j n q es (waitOf t φ s a (suc k))
 unfolding queueFrom slotsIn
 timely {t} φ {s} a j n k la l q (stay K) F h e b = absurd (omega (arith, wait-least t φ s (path t a) (suc k)))
 timely {t} φ {s} a j n k la l q (go {m = m} {e = v} {es = es} K d w) F h e b =
-    next (goes t φ s K (F .0) a j la m (walk-start w) (within-start φ w (F .1)) n k l q (v .call) (v .answer) d h e)
+    next (goes t φ s K (F .0) a j la m (leads-start w) (within-start φ w (F .1)) n k l q (v .call) (v .answer) d h e)
     (λ i g f. timely φ a j (suc n) i la (omega arith) (moved a n q v) w (F .1) g
     (length-step t s m a n q (v .call) (v .answer) d e) f)
   where
@@ -282,13 +282,13 @@ timely {t} φ {s} a j n k la l q (go {m = m} {e = v} {es = es} K d w) F h e b =
 
 -- up to its service few others are served: each lowers the wait, and so does each of its own before it
 pub few : {t : Tree} (φ : ℕ → ℕ) {s r : State} {es : List Event} (a j n k : ℕ) → a < t .accs → j < n → (q : List Ticket)
-    → (w : Walk t s es r) → AllWithin φ w → Stands (admittedBy j) k q → length q ≡ waitingOf s a
+    → (w : Leads t s es r) → AllWithin φ w → Stands (admittedBy j) k q → length q ≡ waitingOf s a
     → Holds (admittedBy j) (queueFrom a n q es)
     → othersIn a es + suc k ≤ waitOf t φ s a (suc k)
 unfolding queueFrom othersIn
 few {t} φ {s} a j n k la l q (stay K) F h e b = omega (arith, wait-least t φ s (path t a) (suc k))
 few {t} φ {s} a j n k la l q (go {m = m} {e = v} {es = es} K d w) F h e b =
-    next (goes t φ s K (F .0) a j la m (walk-start w) (within-start φ w (F .1)) n k l q (v .call) (v .answer) d h e)
+    next (goes t φ s K (F .0) a j la m (leads-start w) (within-start φ w (F .1)) n k l q (v .call) (v .answer) d h e)
     (λ i g. few φ a j (suc n) i la (omega arith) (moved a n q v) w (F .1) g
     (length-step t s m a n q (v .call) (v .answer) d e) b)
     (λ f. gone a j (suc n) (omega arith) (moved a n q v) es f b)

@@ -1,4 +1,4 @@
--- Demand 3. The list is a walk by states that keep their rules; at an admission the ticket stands last, its wait is at most
+-- Demand 3. The list leads by states that keep their rules; at an admission the ticket stands last, its wait is at most
 -- (k + 1) times the share, and each slot while it stands there takes one off.
 use Prim.Native.Nat.{ℕ, suc, _+_, _*_, _≤_, _<_}
 use mathlib.Core.Bool.{true}
@@ -21,7 +21,7 @@ use Rattle.machine.specs.Calls.{Call, offer, slot, step, stateAfter}
 use Rattle.shares.specs.Shares.{shareOf}
 use Rattle.guarantee.specs.Guarantee.{Event, event, eventsOf, Ticket, admittedBy, queueFrom, startingQueue, queueAfter, slotsIn, othersIn, upTo, Holds, StillWaits, Guarantee}
 use Rattle.guarantee.proofs.Path.{waitOf, wait-most}
-use Rattle.guarantee.proofs.Walk.{Does, admits, serves, idles, halts, Walk, go, walked, walk-start, Parts, parts, step-keeps}
+use Rattle.guarantee.proofs.Leads.{Does, admits, serves, idles, halts, Leads, go, calls-lead, leads-start, Parts, parts, step-keeps}
 use Rattle.guarantee.proofs.Queue.{start-length, queue-length, queue-up-to, stands-last, limits-hold, Timely, timely, few}
 use Rattle.guarantee.proofs.Budget.{within}
 
@@ -50,25 +50,25 @@ empty [] e = refl
 empty (x ∷ q) e = absurd (omega arith)
 
 module _ (t : Tree) (s : State) (cs : List Call) (k : keeps t s ≡ true) where
-  -- the walk comes to an event
+  -- the list comes to an event
   record Comes (front : List Event) (e : Event) (back : List Event) : Type 0 where
     state : State
     next : State
-    before : Walk t s front state
+    before : Leads t s front state
     does : Does t state (e .call) (e .answer) next
-    after : Walk t next back (stateAfter t s cs)
+    after : Leads t next back (stateAfter t s cs)
 
   comes : (front back : List Event) (e : Event) → eventsOf t s cs ≡ front ++ e ∷ back → Comes front e back
   comes front back e f = go-on (p .state) (p .before) (p .after)
     where
       p : Parts t s front (e ∷ back) (stateAfter t s cs)
-      p = parts front (e ∷ back) (subst (λ es. Walk t s es (stateAfter t s cs)) f (walked t s cs k))
+      p = parts front (e ∷ back) (subst (λ es. Leads t s es (stateAfter t s cs)) f (calls-lead t s cs k))
 
-      go-on : (m : State) → Walk t s front m → Walk t m (e ∷ back) (stateAfter t s cs) → Comes front e back
+      go-on : (m : State) → Leads t s front m → Leads t m (e ∷ back) (stateAfter t s cs) → Comes front e back
       go-on m b (go {m = r} l d w) = record { state = m; next = r; before = b; does = d; after = w }
 
   -- a queue is as long as the waiting count
-  queue-waits : (front : List Event) {r : State} (a : ℕ) → Walk t s front r
+  queue-waits : (front : List Event) {r : State} (a : ℕ) → Leads t s front r
       → length (queueAfter s a front) ≡ waitingOf r a
   queue-waits front a w = queue-length a 0 (startingQueue (waitingOf s a)) w (start-length (waitingOf s a))
 
@@ -92,7 +92,7 @@ module _ (t : Tree) (s : State) (cs : List Call) (k : keeps t s ≡ true) where
 
     ticket-share : ticket-wait ≤ suc (length (queueAfter s a front)) * shareOf t a
     ticket-share =
-        let l = walk-start (at .after) in
+        let l = leads-start (at .after) in
         let K = kept-of t (at .next) l in
         wait-most t (limitOf t) (sound-of t (at .next) l) (at .next) K (K .waiting) a _ (one .0)
 
@@ -105,7 +105,7 @@ module _ (t : Tree) (s : State) (cs : List Call) (k : keeps t s ≡ true) where
     ticket-few : (mid rest : List Event) → back ≡ mid ++ rest → StillWaits s a front mid
         → othersIn a mid + suc (length (queueAfter s a front)) ≤ ticket-wait
     ticket-few mid rest f h =
-        let p = parts mid rest (subst (λ es. Walk t (at .next) es (stateAfter t s cs)) f (at .after)) in
+        let p = parts mid rest (subst (λ es. Leads t (at .next) es (stateAfter t s cs)) f (at .after)) in
         few (limitOf t) a (length front) (suc (length front)) (length (queueAfter s a front)) (one .0) (omega arith) with-ticket
         (p .before) (limits-hold (p .before)) (stands-last _ (queueAfter s a front)) with-length
         (subst (Holds (admittedBy (length front))) (queue-up-to s a front mid) h)
@@ -140,5 +140,5 @@ guarantee t s cs k = record {
         mul-sub n (shareOf t a) 1,
         mul-one n,
       );
-  within-budget = λ a w la. omega (arith, within a w la (walked t s cs k));
+  within-budget = λ a w la. omega (arith, within a w la (calls-lead t s cs k));
 }

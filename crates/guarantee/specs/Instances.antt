@@ -35,6 +35,7 @@ use Rattle.rules.specs.Rules.{keeps}
 use Rattle.machine.specs.Machine.{admitted, served, idle, refused, freshState, lastSlot}
 use Rattle.machine.specs.Calls.{Call, offer, slot, step, answersOf, stateAfter}
 use Rattle.shares.specs.Shares.{shareOf}
+use Rattle.model.specs.Builders.{withCounts, withTurns, atSlot}
 use Rattle.model.specs.Trees.{chain, chainOf, pair, nested}
 use Rattle.guarantee.specs.Guarantee.{Event, event, eventsOf, Ticket, admittedBy, queueAfter, slotsIn, othersIn, admissionsIn, upTo, ServedWithin}
 
@@ -90,26 +91,15 @@ twoWindows = several 2 (offer 0 ∷ []) ++ several 4 (slot ∷ []) ++ several 2 
 
 abbrev pub unreached : State
 unreached =
-    record {
-      waiting = 4 ∷ 4 ∷ 4 ∷ 1 ∷ replicate 28 0;
-      admitted = replicate 32 0;
-      last = replicate 15 0;
-      allowance = 1 ∷ 1 ∷ 1 ∷ replicate 12 0;
-      slot = 0;
-    }
+    withTurns (withCounts (freshState chain) (4 ∷ 4 ∷ 4 ∷ 1 ∷ replicate 28 0) (replicate 32 0))
+    (replicate 15 0) (1 ∷ 1 ∷ 1 ∷ replicate 12 0)
 
 abbrev pub fromUnreached : List Call
 fromUnreached = offer 3 ∷ several 2 round
 
 abbrev pub late : State
 late =
-    record {
-      waiting = 3 ∷ replicate 31 0;
-      admitted = 7 ∷ replicate 31 0;
-      last = freshState chain .last;
-      allowance = freshState chain .allowance;
-      slot = lastSlot - 9;
-    }
+    withCounts (atSlot (freshState chain) (replicate 32 0) (lastSlot - 9)) (3 ∷ replicate 31 0) (7 ∷ replicate 31 0)
 
 abbrev pub untilLast : List Call
 untilLast =

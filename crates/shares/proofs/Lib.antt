@@ -1,3 +1,3 @@
 pub mod Shares
-pub mod Walks
+pub mod Product
 pub mod Sole

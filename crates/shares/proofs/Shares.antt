@@ -1,5 +1,5 @@
 -- The share is at least 1 and at most 163,047,361: seven other ports count for at most 16 each, and a path crosses at most
--- four interconnects, so that the walk over three parents is the whole path. By induction on the number of ports and on the
+-- four interconnects, so that its own crossing and three parents are the whole path. By induction on the number of ports and on the
 -- path.
 use Prim.Native.Nat.{ℕ, zero, suc, _+_, _*_, _^_, _≤_, _<_, min}
 use mathlib.Core.Bool.{true}
@@ -64,7 +64,7 @@ module _ (t : Tree) where
   abbrev crossing : ℕ → Crossing
   crossing j = record { interconnect = parentOf t j; port = parentPortOf t j }
 
-  -- a walk up that is not cut short
+  -- the crossings above, where they are not cut short
   pub above-enough : (n m j : ℕ) → n ≤ m → length (above m t j) ≤ n → above n t j ≡ above m t j
   unfolding above
   above-enough zero zero j a l = refl

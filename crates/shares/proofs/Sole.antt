@@ -10,6 +10,7 @@ use native.Mathlib.Decide.{decLt, ℕ-discrete}
 use native.Mathlib.Nat.{le-trans, le-mul-of-pos-right, mul-le-mul-right}
 use native.Mathlib.Omega.{arith}
 use Rattle.model.specs.declared.Tree.{Tree}
+use Rattle.model.specs.declared.Port.{Port}
 use Rattle.model.specs.Tree.{Crossing, portOf, parentOf, parentPortOf, homeOf, homePortOf, limitOf, path}
 use Rattle.model.specs.Beneath.{under, inside, weightUnder}
 use Rattle.rules.specs.Rules.{treeKeeps}
@@ -36,6 +37,10 @@ module _ (t : Tree) (φ : ℕ → ℕ) where
   one-along (x ∷ xs) e i p (there o) = one-along xs (factors-one _ _ (share-least t φ xs) e .1) i p o
 
 module _ (t : Tree) (S : Sound t) where
+  -- how often accelerator b is beneath a port that carries x
+  abbrev beneath : ℕ → Port → ℕ
+  beneath b x = under (only b) (inside 3 t (only b)) x
+
   port-positive : (n : ℕ) (v w : ℕ → ℕ) → ((a : ℕ) → a < t .accs → 0 < v a → 0 < w a)
       → ((k : ℕ) → k < t .ints → 0 < inside n t v k → 0 < inside n t w k)
       → (j p : ℕ) → j < t .ints → p < 8 → 0 < under v (inside n t v) (portOf t j p) → 0 < under w (inside n t w) (portOf t j p)
@@ -51,7 +56,8 @@ module _ (t : Tree) (S : Sound t) where
       (term-le 8 (λ p. under w (inside n t w) (portOf t j p)) (m .at) (m .below))
 
   -- what counts beneath a port by one weight counts by another that is positive where the first is
-  weight-positive : (v w : ℕ → ℕ) → ((a : ℕ) → a < t .accs → 0 < v a → 0 < w a) → (j p : ℕ) → j < t .ints → p < 8 → 0 < weightUnder t v j p → 0 < weightUnder t w j p
+  weight-positive : (v w : ℕ → ℕ) → ((a : ℕ) → a < t .accs → 0 < v a → 0 < w a) → (j p : ℕ) → j < t .ints → p < 8
+      → 0 < weightUnder t v j p → 0 < weightUnder t w j p
   weight-positive v w h = port-positive 3 v w h (inside-positive 3 v w h)
 
   module _ (φ : ℕ → ℕ) (b : ℕ) (lb : b < t .accs) (some : 0 < φ b) where
@@ -75,8 +81,12 @@ module _ (t : Tree) (S : Sound t) where
     follows (suc n) k q c l z = elim (decLt 0 k) [
       | yes g ↦
           let d : parentOf t k < k = S .parent k g l in
-          let u : On (parentOf t k) (parentPortOf t k) (path t b) = follows n (parentOf t k) (parentPortOf t k) (omega arith) (omega arith) (λ i p o. z i p (there (subst (On i p) (sym (above-step t S k g l)) o))) in
-          let w : 0 < inside 3 t (only b) k = subst (λ X. 0 < under (only b) (inside 3 t (only b)) X) (S .parent-carries k g l) (omega (arith, beneath-once t S b lb (parentOf t k) (parentPortOf t k) u 3 (omega arith))) in
+          let y = parentOf t k in
+          let r = parentPortOf t k in
+          let u : On y r (path t b) =
+          follows n y r (omega arith) (omega arith) (λ i p o. z i p (there (subst (On i p) (sym (above-step t S k g l)) o))) in
+          let e = beneath-once t S b lb y r u 3 (omega arith) in
+          let w : 0 < inside 3 t (only b) k = subst (λ X. 0 < beneath b X) (S .parent-carries k g l) (omega arith) in
           let m = some-port 2 t (only b) k w in
           leaves k q (m .at) (z k q (here refl refl)) (beneath-on t S b lb 2 k (m .at) l (m .below) (m .positive))
       | no d ↦
@@ -91,7 +101,8 @@ module _ (t : Tree) (S : Sound t) where
       | yes q ↦ q
       | no d ↦
           let o = follows φ b lb z (suc (homeOf t a)) (homeOf t a) (homePortOf t a) (omega arith) (S .home a la) (one-along t φ (path t a) e) in
-          let w : only b a ≡ 1 = subst (λ X. under (only b) (inside 3 t (only b)) X ≡ 1) (S .home-carries a la) (beneath-once t S b lb (homeOf t a) (homePortOf t a) o 3 (omega arith)) in
+          let e = beneath-once t S b lb (homeOf t a) (homePortOf t a) o 3 (omega arith) in
+          let w : only b a ≡ 1 = subst (λ X. beneath b X ≡ 1) (S .home-carries a la) e in
           absurd (omega (arith, only-other b a d))
     ]
 

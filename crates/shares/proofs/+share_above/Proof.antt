@@ -1,4 +1,4 @@
--- `share_above` meets its contract: the two ends and the step up are those of the walk, and at most three factors fit.
+-- `share_above` meets its contract: the two ends and the step up are those of the product, and at most three factors fit.
 use mathlib.Core.Path.{ap, ap₂, _∙_}
 use Prim.Native.Nat.{ℕ, _<_, _+_, _*_, _-_}
 use native.Mathlib.Omega.{arith}
@@ -10,7 +10,7 @@ use Rattle.model.specs.declared.Interconnect.{Interconnect}
 use Rattle.model.specs.Tree.{above}
 use Rattle.model.specs.Beneath.{weightIn}
 use Rattle.shares.specs.Shares.{othersAt, shareAlong}
-use Rattle.shares.proofs.Walks.{walk-none, walk-root, walk-step, walk-most, walk-room, walk-some}
+use Rattle.shares.proofs.Product.{product-none, product-root, product-step, product-most, product-room, product-some}
 use Rattle.shares.proofs.share_above.Reads as share-above
 use Rattle.shares.proofs.share_above.Kinds as share-above-kinds
 use Rattle.shares.proofs.+share_above.Lts-share_above as lts
@@ -33,10 +33,10 @@ calls t = (interconnect-at-reads.Asked, interconnect-at-reads.Learnt, factor-at-
 
 module _ (t : ℕ) where
   returns : lts.Need-returns (calls t) (at t) share-above.Post
-  returns c = (walk-none _ _ _ _ (c .if1 .taken), walk-some _)
+  returns c = (product-none _ _ _ _ (c .if1 .taken), product-some _)
 
   returns-2 : lts.Need-returns-2 (calls t) (at t) share-above.Post
-  returns-2 c = (walk-root _ _ _ _ (c .if2 .taken), walk-some _)
+  returns-2 c = (product-root _ _ _ _ (c .if2 .taken), product-some _)
 
   interconnect-at-requires : lts.Need-interconnect-at-requires (calls t) (at t) share-above.Post
   interconnect-at-requires c κs = search needs
@@ -52,19 +52,22 @@ module _ (t : ℕ) where
 
   mul-result : lts.Need-mul-result (calls t) (at t) share-above.Post
   mul-result c =
-      let a = c .before .before .before .before .before .args in
+      let entry = c .before .before .before .before .before in
       let h = c .before .before .before .before .if1 .left in
-      record { fits = omega (arith, walk-most (a .n) _ _ h (c .before .factor-at .ensures .1) (c .share-above .ensures .1), walk-room (a .n) (c .before .before .before .before .before .pre .1)) }
+      let most = product-most (entry .args .n) _ _ h (c .before .factor-at .ensures .1) (c .share-above .ensures .1) in
+      record { fits = omega (arith, most, product-room (entry .args .n) (entry .pre .1)) }
 
   returns-3 : lts.Need-returns-3 (calls t) (at t) share-above.Post
   returns-3 c =
       let a = c .before .before .before .before .before .args in
       let h = c .before .before .before .before .if1 .left in
       let e = c .before .before .interconnect-at .ensures in
-      let f = c .before .factor-at .ensures .0 ∙ ap (λ (x : Interconnect). 1 + othersAt (a .t) (weightIn (a .limits)) (x .parent) (x .port)) e in
-      let r = c .share-above .ensures .0 ∙ ap (λ (x : Interconnect). shareAlong (a .t) (weightIn (a .limits)) (above (a .n - 1) (a .t) (x .parent))) e in (
-        ap₂ (λ (x y : ℕ). x * y) f r ∙ walk-step (a .t) (weightIn (a .limits)) (a .n) (a .j) h (c .before .before .before .if2 .left),
-        walk-most (a .n) _ _ h (c .before .factor-at .ensures .1) (c .share-above .ensures .1),
+      let φ = weightIn (a .limits) in
+      let f = c .before .factor-at .ensures .0 ∙ ap (λ (x : Interconnect). 1 + othersAt (a .t) φ (x .parent) (x .port)) e in
+      let up : Interconnect → ℕ = λ x. shareAlong (a .t) φ (above (a .n - 1) (a .t) (x .parent)) in
+      let r = c .share-above .ensures .0 ∙ ap up e in (
+        ap₂ (λ (x y : ℕ). x * y) f r ∙ product-step (a .t) φ (a .n) (a .j) h (c .before .before .before .if2 .left),
+        product-most (a .n) _ _ h (c .before .factor-at .ensures .1) (c .share-above .ensures .1),
       )
 
 pub +share-above-spec : {M : Type 1} → statement M

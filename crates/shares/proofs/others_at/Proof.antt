@@ -27,7 +27,8 @@ loop-again : tie.Need-loop-again Inv-loop μ-loop
 loop-again c =
     let a = c .before .before .before .args in
     let i = c .before .before .loop .inv in
-    (omega arith, sum-turn _ (counted (a .t) (weightIn (a .limits)) (a .j) (a .p)) _ _ (i .1) (c .count-port .ensures .0), omega (arith, c .count-port .ensures .1, i .2))
+    let f = counted (a .t) (weightIn (a .limits)) (a .j) (a .p) in
+    (omega arith, sum-turn _ f _ _ (i .1) (c .count-port .ensures .0), omega (arith, c .count-port .ensures .1, i .2))
 
 returns : tie.Need-returns Inv-loop μ-loop
 unfolding othersAt

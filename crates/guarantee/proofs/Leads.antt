@@ -1,8 +1,8 @@
--- What a call does, by its answer, and a list of calls as a walk from state to state. Every law of the list is read off the
--- walk, call by call, and never off the machine's definitions again.
+-- What a call does, by its answer, and how a list of calls leads from state to state. Every law of the list is read off this,
+-- call by call, and never off the machine's definitions again.
 --
 -- Does t s c x r        the call c, which answers x, goes from state s to state r
--- Walk t s es r         the events es go from state s to state r, by states that keep their rules
+-- Leads t s es r        the events es go from state s to state r, by states that keep their rules
 use Prim.Native.Nat.{ℕ, _+_, _<_}
 use mathlib.Core.Bool.{true}
 use mathlib.Core.List.{List, [], _∷_, _++_}
@@ -133,29 +133,29 @@ module _ (t : Tree) (s : State) (k : keeps t s ≡ true) where
   step-keeps (offer b) = offer-keeps t s b k
   step-keeps slot = slot-keeps t s k
 
-pub data Walk (t : Tree) : State → List Event → State → Type 0 where
-  stay : {s : State} → keeps t s ≡ true → Walk t s [] s
-  go : {s m r : State} {e : Event} {es : List Event} → keeps t s ≡ true → Does t s (e .call) (e .answer) m → Walk t m es r
-      → Walk t s (e ∷ es) r
+pub data Leads (t : Tree) : State → List Event → State → Type 0 where
+  stay : {s : State} → keeps t s ≡ true → Leads t s [] s
+  go : {s m r : State} {e : Event} {es : List Event} → keeps t s ≡ true → Does t s (e .call) (e .answer) m → Leads t m es r
+      → Leads t s (e ∷ es) r
 
-pub walked : (t : Tree) (s : State) (cs : List Call) → keeps t s ≡ true
-    → Walk t s (eventsOf t s cs) (stateAfter t s cs)
+pub calls-lead : (t : Tree) (s : State) (cs : List Call) → keeps t s ≡ true
+    → Leads t s (eventsOf t s cs) (stateAfter t s cs)
 unfolding eventsOf stateAfter
-walked t s [] k = stay k
-walked t s (c ∷ cs) k = go k (does t s k c) (walked t (step t s c .state) cs (step-keeps t s k c))
+calls-lead t s [] k = stay k
+calls-lead t s (c ∷ cs) k = go k (does t s k c) (calls-lead t (step t s c .state) cs (step-keeps t s k c))
 
-pub walk-start : {t : Tree} {s r : State} {es : List Event} → Walk t s es r → keeps t s ≡ true
-walk-start (stay k) = k
-walk-start (go k d w) = k
+pub leads-start : {t : Tree} {s r : State} {es : List Event} → Leads t s es r → keeps t s ≡ true
+leads-start (stay k) = k
+leads-start (go k d w) = k
 
--- a walk of two lists of events, one after the other
+-- two lists of events lead there, one after the other
 pub record Parts (t : Tree) (s : State) (front back : List Event) (r : State) : Type 0 where
   pub state : State
-  pub before : Walk t s front state
-  pub after : Walk t state back r
+  pub before : Leads t s front state
+  pub after : Leads t state back r
 
-pub parts : {t : Tree} {s r : State} (front back : List Event) → Walk t s (front ++ back) r → Parts t s front back r
-parts [] back w = record { state = _; before = stay (walk-start w); after = w }
+pub parts : {t : Tree} {s r : State} (front back : List Event) → Leads t s (front ++ back) r → Parts t s front back r
+parts [] back w = record { state = _; before = stay (leads-start w); after = w }
 parts (e ∷ front) back (go k d w) =
     let h = parts front back w in
     record { state = h .state; before = go k d (h .before); after = h .after }
