@@ -7,34 +7,31 @@ use turns::grant;
 use turns::less_one;
 use turns::next_in;
 ghost use mathlib.Core.Path.{_≡_};
-ghost use Prim.Native.Nat.{_+_, _*_, _-_, _%_, _<_, min};
-ghost use lib.Dec.{ltb};
-ghost use lib.ListN.{getD, set};
-ghost use Rattle.folds.specs.Fold.{pick};
-ghost use Rattle.counts.specs.Wiring.{portNumber, grants};
+ghost use Prim.Native.Nat.{_+_, _-_, _<_};
+ghost use lib.ListN.{set};
 ghost use Rattle.counts.specs.Counts.{lasts, allowances, lives};
-ghost use Rattle.counts.specs.Choice.{Chooses};
+ghost use Rattle.counts.specs.Choice.{countAt, carriedAt, turnOn, choice, chooseOn};
 
-// What waits under port p of interconnect j; nothing is said of a port past the last one.
+// What waits under port p of interconnect j; nothing under a port past the eighth.
 fn count_at(under: &[u16; 120], j: u8, p: u8) -> u16
-    ensures { λ r. ⌜ (portNumber j p < 120 → r ≡ getD (now (under .entry)) (portNumber j p) 0) ⌝ }
+    requires { ⌜ j < 15 ⌝ }
+    ensures { λ r. ⌜ r ≡ countAt (now (under .entry)) j p ⌝ }
 {
-    let c = j as usize * 8 + p as usize;
-    if c < 120 {
-        return under[c];
+    if 7 < p {
+        return 0;
     }
-    0
+    under[j as usize * 8 + p as usize]
 }
 
-// What port p of interconnect j carries; nothing is said of a port past the last one.
+// What port p of interconnect j carries; a port past the eighth is empty.
 fn carried_at(wires: &[u16; 246], j: u8, p: u8) -> u16
-    ensures { λ r. ⌜ (portNumber j p < 120 → r ≡ getD (now (wires .entry)) (portNumber j p) 0) ⌝ }
+    requires { ⌜ j < 15 ⌝ }
+    ensures { λ r. ⌜ r ≡ carriedAt (now (wires .entry)) j p ⌝ }
 {
-    let c = j as usize * 8 + p as usize;
-    if c < 120 {
-        return wires[c];
+    if 7 < p {
+        return 512;
     }
-    0
+    wires[j as usize * 8 + p as usize]
 }
 
 // The turn of interconnect j: its last port goes on where its allowance is above 0, else the next live port has it.
@@ -47,8 +44,8 @@ fn turn_of(
     last: u8,
     allowance: u8,
 ) -> Turn
-    ensures port { λ r. ⌜ r .port ≡ pick (ltb 0 allowance) last (getD (now (next .entry)) (set * 8 + last % 8) 0) ⌝ }
-    ensures allowance { λ r. ⌜ (portNumber j (r .port) < 120 → r .allowance ≡ pick (ltb 0 allowance) allowance (min granularity (getD (now (under .entry)) (portNumber j (r .port)) 0))) ⌝ }
+    requires { ⌜ j < 15 ⌝ }
+    ensures { λ r. ⌜ r ≡ turnOn (now (next .entry)) (now (under .entry)) j granularity set last allowance ⌝ }
 {
     if 0 < allowance {
         return Turn {
@@ -73,8 +70,8 @@ fn take_turn(turns: &mut [u8; 45], j: u8, port: u8, left: u8)
     turns[ALLOWANCE + i] = less_one(left);
 }
 
-// The choice from interconnect j, over at most `levels` levels: the accelerator served, 255 for none. The last ports and
-// the allowances on the way down are brought up to date. Something waits under the port of a turn, so that it is not empty.
+// The choice from interconnect j, over at most `levels` levels: the accelerator served, 255 for none, where an empty port
+// leads. The last ports and the allowances on the way down are brought up to date.
 pub fn choose(
     next: &[u8; 2048],
     wires: &[u16; 246],
@@ -83,7 +80,7 @@ pub fn choose(
     j: u8,
     turns: &mut [u8; 45],
 ) -> u8
-    ensures chosen { λ r. ⌜ Chooses (now (next .entry)) (now (wires .entry)) (grants (now (wires .entry))) (now (under .entry)) (lives (now (turns .entry))) levels j (lasts (now (turns .entry))) (allowances (now (turns .entry))) r (lasts (now (turns .exit))) (allowances (now (turns .exit))) ⌝ }
+    ensures chosen { λ r. ⌜ choice r (lasts (now (turns .exit))) (allowances (now (turns .exit))) ≡ chooseOn levels (now (next .entry)) (now (wires .entry)) (now (under .entry)) (lives (now (turns .entry))) j (lasts (now (turns .entry))) (allowances (now (turns .entry))) ⌝ }
     ensures sets { λ r. ⌜ lives (now (turns .exit)) ≡ lives (now (turns .entry)) ⌝ }
 {
     let i = j as usize;
@@ -105,7 +102,11 @@ pub fn choose(
         take_turn(turns, j, turn.port, turn.allowance);
         return carried as u8;
     }
-    let below = ((carried - 256) % 256) as u8;
+    if 511 < carried {
+        take_turn(turns, j, turn.port, turn.allowance);
+        return 255;
+    }
+    let below = (carried - 256) as u8;
     let served = choose(next, wires, under, levels - 1, below, turns);
     take_turn(turns, j, turn.port, turn.allowance);
     served

@@ -3,7 +3,7 @@
 use Prim.Native.Nat.{ℕ, _+_, _-_, _/_, _%_, _≤_, _<_}
 use mathlib.Core.Bool.{Bool, true, false, not, _&&_, _||_}
 use mathlib.Core.List.{List}
-use mathlib.Core.Path.{_≡_, refl, sym, _∙_, ap, ap₂, subst}
+use mathlib.Core.Path.{_≡_, refl, sym, _∙_, ap, ap₂, subst, subst₂}
 use native.Mathlib.Decide.{ℕ-discrete}
 use native.Mathlib.Omega.{arith}
 use lib.Dec.{leb, eqb}
@@ -18,36 +18,28 @@ use Rattle.folds.proofs.Folds.{passed, clash}
 use Rattle.rules.proofs.Sound.{sound, sound-of, kept-of}
 use Rattle.rules.proofs.Beneath.{only-other}
 use Rattle.turns.specs.Turns.{NextPorts, who, after}
-use Rattle.machine.specs.Machine.{Answer, idle, served, outcome, freshState, noneWaits, chosen, serve, opens, tick, lastSlot, offered, slottedWithin}
+use Rattle.machine.specs.Machine.{Answer, Outcome, idle, served, outcome, freshState, noneWaits, chosen, serve, opens, tick, lastSlot, slotted, slottedWithin}
 use Rattle.machine.proofs.Cases.{some-waits}
 use Rattle.turns.proofs.Descent.{Choice, choice}
 use Rattle.machine.proofs.Keeps.{zeros, take-waiting}
-use Rattle.machine.proofs.Laws.{offer-others}
-use Rattle.machine.proofs.Steps.{slot-idle, slot-serves}
+use Rattle.machine.proofs.Laws.{offer-others, slot-keeps, fresh-keeps}
+use Rattle.machine.proofs.Steps.{slot-idle, slot-serves, slot-passed}
 use Rattle.machine.proofs.Windows.{window-opens}
 use Rattle.counts.specs.Wiring.{Wired}
 use Rattle.counts.specs.Counts.{Counted}
 use Rattle.counts.proofs.Counted.{counted-none}
+use Rattle.trace.specs.declared.Request.{Request}
 use Rattle.runner.specs.declared.NextLine.{NextLine}
-use Rattle.runner.specs.Offers.{offering, offerEach}
-use Rattle.runner.specs.Run.{byteOf, noneHeld, isDone}
-use Rattle.runner.specs.Places.{Place, leftAt, runAt, dueOf, Accepts, Taken, Stepped}
-use Rattle.runner.specs.Arrays.{begins, servedFrom, byteFrom, Served}
-use Rattle.admit.specs.Admitting.{Arrays}
-use Rattle.runner.proofs.Held.{each-kept, each-same}
+use Rattle.runner.specs.declared.SlotEnd.{SlotEnd}
+use Rattle.runner.specs.Offers.{heldOf, offering, offerEach}
+use Rattle.runner.specs.Run.{Run, heldWith, leftAfter, withDue, beforeSlot, byteOf, lastByte, next, noneHeld, isDone, start}
+use Rattle.runner.specs.Places.{Place, leftAt, runAt, dueOf, Accepts, Room, Taken, Stepped}
+use Rattle.runner.specs.Arrays.{begins, servedFrom, byteFrom, serveOn, endOn, afterOn, everyOn, withHeld, beforeOn}
+use Rattle.admit.specs.Admitting.{Arrays, arrays}
+use Rattle.runner.proofs.Held.{each-same, each-less}
 use Rattle.runner.proofs.Trace.{left-ends, not-due}
-use Rattle.runner.proofs.Slots.{Running, running-start, running-turn, one-step}
 use Rattle.runner.proofs.Settled.{Idles, Settled, settled-each, settled-served}
-use Rattle.runner.proofs.Stored.{Stored, Offered, live-none, window-begins, window-goes-on}
-
--- the state of the waiting counts w, the admitted counts m, the last ports l, the allowances o and the slot count n
-abbrev pub stateOf : (w m l o : List ℕ) → ℕ → State
-stateOf w m l o n = record { waiting = w; admitted = m; last = l; allowance = o; slot = n }
-
--- a state by its five parts
-same-state : (w w′ m m′ l l′ o o′ : List ℕ) (n n′ : ℕ) → w ≡ w′ → m ≡ m′ → l ≡ l′ → o ≡ o′ → n ≡ n′ → stateOf w m l o n ≡ stateOf w′ m′ l′ o′ n′
-same-state w w′ m m′ l l′ o o′ n n′ a b c d e =
-    ap₂ (λ (x y : List ℕ). stateOf x y l o n) a b ∙ ap₂ (λ (x y : List ℕ). stateOf w′ m′ x y n) c d ∙ ap (stateOf w′ m′ l′ o′) e
+use Rattle.runner.proofs.Stored.{Stored, Offered, Served, live-none, before-offered, serves, window-begins, window-goes-on}
 
 -- from a later place on, a byte written, less of the buffer is left
 pub fewer : (d : List ℕ) (n b m : ℕ) → n < length d → n < m → length (set d n b) - m < length d - n
@@ -65,32 +57,52 @@ quiet q d n r e =
     let x = none-of q (leb d n) (eqb r 255) e in
     (x .0, λ h. omega (arith, leb-false d n (x .1)), eqb-false r 255 (x .2))
 
--- where the loop stands
-abbrev pub placeOf : (w m l o h : List ℕ) → NextLine → ℕ → Place
-placeOf w m l o h x n = record { state = stateOf w m l o n; held = h; at = x .at }
+-- where a run stands whose state is z, whose arrays are d and whose next line is x
+abbrev pub placeOf : State → Arrays → NextLine → Place
+placeOf z d x = record { state = z; held = d .held; at = x .at }
 
--- what the loop does not change
+-- the arrays d, the next line x and the end e of the slot before are those of a run of trace s on t that stands at state z
+pub record Shows (t : Tree) (s : List ℕ) (z : State) (d : Arrays) (x : NextLine) (e : SlotEnd) : Type 0 where
+  pub stored : Stored t z d
+  pub accepts : Accepts s (x .at)
+  pub room : Room (d .held) (x .at)
+  pub due : x .due ≤ dueOf (leftAt s (x .at))
+  pub settled : e .opened ≡ false → (e .served ≡ 255 → ⊥) → (e .served < t .accs) × Settled t z (d .held) (e .served)
+
+-- what a run does not change: w is the table of t, and k that of next ports
 pub record Fixed (t : Tree) (w k : List ℕ) : Type 0 where
   pub rules : treeKeeps t ≡ true
   pub wired : Wired t w
   pub table : NextPorts k
 
--- where the loop stands after n slots: d is the buffer, which was d₀; w m l o h are the state and the held counts, c v the
--- counts beside them, x the next line, r the accelerator served last, q whether a window has opened
-pub record Going (t : Tree) (s d₀ d w m l o c v h : List ℕ) (x : NextLine) (r : ℕ) (q : Bool) (n : ℕ) : Type 0 where
-  pub running : Running t s d₀ d (placeOf w m l o h x n) n
-  pub counts : Counted t (waitingOf (stateOf w m l o n)) c v
-  pub due : x .due ≤ dueOf (leftAt s (x .at))
-  pub settled : q ≡ false → (r ≡ 255 → ⊥) → (r < t .accs) × Settled t (stateOf w m l o n) h r
+-- after n slots the arrays d, the next line x and the end e of the slot before are those of a run of which Q holds
+pub record Walk (t : Tree) (s : List ℕ) (Q : Run → Type 0) (d : Arrays) (x : NextLine) (e : SlotEnd) (n : ℕ) : Type 0 where
+  pub state : State
+  pub shows : Shows t s state d x e
+  pub slot : state .slot ≡ n
+  pub holds : Q (runAt s (placeOf state d x))
 
-pub going-start : (t : Tree) (s d l o v : List ℕ) (f : State) → treeKeeps t ≡ true → f ≡ freshState t → Accepts s 0
-    → l ≡ f .last → o ≡ replicate 15 0 → v ≡ replicate 15 0
-    → Going t s d d (replicate 32 0) (replicate 32 0) l o (replicate 120 0) v (replicate 32 0) (record { at = 0; due = 0 }) 255 true 0
-going-start t s d l o v f k e A el eo ev = record {
-  running = running-start t s d _ k (ap₂ (λ (x y : List ℕ). stateOf (replicate 32 0) (replicate 32 0) x y 0) (el ∙ ap (λ (x : State). x .last) e) eo) A;
-  counts = subst (Counted t _ (replicate 120 0)) (sym ev) (counted-none t (sound t k) _ (λ a _. zeros 32 a));
-  due = omega arith;
-  settled = λ z. clash cc;
+pub walk-start : (t : Tree) (s l o v : List ℕ) (f : State) (Q : Run → Type 0) → treeKeeps t ≡ true → f ≡ freshState t → Accepts s 0
+    → l ≡ f .last → o ≡ replicate 15 0 → v ≡ replicate 15 0 → Q (start t (leftAt s 0))
+    → Walk t s Q (arrays (replicate 32 0) (replicate 32 0) (replicate 32 0) (replicate 120 0) v l o) (record { at = 0; due = 0 }) (endOn 255 true) 0
+walk-start t s l o v f Q k e A el eo ev q = record {
+  state = freshState t;
+  shows = record {
+    stored = record {
+      rules = fresh-keeps t k;
+      waiting = refl;
+      admitted = refl;
+      last = el ∙ ap (λ (x : State). x .last) e;
+      allowance = eo;
+      counts = subst (Counted t _ (replicate 120 0)) (sym ev) (counted-none t (sound t k) _ (λ a _. zeros 32 a));
+    };
+    accepts = A;
+    room = λ a. omega (arith, zeros 32 a);
+    due = omega arith;
+    settled = λ z. clash cc;
+  };
+  slot = refl;
+  holds = q;
 }
 
 -- a slot leaves the admitted counts and the slot count to the tick, and what it answers is its byte
@@ -145,85 +157,156 @@ window-same t z n h e = ap (λ (w : ℕ). begins w (n + 1)) e ∙ elim (ℕ-disc
       | no f ↦ absurd (d (window-opens (t .bus .window) n h .0 f))
     ]
 
-module _ (t : Tree) (s d₀ d w m l o c v h : List ℕ) (x : NextLine) (r : ℕ) (q : Bool) (n : ℕ) (G : Going t s d₀ d w m l o c v h x r q n) where
-  rules : keeps t (stateOf w m l o n) ≡ true
-  rules = G .running .stands .keeps-rules
+module _ (t : Tree) (s : List ℕ) (z : State) (d : Arrays) (x : NextLine) (e : SlotEnd) (H : Shows t s z d x e) where
+  abbrev pub run : Run
+  run = runAt s (placeOf z d x)
 
-  pub going-stored : (w′ m′ : List ℕ) → w′ ≡ w → m′ ≡ m → Stored t (stateOf w m l o n) w′ m′ c v
-  going-stored w′ m′ e f = record { rules = rules; waiting = e; admitted = f; counts = G .counts }
+  -- the test before each slot is the definition's
+  pub shows-done : (b : Bool) → b ≡ (eqb (x .at) (length s) && noneHeld (d .held) && eqb (getD (d .live) 0 0) 0) → b ≡ isDone run
+  shows-done b q = q ∙ ap₂ (λ (y z : Bool). y && noneHeld (d .held) && z) (left-ends s (x .at) (H .accepts)) (live-none t z (H .stored .rules) (d .under) (d .live) (H .stored .counts))
 
-  -- the test of the loop is the definition's
-  pub going-done : (b : Bool) → b ≡ (eqb (x .at) (length s) && noneHeld h && eqb (getD v 0 0) 0) → b ≡ isDone (runAt s (placeOf w m l o h x n))
-  going-done b e = e ∙ ap₂ (λ (y z : Bool). y && noneHeld h && z) (left-ends s (x .at) (G .running .stands .accepts)) (live-none t (stateOf w m l o n) rules c v (G .counts))
+  module _ (w k : List ℕ) (F : Fixed t w k) (n : ℕ) (N : z .slot ≡ n) (x₁ : NextLine) (T : Taken n s (d .held) (x .at) (heldWith n (d .held) (leftAt s (x .at))) x₁)
+      (d₁ : Arrays) (E : d₁ ≡ beforeOn s n x e (t .accs) w d) where
+    abbrev due : List ℕ
+    due = heldWith n (d .held) (leftAt s (x .at))
 
-  module _ (h′ : List ℕ) (x′ : NextLine) (T : Taken n s h (x .at) h′ x′) where
     -- where no window has opened, no line is due and somebody was served, only that one may have more admitted
-    pub going-settled : q ≡ false → (x .due ≤ n → ⊥) → (r ≡ 255 → ⊥) → (r < t .accs) × Settled t (stateOf w m l o n) h′ r
-    going-settled a b e =
-        let y = G .settled a e in
-        (y .0, subst (λ (z : List ℕ). Settled t (stateOf w m l o n) z r) (sym (not-due n h (leftAt s (x .at)) (omega (arith, G .due)) .0) ∙ sym (T .held)) (y .1))
+    only-last : everyOn e x n ≡ false → (e .served < t .accs) × Settled t z due (e .served)
+    only-last f =
+        let q = quiet (e .opened) (x .due) n (e .served) f in
+        let y = H .settled (q .0) (q .2) in
+        (y .0, subst (λ (h : List ℕ). Settled t z h (e .served)) (sym (not-due n (d .held) (leftAt s (x .at)) (omega (arith, H .due, q .1)) .0)) (y .1))
 
-    abbrev pub before : State
-    before = offerEach (t .accs) t (offering (stateOf w m l o n) h′) .state
+    same-before : offerEach (t .accs) t (offering z due) ≡ beforeSlot t run
+    same-before = ap (λ (i : ℕ). offerEach (t .accs) t (offering z (heldWith i (d .held) (leftAt s (x .at))))) (sym N)
 
-    same : {A : Type 0} (f : State → A) → ((s : State) (a : ℕ) → f (offered t s a .state) ≡ f s) → f before ≡ f (stateOf w m l o n)
-    same f g = each-same f t g (t .accs) (offering (stateOf w m l o n) h′)
+    -- before a slot: the arrays are those of the definition once the offers are made
+    pub before-shown : Offered t (beforeSlot t run) d₁
+    before-shown = subst₂ (Offered t) same-before (sym E)
+        (before-offered t w (F .wired) (offering z due) (withHeld due d) (record {
+          stored = record { rules = H .stored .rules; waiting = H .stored .waiting; admitted = H .stored .admitted; last = H .stored .last; allowance = H .stored .allowance; counts = H .stored .counts };
+          held = refl;
+        }) (everyOn e x n) (e .served) only-last)
 
-    pub before-last : l ≡ before .last
-    before-last = sym (same (λ (y : State). y .last) (λ y a. offer-others t y a .last))
+    abbrev mid : State
+    mid = beforeSlot t run .state
 
-    pub before-allowance : o ≡ before .allowance
-    before-allowance = sym (same (λ (y : State). y .allowance) (λ y a. offer-others t y a .allowance))
+    mid-rules : keeps t mid ≡ true
+    mid-rules = before-shown .stored .rules
 
-    before-slot : before .slot ≡ n
-    before-slot = same (λ (y : State). y .slot) (λ y a. offer-others t y a .slot)
+    mid-slot : mid .slot ≡ n
+    mid-slot = each-same (λ (y : State). y .slot) t (λ y a. offer-others t y a .slot) (t .accs) (withDue run) ∙ N
 
-    pub before-rules : keeps t before ≡ true
-    before-rules = each-kept (t .accs) t (offering (stateOf w m l o n) h′) rules
+    module _ (g : n < lastSlot) (p : ℕ) (P : p ≡ t .bus .window) (e₂ : SlotEnd) (Q : e₂ ≡ endOn (serveOn k w d₁ .byte) (begins p (n + 1)))
+        (d₂ : Arrays) (E₂ : d₂ ≡ afterOn k w p n d₁) where
+      Y : Served t mid d₁ (serveOn k w d₁)
+      Y = serves t w k (F .wired) (F .table) mid d₁ (before-shown .stored)
 
-    module _ (y₁ : Arrays) (O : Offered t (offerEach (t .accs) t (offering (stateOf w m l o n) h′)) y₁)
-        (b : ℕ) (w₂ l₂ o₂ c₂ v₂ : List ℕ) (Y : Served t before b w₂ l₂ o₂ c₂ v₂)
-        (z : ℕ) (window : z ≡ t .bus .window) (m₂ : List ℕ) (M : m₂ ≡ pick (begins z (n + 1)) (replicate 32 0) (y₁ .admitted)) (q′ : Bool) (Q : q′ ≡ begins z (n + 1)) where
-      abbrev next-state : State
-      next-state = stateOf w₂ m₂ l₂ o₂ (n + 1)
+      abbrev last-state : State
+      last-state = servedFrom t mid
 
-      opened : begins z (n + 1) ≡ opens t (servedFrom t before .slot)
-      opened = window-same t z n (sound-of t before before-rules .window) window
-          ∙ ap (opens t) (sym (served-frame t before before-rules .1 ∙ before-slot))
+      same-slot : last-state .slot ≡ n
+      same-slot = served-frame t mid mid-rules .1 ∙ mid-slot
 
-      kept-admitted : y₁ .admitted ≡ servedFrom t before .admitted
-      kept-admitted = O .stored .admitted ∙ sym (served-frame t before before-rules .0)
+      opened : begins p (n + 1) ≡ opens t (last-state .slot)
+      opened = window-same t p n (sound-of t mid mid-rules .window) P ∙ ap (opens t) (sym same-slot)
 
-      ticked : next-state ≡ tick t (servedFrom t before)
+      -- the slot of the definition
+      slotted-as : outcome (answer t mid mid-rules) (tick t last-state) ≡ slotted t mid
+      slotted-as = served-outcome t mid mid-rules (λ f. omega (arith, mid-slot, f)) ∙ slot-passed t mid mid-rules
+
+      abbrev then : State
+      then = slotted t mid .state
+
+      then-is : tick t last-state ≡ then
+      then-is = ap (λ (o : Outcome). o .state) slotted-as
+
+      then-rules : keeps t then ≡ true
+      then-rules = slot-keeps t mid mid-rules
+
+      ticked : Stored t (tick t last-state) (afterOn k w p n d₁)
       unfolding tick
-      ticked = same-state w₂ _ m₂ _ l₂ _ o₂ _ (n + 1) _ (Y .waiting)
-          (M ∙ ap₂ (λ (y : Bool) (e : List ℕ). pick y (replicate 32 0) e) opened kept-admitted)
-          (Y .last) (Y .allowance) (ap (λ (i : ℕ). i + 1) (sym (served-frame t before before-rules .1 ∙ before-slot)))
+      ticked = record {
+        rules = subst (λ (y : State). keeps t y ≡ true) (sym then-is) then-rules;
+        waiting = Y .waiting;
+        admitted = ap₂ (λ (b : Bool) (m : List ℕ). pick b (replicate 32 0) m) opened (Y .admitted ∙ before-shown .stored .admitted ∙ sym (served-frame t mid mid-rules .0));
+        last = Y .last;
+        allowance = Y .allowance;
+        counts = Y .counts;
+      }
+
+      ticked-slot : tick t last-state .slot ≡ n + 1
+      unfolding tick
+      ticked-slot = ap (λ (i : ℕ). i + 1) same-slot
+
+      -- after a slot: the arrays are those of the definition
+      after-stored : Stored t then d₂
+      after-stored = subst₂ (Stored t) then-is (sym E₂) ticked
+
+      pub after-slot-count : then .slot ≡ n + 1
+      after-slot-count = ap (λ (y : State). y .slot) (sym then-is) ∙ ticked-slot
+
+      after-held : d₂ .held ≡ beforeSlot t run .held
+      after-held = ap (λ (y : Arrays). y .held) E₂ ∙ Y .held ∙ before-shown .held
+
+      after-byte : e₂ .served ≡ byteFrom t mid
+      after-byte = ap (λ (y : SlotEnd). y .served) Q ∙ Y .byte
 
       -- where no window opens, only the accelerator served may have more admitted
-      next-settled : q′ ≡ false → (b ≡ 255 → ⊥) → (b < t .accs) × Settled t next-state (y₁ .held) b
-      next-settled e f =
-          let i : begins z (n + 1) ≡ false = sym Q ∙ e in (
-            subst (λ (a : ℕ). a < t .accs) (sym (Y .byte)) (served-known t before before-rules (λ g. f (Y .byte ∙ g))),
-            settled-served t before next-state (y₁ .held) b
-                (λ a la. subst (λ (g : List ℕ). Idles t before g a) (sym (O .held)) (settled-each t (stateOf w m l o n) h′ rules a la))
-                (λ a g. ap (λ (p : List ℕ). getD p a 0) (Y .waiting) ∙ served-others t before before-rules a (λ j. g (j ∙ sym (Y .byte))))
-                (λ a. ap (λ (p : List ℕ). getD p a 0) (M ∙ passed _ _ _ i ∙ O .stored .admitted)),
+      after-settled : e₂ .opened ≡ false → (e₂ .served ≡ 255 → ⊥) → (e₂ .served < t .accs) × Settled t then (d₂ .held) (e₂ .served)
+      after-settled a f =
+          let i : begins p (n + 1) ≡ false = sym (ap (λ (y : SlotEnd). y .opened) Q) ∙ a in (
+            subst (λ (b : ℕ). b < t .accs) (sym after-byte) (served-known t mid mid-rules (λ q. f (after-byte ∙ q))),
+            settled-served t mid then (d₂ .held) (e₂ .served) mid-rules then-rules
+                (λ b lb. subst (λ (h : List ℕ). Idles t mid h b) (sym after-held) (settled-each t z _ (H .stored .rules) b lb))
+                (λ b q. ap (λ (l : List ℕ). getD l b 0) (sym (after-stored .waiting) ∙ ap (λ (y : Arrays). y .waiting) E₂ ∙ Y .waiting) ∙ served-others t mid mid-rules b (λ j. q (j ∙ sym after-byte)))
+                (λ b. ap (λ (l : List ℕ). getD l b 0) (sym (after-stored .admitted) ∙ ap (λ (y : Arrays). y .admitted) E₂ ∙ passed _ _ _ i ∙ Y .admitted ∙ before-shown .stored .admitted)),
           )
 
-      stepped : n < lastSlot → Stepped t s (placeOf w m l o h x n) (placeOf w₂ m₂ l₂ o₂ (y₁ .held) x′ (n + 1)) b
-      stepped g =
-          subst (λ (p : List ℕ). Stepped t s (placeOf w m l o h x n) (record { state = next-state; held = p; at = x′ .at }) b) (sym (O .held))
-          (one-step t s (placeOf w m l o h x n) (G .running .stands) h′ x′ T (offerEach (t .accs) t (offering (stateOf w m l o n) h′)) refl
-          (answer t before before-rules) next-state
-          (ap (outcome (answer t before before-rules)) ticked ∙ served-outcome t before before-rules (λ e. omega (arith, before-slot, e)))
-          b (Y .byte ∙ served-answer t before before-rules))
+      after-room : Room (d₂ .held) (x₁ .at)
+      after-room a =
+          omega (
+            arith,
+            ap (λ (h : List ℕ). heldOf h a) after-held,
+            each-less (t .accs) t (withDue run) a,
+            T .room a,
+            ap (λ (i : ℕ). heldOf (heldWith i (d .held) (leftAt s (x .at))) a) N,
+          )
 
-      pub going-turn : n < length d → length d₀ ≤ 65536 → isDone (runAt s (placeOf w m l o h x n)) ≡ false
-          → Going t s d₀ (set d n b) w₂ m₂ l₂ o₂ c₂ v₂ (y₁ .held) x′ b q′ (n + 1)
-      going-turn g k e = record {
-        running = running-turn t s d₀ d (placeOf w m l o h x n) n (G .running) g e _ b (stepped (omega (arith, G .running .long)));
-        counts = subst (λ (p : List ℕ). Counted t (λ a. getD p a 0) c₂ v₂) (sym (Y .waiting)) (Y .counts);
-        due = T .due;
-        settled = next-settled;
+      -- the run one slot on, its byte, and what holds of its arrays
+      pub shows-next : Shows t s (next t run .state) d₂ x₁ e₂
+      unfolding next
+      shows-next = record { stored = after-stored; accepts = T .accepts; room = after-room; due = T .due; settled = after-settled }
+
+      pub stepped : Stepped t s (placeOf z d x) (placeOf (next t run .state) d₂ x₁) (e₂ .served)
+      unfolding next
+      stepped = record {
+        place = ap₂ (λ (h : List ℕ) (l : List Request). record { state = then; held = h; left = l }) after-held
+            (T .left ∙ ap (λ (i : ℕ). leftAfter i (leftAt s (x .at))) (sym N));
+        byte = after-byte ∙ served-answer t mid mid-rules ∙ ap (λ (o : Outcome). byteOf (o .answer)) slotted-as;
+        stands = record { keeps-rules = then-rules; accepts = T .accepts; room = after-room };
+      }
+
+      pub next-slot : next t run .state .slot ≡ n + 1
+      unfolding next
+      next-slot = after-slot-count
+
+-- the test before each slot, and one slot, for any loop over a run
+module _ (t : Tree) (w k s : List ℕ) (F : Fixed t w k) (Q : Run → Type 0) (d : Arrays) (x : NextLine) (e : SlotEnd) (n : ℕ) (G : Walk t s Q d x e n) where
+  abbrev pub here : Run
+  here = runAt s (placeOf (G .state) d x)
+
+  pub walk-done : (b : Bool) → b ≡ (eqb (x .at) (length s) && noneHeld (d .held) && eqb (getD (d .live) 0 0) 0) → b ≡ isDone here
+  walk-done = shows-done t s (G .state) d x e (G .shows)
+
+  pub walk-next : (x₁ : NextLine) → Taken n s (d .held) (x .at) (heldWith n (d .held) (leftAt s (x .at))) x₁ → (d₁ : Arrays) → d₁ ≡ beforeOn s n x e (t .accs) w d
+      → (p : ℕ) → p ≡ t .bus .window → (e₂ : SlotEnd) → e₂ ≡ endOn (serveOn k w d₁ .byte) (begins p (n + 1)) → (d₂ : Arrays) → d₂ ≡ afterOn k w p n d₁
+      → n < lastSlot → (P : Run → Type 0) → (e₂ .served ≡ lastByte t here → P (next t here)) → Walk t s P d₂ x₁ e₂ (n + 1)
+  walk-next x₁ T d₁ E p W e₂ q d₂ E₂ g P f =
+      let Z = stepped t s (G .state) d x e (G .shows) w k F n (G .slot) x₁ T d₁ E g p W e₂ q d₂ E₂ in
+      record {
+        state = next t here .state;
+        shows = shows-next t s (G .state) d x e (G .shows) w k F n (G .slot) x₁ T d₁ E g p W e₂ q d₂ E₂;
+        slot = next-slot t s (G .state) d x e (G .shows) w k F n (G .slot) x₁ T d₁ E g p W e₂ q d₂ E₂;
+        holds = subst P (sym (Z .place)) (f (Z .byte));
       }

@@ -13,7 +13,8 @@ use mathlib.Core.List.{List}
 use lib.ListN.{getD, set}
 use Rattle.model.specs.declared.Tree.{Tree}
 use Rattle.model.specs.declared.State.{State}
-use Rattle.machine.specs.Machine.{Answer, admitted, served, idle, refused, offered}
+pub use Rattle.admit.specs.Admitting.{onAdmitted}
+use Rattle.machine.specs.Machine.{offered}
 
 pub record Offering : Type 0 where
   pub state : State
@@ -24,12 +25,6 @@ heldOf h a = getD h a 0
 
 abbrev pub release : List ℕ → ℕ → List ℕ
 release h a = set h a (heldOf h a - 1)
-
-abbrev pub onAdmitted : {A : Type 0} → Answer → A → A → A
-onAdmitted admitted y z = y
-onAdmitted (served a) y z = z
-onAdmitted idle y z = z
-onAdmitted (refused n) y z = z
 
 abbrev pub offering : State → List ℕ → Offering
 offering s h = record { state = s; held = h }
