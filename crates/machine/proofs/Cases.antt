@@ -9,13 +9,13 @@ use borrow.Author.Tests.{leb-true, leb-false, eqb-true, eqb-false, eq-eqb, not-t
 use Rattle.model.specs.declared.Tree.{Tree}
 use Rattle.model.specs.declared.State.{State}
 use Rattle.folds.specs.Fold.{pick}
-use Rattle.model.specs.Tree.{limitOf, budgetOf, waitingOf, admittedOf}
+use Rattle.model.specs.Tree.{limitOf, budgetOf, waitingOf, outstandingOf, admittedOf}
 use Rattle.model.specs.Beneath.{inside}
 use Rattle.rules.specs.Rules.{keeps}
 use Rattle.folds.proofs.Folds.{all-at, at-all, clash}
 use Rattle.rules.proofs.Sound.{Kept, sound-of, kept-of}
 use Rattle.rules.proofs.Beneath.{root-zero}
-use Rattle.machine.specs.Machine.{admitted, served, idle, refused, Outcome, outcome, admit, offered, noneWaits, lastSlot, tick, chosen, serve, slotted}
+use Rattle.machine.specs.Machine.{Answer, admitted, served, idle, refused, Outcome, outcome, admit, onAdmitted, offered, noneWaits, lastSlot, tick, chosen, serve, slotted}
 
 -- a choice on a test, by its two cases
 cases : {A : Type 0} (P : A → Type 0) (c : Bool) (x y : A) → (c ≡ true → P x) → (c ≡ false → P y) → P (pick c x y)
@@ -26,23 +26,24 @@ cases P false x y f g = g refl
 pub data Refuses (t : Tree) (s : State) (a : ℕ) : ℕ → Type 0 where
   broken : keeps t s ≡ false → Refuses t s a 11
   unknown : t .accs ≤ a → Refuses t s a 7
-  outstanding : a < t .accs → limitOf t a ≤ waitingOf s a → Refuses t s a 8
+  outstanding : a < t .accs → limitOf t a ≤ outstandingOf s a → Refuses t s a 8
   spent : a < t .accs → budgetOf t a ≤ admittedOf s a → Refuses t s a 9
 
 pub data Offered (t : Tree) (s : State) (a : ℕ) : Outcome → Type 0 where
   refuses : {n : ℕ} → Refuses t s a n → Offered t s a (outcome (refused n) s)
-  admits : a < t .accs → waitingOf s a < limitOf t a → admittedOf s a < budgetOf t a
+  admits : a < t .accs → outstandingOf s a < limitOf t a → admittedOf s a < budgetOf t a
       → Offered t s a (outcome admitted (admit s a))
 
 pub offer-cases : (t : Tree) (s : State) (a : ℕ) → Offered t s a (offered t s a)
 unfolding offered
 offer-cases t s a =
     let P = Offered t s a in
+    let Q : Answer → Type 0 = λ v. P (outcome v (onAdmitted v (admit s a) s)) in
     cases P (not (keeps t s)) _ _ (λ e. refuses (Refuses.broken (not-true (keeps t s) e))) (λ _.
-    cases P (leb (t .accs) a) _ _ (λ e. refuses (unknown (leb-true _ _ e))) (λ e.
+    cases Q (leb (t .accs) a) _ _ (λ e. refuses (unknown (leb-true _ _ e))) (λ e.
     let la = leb-false (t .accs) a e in
-    cases P (leb (limitOf t a) (waitingOf s a)) _ _ (λ f. refuses (outstanding la (leb-true _ _ f))) (λ f.
-    cases P (leb (budgetOf t a) (admittedOf s a)) _ _ (λ g. refuses (spent la (leb-true _ _ g))) (λ g.
+    cases Q (leb (limitOf t a) (outstandingOf s a)) _ _ (λ f. refuses (outstanding la (leb-true _ _ f))) (λ f.
+    cases Q (leb (budgetOf t a) (admittedOf s a)) _ _ (λ g. refuses (spent la (leb-true _ _ g))) (λ g.
     admits la (leb-false _ _ f) (leb-false _ _ g)))))
 
 -- why a slot is refused by its number

@@ -11,7 +11,7 @@ use lib.Seq.{getD-set-same, getD-set-other, getD-append-add}
 use Rattle.model.specs.declared.Tree.{Tree}
 use Rattle.model.specs.declared.State.{State}
 use Rattle.folds.specs.Fold.{pick}
-use Rattle.model.specs.Tree.{granularityOf, limitOf, budgetOf, path, waitingOf, admittedOf, lastOf, allowanceOf, portOf}
+use Rattle.model.specs.Tree.{granularityOf, limitOf, budgetOf, path, waitingOf, outstandingOf, admittedOf, lastOf, allowanceOf, portOf}
 use Rattle.model.specs.Beneath.{weightUnder, waitsUnder}
 use Rattle.rules.proofs.Sound.{Sound, Kept}
 use Rattle.rules.proofs.Beneath.{On, on?, only, only-same, only-other, under-sum, weight-on, weight-off, path-bounds}
@@ -60,6 +60,7 @@ module _ (t : Tree) (S : Sound t) where
     admitted-size = refl;
     last-size = simp (length-append, length-replicate) (omega (arith, S .most-ints));
     allowance-size = refl;
+    outstanding = λ a l. omega (arith, zeros 32 a);
     waiting = λ a l. omega (arith, zeros 32 a);
     admitted = λ a l. omega (arith, zeros 32 a);
     no-waiting = λ a l. zeros 32 a;
@@ -86,6 +87,7 @@ module _ (t : Tree) (S : Sound t) where
       admitted-size = e;
       last-size = K .last-size;
       allowance-size = K .allowance-size;
+      outstanding = K .outstanding;
       waiting = K .waiting;
       admitted = h;
       no-waiting = K .no-waiting;
@@ -128,13 +130,14 @@ module _ (t : Tree) (S : Sound t) where
         ap (λ w. weightUnder t w j p) (fun-ext admit-waiting),
       )
 
-      pub admit-kept : waitingOf s a < limitOf t a → admittedOf s a < budgetOf t a → Kept t (admit s a)
+      pub admit-kept : outstandingOf s a < limitOf t a → admittedOf s a < budgetOf t a → Kept t (admit s a)
       admit-kept h m = record {
         waiting-size = length-set (s .waiting) _ _ ∙ K .waiting-size;
         admitted-size = length-set (s .admitted) _ _ ∙ K .admitted-size;
         last-size = K .last-size;
         allowance-size = K .allowance-size;
-        waiting = λ b l. omega (arith, admit-waiting b, bump (waitingOf s) (limitOf t) a b h (K .waiting b l));
+        outstanding = λ b l. omega (arith, admit-waiting b, bump (outstandingOf s) (limitOf t) a b h (K .outstanding b l));
+        waiting = λ b l. omega (arith, admit-waiting b, bump (outstandingOf s) (limitOf t) a b h (K .outstanding b l));
         admitted = λ b l. omega (arith, admit-admitted b, bump (admittedOf s) (budgetOf t) a b m (K .admitted b l));
         no-waiting = λ b l. omega (arith, admit-waiting b, K .no-waiting b l, only-other a b (omega arith));
         no-admitted = λ b l. omega (arith, admit-admitted b, K .no-admitted b l, only-other a b (omega arith));
@@ -195,6 +198,7 @@ module _ (t : Tree) (S : Sound t) where
         admitted-size = ap length (C .frame .admitted) ∙ K .admitted-size;
         last-size = C .frame .last-size ∙ K .last-size;
         allowance-size = C .frame .allowance-size ∙ K .allowance-size;
+        outstanding = λ b l. omega (arith, take-waiting b, K .outstanding b l);
         waiting = λ b l. omega (arith, take-waiting b, K .waiting b l);
         admitted = λ b l. omega (arith, same-admitted b, K .admitted b l);
         no-waiting = λ b l. omega (arith, take-waiting b, K .no-waiting b l);

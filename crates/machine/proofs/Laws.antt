@@ -18,7 +18,7 @@ use Rattle.folds.proofs.Folds.{joined, picked, passed, clash}
 use Rattle.rules.proofs.Sound.{Sound, sound, Kept, keeping, sound-of, kept-of, keeps-of}
 use Rattle.rules.proofs.Beneath.{On, only, only-same, only-other, root-zero}
 use Rattle.turns.specs.Turns.{turnPort, after}
-use Rattle.machine.specs.Machine.{Answer, admitted, served, idle, refused, Outcome, outcome, freshState, admit, offered, opens, lastSlot, tick, chosen, takeOne, slotted}
+use Rattle.machine.specs.Machine.{Answer, admitted, served, idle, refused, Outcome, outcome, freshState, admit, limitsAnswer, verdictOf, offered, opens, lastSlot, tick, chosen, takeOne, slotted}
 use Rattle.turns.proofs.Descent.{Turned, Unturned, Choice, choice}
 use Rattle.machine.proofs.Cases.{Offered, refuses, admits, offer-cases, Stops, stopped, Slotted, stops, idles, serves, slot-cases}
 use Rattle.machine.proofs.Keeps.{zeros, fresh-kept, tick-kept, admit-waiting, admit-admitted, admit-kept, take-waiting, take-kept}
@@ -89,36 +89,19 @@ offer-others t s a = go (offered t s a) (offer-cases t s a)
       slot = refl;
     }
 
-verdict : Bool → Bool → Bool → Answer
-verdict c d e = pick c (refused 7) (pick d (refused 8) (pick e (refused 9) admitted))
-
-says : (s r : State) (c d e : Bool)
-    → pick c (outcome (refused 7) s)
-    (pick d (outcome (refused 8) s) (pick e (outcome (refused 9) s) (outcome admitted r))) .answer ≡ verdict c d e
-unfolding verdict
-says s r true d e = refl
-says s r false true e = refl
-says s r false false true = refl
-says s r false false false = refl
-
-offer-answer : (t : Tree) (s : State) (a : ℕ) → keeps t s ≡ true
-    → offered t s a .answer ≡ verdict (leb (t .accs) a) (leb (limitOf t a) (waitingOf s a))
-    (leb (budgetOf t a) (admittedOf s a))
+-- an offer's answer, once the state passes
+pub offer-verdict : (t : Tree) (s : State) (a : ℕ) → keeps t s ≡ true → offered t s a .answer ≡ verdictOf t s a
 unfolding offered
-offer-answer t s a k =
-    ap Outcome·answer (passed _ _ _ (ap not k))
-    ∙ says s (admit s a) (leb (t .accs) a) (leb (limitOf t a) (waitingOf s a)) (leb (budgetOf t a) (admittedOf s a))
-  where
-    Outcome·answer : Outcome → Answer
-    Outcome·answer o = o .answer
+offer-verdict t s a k = ap (λ (o : Outcome). o .answer) (passed _ _ _ (ap not k))
 
 -- the answer depends on the accelerator's own limits and record alone
 pub offer-own : (t : Tree) (s r : State) (a : ℕ) → keeps t s ≡ true → keeps t r ≡ true → waitingOf s a ≡ waitingOf r a
     → admittedOf s a ≡ admittedOf r a
     → offered t s a .answer ≡ offered t r a .answer
 offer-own t s r a k l e f =
-    offer-answer t s a k ∙ ap₂ (λ w m. verdict (leb (t .accs) a) (leb (limitOf t a) w) (leb (budgetOf t a) m)) e f
-    ∙ sym (offer-answer t r a l)
+    offer-verdict t s a k
+    ∙ ap₂ (λ w m. pick (leb (t .accs) a) (refused 7) (limitsAnswer (limitOf t a) w (budgetOf t a) m)) e f
+    ∙ sym (offer-verdict t r a l)
 
 -- a slot that served a: one of a's that waited waits no more, and nobody else's
 pub record Served (t : Tree) (s : State) (a : ℕ) (r : State) : Type 0 where

@@ -1,20 +1,22 @@
 -- What each step of the machine's code does to a state, said over variables: a store past the end changes nothing, a test
 -- picks the case of the definition. By the laws of `set` and `pick`.
-use mathlib.Core.Path.{_≡_, ap, ap₂, sym, _∙_}
-use mathlib.Core.Bool.{true, false, not}
+use mathlib.Core.Path.{_≡_, refl, ap, ap₂, sym, _∙_}
+use mathlib.Core.Bool.{Bool, true, false, not}
 use mathlib.Core.List.{List, _++_}
 use Prim.Native.Nat.{ℕ, zero, suc, _+_, _-_, _/_, _≤_, _<_}
 use native.Mathlib.Nat.{sub-zero, zero-sub, suc-sub-suc, le-antisymm, div-zero}
 use native.Mathlib.Omega.{arith}
 use lib.ListN.{length, set, replicate, drop}
 use lib.Seq.{set-out}
-use borrow.Author.Tests.{eq-eqb, ne-eqb, le-leb, lt-leb}
+use lib.Dec.{leb}
+use borrow.Author.Tests.{eq-eqb, ne-eqb, le-leb, lt-leb, leb-false}
 use Rattle.model.specs.declared.Tree.{Tree}
 use Rattle.model.specs.declared.State.{State}
-use Rattle.model.specs.Tree.{windowOf, waitingOf, admittedOf, limitOf, budgetOf}
+use Rattle.model.specs.Tree.{windowOf, waitingOf, outstandingOf, admittedOf, limitOf, budgetOf}
 use Rattle.rules.specs.Rules.{treeKeeps, keeps}
-use Rattle.folds.proofs.Folds.{picked, passed}
-use Rattle.machine.specs.Machine.{outcome, admitted, served, idle, refused, started, notStarted, beginning, zeroState, freshState, freshened, admit, offeredWithin, offered, noneWaits, lastSlot, chosen, takeOne, serve, tick, opens, slottedWithin, slotted}
+use Rattle.folds.specs.Fold.{pick}
+use Rattle.folds.proofs.Folds.{picked, passed, clash}
+use Rattle.machine.specs.Machine.{Answer, outcome, admitted, served, idle, refused, started, notStarted, beginning, zeroState, freshState, freshened, admit, limitsAnswer, verdictOf, onAdmitted, offeredWithin, offered, noneWaits, lastSlot, chosen, takeOne, serve, tick, opens, slottedWithin, slotted}
 
 pub admit-far : (s : State) (a : ℕ) → length (s .waiting) ≡ 32 → length (s .admitted) ≡ 32 → 32 ≤ a → s ≡ admit s a
 admit-far s a w d h =
@@ -47,6 +49,28 @@ tick-none t s e = tick-stays t s (zeroth (s .slot + 1) ∙ sym (zeroth (s .slot)
     zeroth : (n : ℕ) → windowOf t n ≡ 0
     zeroth n = ap (λ (w : ℕ). n / w) e ∙ div-zero n
 
+-- the tests of the limits, in the definition's order
+module _ (limit outstanding budget count : ℕ) where
+  pub limits-8 : limit ≤ outstanding → refused 8 ≡ limitsAnswer limit outstanding budget count
+  limits-8 h = sym (picked _ _ _ (le-leb _ _ h))
+
+  module _ (h : outstanding < limit) where
+    pub limits-9 : budget ≤ count → refused 9 ≡ limitsAnswer limit outstanding budget count
+    limits-9 b = sym (passed _ _ _ (lt-leb _ _ h) ∙ picked _ _ _ (le-leb _ _ b))
+
+    pub limits-admitted : count < budget → admitted ≡ limitsAnswer limit outstanding budget count
+    limits-admitted b = sym (passed _ _ _ (lt-leb _ _ h) ∙ passed _ _ _ (lt-leb _ _ b))
+
+  -- an admission is below both limits
+  pub limits-room : limitsAnswer limit outstanding budget count ≡ admitted → (outstanding < limit) × (count < budget)
+  limits-room = go (leb limit outstanding) (leb budget count) refl refl
+    where
+      go : (c d : Bool) → leb limit outstanding ≡ c → leb budget count ≡ d
+          → pick c (refused 8) (pick d (refused 9) admitted) ≡ admitted → (outstanding < limit) × (count < budget)
+      go true d p q e = clash cc
+      go false true p q e = clash cc
+      go false false p q e = (leb-false limit outstanding p, leb-false budget count q)
+
 -- the tests of an offer, in the definition's order
 module _ (t : Tree) (s : State) (a : ℕ) where
   pub offer-11 : keeps t s ≡ false → outcome (refused 11) s ≡ offered t s a
@@ -57,19 +81,27 @@ module _ (t : Tree) (s : State) (a : ℕ) where
   unfolding offered
   offer-passed k = sym (passed _ _ _ (ap not k))
 
-  pub offer-7 : t .accs ≤ a → outcome (refused 7) s ≡ offeredWithin t s a
-  offer-7 h = sym (picked _ _ _ (le-leb _ _ h))
+  pub verdict-7 : t .accs ≤ a → refused 7 ≡ verdictOf t s a
+  verdict-7 h = sym (picked _ _ _ (le-leb _ _ h))
+
+  -- the answer to an accelerator in the tree is that of its limits
+  pub verdict-known : a < t .accs
+      → limitsAnswer (limitOf t a) (outstandingOf s a) (budgetOf t a) (admittedOf s a) ≡ verdictOf t s a
+  verdict-known h = sym (passed _ _ _ (lt-leb _ _ h))
+
+  pub offer-answered : (v : Answer) → v ≡ verdictOf t s a → outcome v (onAdmitted v (admit s a) s) ≡ offeredWithin t s a
+  offer-answered v e = ap (λ (x : Answer). outcome x (onAdmitted x (admit s a) s)) e
 
   module _ (h : a < t .accs) where
-    pub offer-8 : limitOf t a ≤ waitingOf s a → outcome (refused 8) s ≡ offeredWithin t s a
-    offer-8 w = sym (passed _ _ _ (lt-leb _ _ h) ∙ picked _ _ _ (le-leb _ _ w))
+    pub offer-8 : limitOf t a ≤ outstandingOf s a → outcome (refused 8) s ≡ offeredWithin t s a
+    offer-8 w = offer-answered (refused 8) (limits-8 _ _ (budgetOf t a) (admittedOf s a) w ∙ verdict-known h)
 
-    module _ (w : waitingOf s a < limitOf t a) where
+    module _ (w : outstandingOf s a < limitOf t a) where
       pub offer-9 : budgetOf t a ≤ admittedOf s a → outcome (refused 9) s ≡ offeredWithin t s a
-      offer-9 b = sym (passed _ _ _ (lt-leb _ _ h) ∙ passed _ _ _ (lt-leb _ _ w) ∙ picked _ _ _ (le-leb _ _ b))
+      offer-9 b = offer-answered (refused 9) (limits-9 _ _ _ _ w b ∙ verdict-known h)
 
       pub offer-admitted : admittedOf s a < budgetOf t a → outcome admitted (admit s a) ≡ offeredWithin t s a
-      offer-admitted b = sym (passed _ _ _ (lt-leb _ _ h) ∙ passed _ _ _ (lt-leb _ _ w) ∙ passed _ _ _ (lt-leb _ _ b))
+      offer-admitted b = offer-answered admitted (limits-admitted _ _ _ _ w b ∙ verdict-known h)
 
 -- the tests of a slot, in the definition's order
 module _ (t : Tree) (s : State) where

@@ -10,7 +10,13 @@
 -- Beginning            the start's answer and the state that it returns; beginning a s: the answer a with the state s
 -- freshened t          the starting state, or 11, and then no state but zeros
 -- admit s a            "waiting and admitted rise by one"
--- offeredWithin t s a  the offer of one transaction once configuration and state have passed: 7, 8, 9, or admitted
+-- limitsAnswer l o b n what an offer answers to an accelerator with outstanding limit l and budget b, of which o are
+--                      outstanding and n were admitted in this window: 8, 9, or admitted
+-- verdictOf t s a      what the offer of one transaction answers once configuration and state have passed: 7, 8, 9, or
+--                      admitted
+-- onAdmitted v x y     x where the answer v is admitted, else y
+-- offeredWithin t s a  that answer, with the state that an admission changes ("The first that holds refuses, and nothing
+--                      changes")
 -- offered t s a        the offer of one transaction: 11, 7, 8, 9 in this order, or admitted
 -- noneWaits s          nothing waits
 -- opens t n            slot n + 1 is in another window than slot n
@@ -90,12 +96,22 @@ admit s a =
       slot = s .slot;
     }
 
+abbrev pub limitsAnswer : ℕ → ℕ → ℕ → ℕ → Answer
+limitsAnswer limit outstanding budget count =
+    pick (leb limit outstanding) (refused 8) (pick (leb budget count) (refused 9) admitted)
+
+abbrev pub verdictOf : Tree → State → ℕ → Answer
+verdictOf t s a =
+    pick (leb (t .accs) a) (refused 7) (limitsAnswer (limitOf t a) (outstandingOf s a) (budgetOf t a) (admittedOf s a))
+
+abbrev pub onAdmitted : {A : Type 0} → Answer → A → A → A
+onAdmitted admitted x y = x
+onAdmitted (served a) x y = y
+onAdmitted idle x y = y
+onAdmitted (refused n) x y = y
+
 abbrev pub offeredWithin : Tree → State → ℕ → Outcome
-offeredWithin t s a =
-    pick (leb (t .accs) a) (outcome (refused 7) s)
-    (pick (leb (limitOf t a) (outstandingOf s a)) (outcome (refused 8) s)
-    (pick (leb (budgetOf t a) (admittedOf s a)) (outcome (refused 9) s)
-    (outcome admitted (admit s a))))
+offeredWithin t s a = outcome (verdictOf t s a) (onAdmitted (verdictOf t s a) (admit s a) s)
 
 unfoldable pub offered : Tree → State → ℕ → Outcome
 offered t s a = pick (not (keeps t s)) (outcome (refused 11) s) (offeredWithin t s a)

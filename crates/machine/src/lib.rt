@@ -6,6 +6,7 @@ use model::State;
 use model::Tree;
 use model::access::accelerator_at;
 use model::access::admitted_of;
+use model::access::outstanding_of;
 use model::access::waiting_of;
 use rules::both_keep;
 use rules::tree_keeps;
@@ -14,8 +15,8 @@ use turns::less_one;
 ghost use mathlib.Core.Path.{_≡_};
 ghost use Prim.Native.Nat.{_<_, _≤_};
 ghost use Rattle.model.specs.Tree.{waitingOf, admittedOf};
-ghost use Rattle.machine.specs.Machine.{freshState, zeroState, freshened, admit, offeredWithin, offered, noneWaits, tick, takeOne, lastSlot, slottedWithin, slotted};
-ghost use Rattle.machine.specs.Answers.{freshOutcome, offerOutcome, slotOutcome};
+ghost use Rattle.machine.specs.Machine.{admitted, freshState, zeroState, freshened, admit, limitsAnswer, verdictOf, offeredWithin, offered, noneWaits, tick, takeOne, lastSlot, slottedWithin, slotted};
+ghost use Rattle.machine.specs.Answers.{offerMeans, freshOutcome, offerOutcome, slotOutcome};
 
 // What the start answers.
 pub enum FreshAnswer {
@@ -118,33 +119,54 @@ fn admitting(s: State, a: u8) -> State
     next
 }
 
+// What an offer answers by the limits of its accelerator: as many as may be are outstanding, or the budget is used, or neither.
+pub fn limits_answer(limit: u32, outstanding: u32, budget: u32, admitted: u32) -> OfferAnswer
+    ensures { λ r. ⌜ offerMeans r ≡ limitsAnswer limit outstanding budget admitted ⌝ }
+{
+    if limit <= outstanding {
+        return OfferAnswer::Refused(Refusal::Outstanding);
+    }
+    if budget <= admitted {
+        return OfferAnswer::Refused(Refusal::Budget);
+    }
+    OfferAnswer::Admitted
+}
+
+// What the offer of one transaction of accelerator a answers, for a caller that has checked configuration and state. Where it
+// is admitted, its counts have room for one more.
+fn offer_answer(t: Tree, s: State, a: u8) -> OfferAnswer
+    ensures answer { λ r. ⌜ offerMeans r ≡ verdictOf t s a ⌝ }
+    ensures room { λ r. ⌜ (offerMeans r ≡ admitted → (waitingOf s a < 255) × (admittedOf s a < 65535)) ⌝ }
+{
+    if t.accs <= a {
+        return OfferAnswer::Refused(Refusal::Unknown);
+    }
+    let x = accelerator_at(t, a);
+    limits_answer(
+        x.phi as u32,
+        outstanding_of(s, a),
+        x.budget as u32,
+        admitted_of(s, a) as u32,
+    )
+}
+
 // The offer of one transaction of accelerator a, for a caller that has checked configuration and state.
 fn offer_within(t: Tree, s: State, a: u8) -> OfferReply
     ensures { λ r. ⌜ offerOutcome r ≡ offeredWithin t s a ⌝ }
 {
-    if t.accs <= a {
-        return OfferReply {
-            answer: OfferAnswer::Refused(Refusal::Unknown),
+    let answer = offer_answer(t, s, a);
+    match answer {
+        OfferAnswer::Admitted => {
+            let next = admitting(s, a);
+            OfferReply {
+                answer: OfferAnswer::Admitted,
+                state: next,
+            }
+        }
+        OfferAnswer::Refused(refusal) => OfferReply {
+            answer: OfferAnswer::Refused(refusal),
             state: s,
-        };
-    }
-    let x = accelerator_at(t, a);
-    if x.phi <= waiting_of(s, a) {
-        return OfferReply {
-            answer: OfferAnswer::Refused(Refusal::Outstanding),
-            state: s,
-        };
-    }
-    if x.budget <= admitted_of(s, a) {
-        return OfferReply {
-            answer: OfferAnswer::Refused(Refusal::Budget),
-            state: s,
-        };
-    }
-    let next = admitting(s, a);
-    OfferReply {
-        answer: OfferAnswer::Admitted,
-        state: next,
+        },
     }
 }
 

@@ -19,8 +19,9 @@
 -- levelOf t j           the level of interconnect j ("A level is the count of interconnects from the root to here, the
 --                       root 1")
 -- waitingOf s a         the transactions of accelerator a that wait
--- outstandingOf s a     the transactions of accelerator a that are outstanding: those that wait ("A transaction stops
---                       being outstanding in the slot that serves it")
+-- outstandingBy n       how many transactions of an accelerator are outstanding, where n of them wait: those that wait
+--                       ("A transaction stops being outstanding in the slot that serves it")
+-- outstandingOf s a     the transactions of accelerator a that are outstanding
 -- admittedOf s a        the transactions of accelerator a admitted in this window
 -- lastOf s j            the last port of interconnect j
 -- allowanceOf s j       the allowance of interconnect j
@@ -97,8 +98,11 @@ levelOf t j = suc (length (above 15 t j))
 abbrev pub waitingOf : State → ℕ → ℕ
 waitingOf s a = getD (s .waiting) a 0
 
+abbrev pub outstandingBy : ℕ → ℕ
+outstandingBy waiting = waiting
+
 abbrev pub outstandingOf : State → ℕ → ℕ
-outstandingOf s a = waitingOf s a
+outstandingOf s a = outstandingBy (waitingOf s a)
 
 abbrev pub admittedOf : State → ℕ → ℕ
 admittedOf s a = getD (s .admitted) a 0

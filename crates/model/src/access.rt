@@ -8,7 +8,7 @@ use crate::Tree;
 ghost use mathlib.Core.Path.{_≡_};
 ghost use Prim.Native.Nat.{_≤_, _*_, _^_};
 ghost use lib.ListN.{length};
-ghost use Rattle.model.specs.Tree.{interconnectOf, acceleratorOf, portOf, levelOf, above, waitingOf, admittedOf, lastOf, allowanceOf};
+ghost use Rattle.model.specs.Tree.{interconnectOf, acceleratorOf, portOf, levelOf, above, waitingOf, outstandingBy, outstandingOf, admittedOf, lastOf, allowanceOf};
 ghost use Rattle.model.specs.Beneath.{under, inside, waitsUnder};
 
 pub fn interconnect_at(t: Tree, j: u8) -> Interconnect
@@ -66,6 +66,20 @@ pub fn waiting_of(s: State, a: u8) -> u8
         return s.waiting[i];
     }
     0
+}
+
+// How many transactions of an accelerator are outstanding, where so many of them wait.
+pub fn outstanding_by(waiting: u32) -> u32
+    ensures { λ r. ⌜ r ≡ outstandingBy waiting ⌝ }
+{
+    waiting
+}
+
+// How many transactions of accelerator a are outstanding.
+pub fn outstanding_of(s: State, a: u8) -> u32
+    ensures { λ r. ⌜ r ≡ outstandingOf s a ⌝ }
+{
+    outstanding_by(widen(waiting_of(s, a)))
 }
 
 pub fn admitted_of(s: State, a: u8) -> u16

@@ -13,7 +13,7 @@ use Rattle.model.specs.declared.State.{State}
 use Rattle.model.specs.declared.Port.{Port}
 use Rattle.model.specs.declared.Port.the-variants.{Empty, Acc, Int}
 use Rattle.folds.specs.Fold.{pick}
-use Rattle.model.specs.Tree.{portOf, granularityOf, parentOf, parentPortOf, homeOf, homePortOf, limitOf, budgetOf, levelOf, above, waitingOf, admittedOf, lastOf, allowanceOf}
+use Rattle.model.specs.Tree.{portOf, granularityOf, parentOf, parentPortOf, homeOf, homePortOf, limitOf, budgetOf, levelOf, above, waitingOf, outstandingOf, admittedOf, lastOf, allowanceOf}
 use Rattle.model.specs.Beneath.{waitsUnder}
 use Rattle.rules.specs.Rules.{busKeeps, carries, isAcc, isInt, childPlaced, usedInterconnect, usedAccelerator, treeKeeps, sized, recordKeeps, turnKeeps, stateKeeps, keeps}
 use Rattle.folds.proofs.Folds.{both, joined, tests, picked, passed, clash}
@@ -107,6 +107,7 @@ pub record Kept (t : Tree) (s : State) : Type 0 where
   pub admitted-size : length (s .admitted) ≡ 32
   pub last-size : length (s .last) ≡ 15
   pub allowance-size : length (s .allowance) ≡ 15
+  pub outstanding : (a : ℕ) → a < t .accs → outstandingOf s a ≤ limitOf t a
   pub waiting : (a : ℕ) → a < t .accs → waitingOf s a ≤ limitOf t a
   pub admitted : (a : ℕ) → a < t .accs → admittedOf s a ≤ budgetOf t a
   pub no-waiting : (a : ℕ) → t .accs ≤ a → waitingOf s a ≡ 0
@@ -124,7 +125,7 @@ unused l m n e h i b = elim (decLt i n) [ yes c ↦ h i b c | no d ↦ sym (beyo
 
 module _ (t : Tree) (s : State) where
   record-used : (a : ℕ) → recordKeeps t s a ≡ true → a < t .accs
-      → (waitingOf s a ≤ limitOf t a) × (admittedOf s a ≤ budgetOf t a)
+      → (outstandingOf s a ≤ limitOf t a) × (admittedOf s a ≤ budgetOf t a)
   unfolding recordKeeps
   record-used a e l = simp tests at (sym (picked _ _ _ (lt-ltb _ _ l)) ∙ e)
 
@@ -152,7 +153,8 @@ module _ (t : Tree) (s : State) where
         admitted-size = h .0 .0 .0 .0 .1;
         last-size = h .0 .0 .0 .1;
         allowance-size = h .0 .0 .1;
-        waiting = λ a l. record-used a (h .0 .1 a (in-accs a l)) l .0;
+        outstanding = λ a l. record-used a (h .0 .1 a (in-accs a l)) l .0;
+        waiting = λ a l. omega (arith, record-used a (h .0 .1 a (in-accs a l)) l .0);
         admitted = λ a l. record-used a (h .0 .1 a (in-accs a l)) l .1;
         no-waiting = unused (s .waiting) (t .accs) 32 (h .0 .0 .0 .0 .0) (λ a l b. record-unused a (h .0 .1 a b) l .0);
         no-admitted = unused (s .admitted) (t .accs) 32 (h .0 .0 .0 .0 .1)
@@ -167,7 +169,7 @@ module _ (t : Tree) (s : State) where
   record-keeps : Kept t s → (a : ℕ) → recordKeeps t s a ≡ true
   unfolding recordKeeps
   record-keeps k a = elim (decLt a (t .accs)) [
-    | yes l ↦ picked _ _ _ (lt-ltb _ _ l) ∙ simp tests (k .waiting a l, k .admitted a l)
+    | yes l ↦ picked _ _ _ (lt-ltb _ _ l) ∙ simp tests (k .outstanding a l, k .admitted a l)
     | no d ↦ passed _ _ _ (le-ltb a (t .accs) (omega arith)) ∙ simp tests
         (k .no-waiting a (omega arith), k .no-admitted a (omega arith))
   ]

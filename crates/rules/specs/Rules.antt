@@ -14,8 +14,8 @@
 -- acceleratorKeeps t a   the rules of accelerator a, in the tree or unused
 -- treeKeeps t            "A configuration keeps them if a tree file could have given it"
 -- sized s                the state's arrays have the lengths of their type, as every value of a program has
--- recordKeeps t s a      "each waiting count is at most phi, each admitted count at most the budget", "unused records
---                        are zero"
+-- recordKeeps t s a      at most phi outstanding ("each waiting count is at most phi"), "each admitted count at most the
+--                        budget", "unused records are zero"
 -- turnKeeps t s j        "each last port is 0 to 7, each allowance is at most the smaller of g and what waits under the
 --                        last port", "unused records are zero"
 -- stateKeeps t s         "A state keeps its rules if .."
@@ -30,7 +30,7 @@ use Rattle.model.specs.declared.State.{State}
 use Rattle.model.specs.declared.Port.{Port}
 use Rattle.model.specs.declared.Port.the-variants.{Empty, Acc, Int}
 use Rattle.folds.specs.Fold.{pick, all, within}
-use Rattle.model.specs.Tree.{portOf, granularityOf, parentOf, parentPortOf, homeOf, homePortOf, limitOf, budgetOf, levelOf, acceleratorOf, waitingOf, admittedOf, lastOf, allowanceOf}
+use Rattle.model.specs.Tree.{portOf, granularityOf, parentOf, parentPortOf, homeOf, homePortOf, limitOf, budgetOf, levelOf, acceleratorOf, waitingOf, outstandingOf, admittedOf, lastOf, allowanceOf}
 use Rattle.model.specs.Beneath.{waitsUnder}
 
 unfoldable pub busKeeps : Bus → Bool
@@ -139,7 +139,7 @@ sized s =
 unfoldable pub recordKeeps : Tree → State → ℕ → Bool
 recordKeeps t s a =
     pick (ltb a (t .accs))
-    (leb (waitingOf s a) (limitOf t a) && leb (admittedOf s a) (budgetOf t a))
+    (leb (outstandingOf s a) (limitOf t a) && leb (admittedOf s a) (budgetOf t a))
     (eqb (waitingOf s a) 0 && eqb (admittedOf s a) 0)
 
 unfoldable pub turnKeeps : Tree → State → ℕ → Bool

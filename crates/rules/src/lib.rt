@@ -10,6 +10,7 @@ use model::access::allowance_of;
 use model::access::interconnect_at;
 use model::access::last_of;
 use model::access::level_of;
+use model::access::outstanding_of;
 use model::access::port_at;
 use model::access::waiting_of;
 use model::access::waits_under;
@@ -235,13 +236,12 @@ pub fn tree_keeps(t: Tree) -> bool
 fn record_keeps(t: Tree, s: State, a: u8) -> bool
     ensures { λ r. ⌜ r ≡ recordKeeps t s a ⌝ }
 {
-    let waiting = waiting_of(s, a);
     let admitted = admitted_of(s, a);
     if a < t.accs {
         let x = accelerator_at(t, a);
-        return (waiting <= x.phi) & (admitted <= x.budget);
+        return (outstanding_of(s, a) <= x.phi as u32) & (admitted <= x.budget);
     }
-    (waiting == 0) & (admitted == 0)
+    (waiting_of(s, a) == 0) & (admitted == 0)
 }
 
 fn records_keep(t: Tree, s: State) -> bool

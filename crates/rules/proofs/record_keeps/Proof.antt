@@ -14,13 +14,16 @@ use Rattle.rules.proofs.record_keeps.Tie as tie
 returns : tie.Need-returns
 unfolding recordKeeps
 returns c =
-    (and-cong (ap₂ (λ (w : ℕ) (x : Accelerator). leb w (x .phi)) (c .before .before .before .before .before .before .waiting-of .ensures) (c .before .before .accelerator-at .ensures))
-    (ap₂ (λ (w : ℕ) (x : Accelerator). leb w (x .budget)) (c .before .before .before .before .before .admitted-of .ensures) (c .before .before .accelerator-at .ensures))) ∙ sym (picked _ _ _ (lt-ltb _ _ (c .before .before .before .if1 .taken)))
+    let x = c .before .before .before .accelerator-at .ensures in
+    and-cong (ap₂ (λ (n : ℕ) (y : Accelerator). leb n (y .phi)) (c .before .before .outstanding-of .ensures) x)
+    (ap₂ (λ (n : ℕ) (y : Accelerator). leb n (y .budget)) (c .before .before .before .before .before .before .admitted-of .ensures) x)
+    ∙ sym (picked _ _ _ (lt-ltb _ _ (c .before .before .before .before .if1 .taken)))
 
 returns-2 : tie.Need-returns-2
 unfolding recordKeeps
 returns-2 c =
-    (and-cong (ap (λ (w : ℕ). eqb w 0) (c .before .before .before .waiting-of .ensures)) (ap (λ (w : ℕ). eqb w 0) (c .before .before .admitted-of .ensures))) ∙ sym (passed _ _ _ (le-ltb _ _ (c .if1 .left)))
+    and-cong (ap (λ (n : ℕ). eqb n 0) (c .waiting-of .ensures)) (ap (λ (n : ℕ). eqb n 0) (c .before .before .before .admitted-of .ensures))
+    ∙ sym (passed _ _ _ (le-ltb _ _ (c .before .if1 .left)))
 
 pub record-keeps-spec : {M : Type 1} → statement M
-record-keeps-spec = tie.close (tie.spec (λ c κs. search needs) (λ c κs. search needs) (λ c κs. search needs) returns returns-2)
+record-keeps-spec = tie.close (tie.spec (λ c κs. search needs) (λ c κs. search needs) (λ c κs. search needs) (λ c. search needs) returns (λ c κs. search needs) returns-2)
