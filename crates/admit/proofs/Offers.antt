@@ -7,26 +7,22 @@ use native.Mathlib.Omega.{arith}
 use native.Mathlib.Decide.{decLt}
 use lib.ListN.{getD, set, take, drop, length, List·getD-eq-default}
 use lib.Seq.{getD-take, getD-drop, take-set-le, take-set-lt, drop-set-add, drop-set-lt, getD-set-same}
-use borrow.Author.Tests.{lt-ltb, le-ltb, le-leb, lt-leb}
+use borrow.Author.Tests.{lt-ltb, le-ltb}
 use Rattle.folds.specs.Fold.{pick}
 use Rattle.folds.proofs.Folds.{picked, passed}
-use Rattle.machine.specs.Machine.{Answer, admitted, served, idle, refused}
-use Rattle.counts.specs.Wiring.{limits, budgets, homes, aboves}
+use Rattle.model.specs.Tree.{outstandingBy}
+use Rattle.machine.specs.declared.OfferAnswer.{OfferAnswer}
+use Rattle.machine.specs.declared.OfferAnswer.the-variants.{Admitted}
+use Rattle.machine.specs.Machine.{admitted, refused, limitsAnswer, onAdmitted}
+use Rattle.machine.specs.Answers.{offerMeans}
+use Rattle.machine.proofs.Steps.{limits-room}
+use Rattle.counts.specs.Table.{limits, budgets, parentPorts}
 use Rattle.counts.specs.Counts.{lasts, allowances, lives, up, raised, opened}
 use Rattle.admit.proofs.Kept.{first-kept, second-kept}
-use Rattle.admit.specs.Admitting.{Arrays, arrays, waitings, admitteds, helds, arraysOf, onAdmitted, answerOn, admitOn, offeredOn, offersFor, offersOf, offersBelow, offersBefore}
+use Rattle.admit.specs.Admitting.{Arrays, arrays, waitings, admitteds, helds, arraysOf, answerOn, admitOn, offeredOn, offersFor, offersOf, offersBelow, offersBefore}
 
--- one offer, by its tests and by its answer
+-- one offer, by its answer
 module _ (w : List ℕ) (a : ℕ) (d : Arrays) where
-  pub answer-8 : getD (limits w) a 0 ≤ getD (d .waiting) a 0 → answerOn w a d ≡ refused 8
-  answer-8 h = picked _ _ _ (le-leb _ _ h)
-
-  pub answer-9 : getD (d .waiting) a 0 < getD (limits w) a 0 → getD (budgets w) a 0 ≤ getD (d .admitted) a 0 → answerOn w a d ≡ refused 9
-  answer-9 h g = passed _ _ _ (lt-leb _ _ h) ∙ picked _ _ _ (le-leb _ _ g)
-
-  pub answer-admitted : getD (d .waiting) a 0 < getD (limits w) a 0 → getD (d .admitted) a 0 < getD (budgets w) a 0 → answerOn w a d ≡ admitted
-  answer-admitted h g = passed _ _ _ (lt-leb _ _ h) ∙ passed _ _ _ (lt-leb _ _ g)
-
   pub on-refused : (n : ℕ) → answerOn w a d ≡ refused n → offeredOn w a d ≡ d
   on-refused n e = ap (λ x. onAdmitted x (admitOn w a d) d) e
 
@@ -44,16 +40,21 @@ module _ (w : List ℕ) (a : ℕ) (d : Arrays) where
   offers-none k e = ap (λ i. offersFor i w a d) e
 
   module _ (e : answerOn w a d ≡ admitted) where
-    pub offers-more : (k : ℕ) → offersFor (suc k) w a d ≡ offersFor k w a (offeredOn w a d)
+    offers-more : (k : ℕ) → offersFor (suc k) w a d ≡ offersFor k w a (offeredOn w a d)
     unfolding offersFor
     offers-more k = ap (λ x. onAdmitted x (offersFor k w a (offeredOn w a d)) d) e
 
     module _ (b : Arrays) (f : b ≡ offeredOn w a d) (h : 0 < getD (d .held) a 0) where
       inside : a < length (d .held)
-      inside = elim (decLt a (length (d .held))) [ yes l ↦ l | no n ↦ absurd (omega (arith, List·getD-eq-default (d .held) 0 {n = a} (omega arith))) ]
+      inside = elim (decLt a (length (d .held))) [
+        | yes l ↦ l
+        | no n ↦ absurd (omega (arith, List·getD-eq-default (d .held) 0 {n = a} (omega arith)))
+      ]
 
       pub held-less : getD (b .held) a 0 ≡ getD (d .held) a 0 - 1
-      held-less = ap (λ (x : Arrays). getD (x .held) a 0) (f ∙ on-admitted e) ∙ getD-set-same (d .held) a (getD (d .held) a 0 - 1) 0 inside
+      held-less =
+          ap (λ (x : Arrays). getD (x .held) a 0) (f ∙ on-admitted e)
+          ∙ getD-set-same (d .held) a (getD (d .held) a 0 - 1) 0 inside
 
       pub offers-turn : offersFor (getD (b .held) a 0) w a b ≡ offersFor (getD (d .held) a 0) w a d
       offers-turn =
@@ -66,57 +67,74 @@ module _ (w : List ℕ) (a : ℕ) (d : Arrays) where
   pub offers-known : a < 32 → offersOf w a d ≡ offersFor (getD (d .held) a 0) w a d
   offers-known h = passed _ _ _ (le-ltb 31 a (omega arith))
 
+-- arrays are the same by their parts
+pub arrays-same : (d e : Arrays) → d .waiting ≡ e .waiting → d .admitted ≡ e .admitted → d .held ≡ e .held
+    → d .under ≡ e .under → d .live ≡ e .live → d .last ≡ e .last → d .allowance ≡ e .allowance → d ≡ e
+arrays-same d e p q r u v l o =
+    ap₂ (λ (x y : List ℕ). arrays x y (d .held) (d .under) (d .live) (d .last) (d .allowance)) p q
+    ∙ ap₂ (λ (x y : List ℕ). arrays (e .waiting) (e .admitted) x y (d .live) (d .last) (d .allowance)) r u
+    ∙ ap₂ (λ (x y : List ℕ). arrays (e .waiting) (e .admitted) (e .held) (e .under) x y (d .allowance)) v l
+    ∙ ap (arrays (e .waiting) (e .admitted) (e .held) (e .under) (e .live) (e .last)) o
+
+-- an admission is below both limits
+pub admits-room : (l o m n : ℕ) (x : OfferAnswer) → offerMeans x ≡ limitsAnswer l o m n → x ≡ Admitted → (o < l) × (n < m)
+admits-room l o m n x e f = limits-room l o m n (sym e ∙ ap offerMeans f)
+
 -- the counts of accelerator a, by the parts of the arrays
 module _ (b : List ℕ) (a : ℕ) (h : a < 32) where
-  pub reads-waiting : getD b a 0 ≡ getD (waitings b) a 0
+  reads-waiting : getD b a 0 ≡ getD (waitings b) a 0
   reads-waiting = sym (getD-take 32 b a 0 h)
 
-  pub reads-admitted : getD b (32 + a) 0 ≡ getD (admitteds b) a 0
+  reads-admitted : getD b (32 + a) 0 ≡ getD (admitteds b) a 0
   reads-admitted = sym (getD-take 32 (drop 32 b) a 0 h ∙ getD-drop 32 b a 0)
 
   pub reads-held : getD b (64 + a) 0 ≡ getD (helds b) a 0
   reads-held = sym (getD-drop 64 b a 0)
 
+  -- the answer by what is read from the arrays
+  pub reads-answer : (w c r : List ℕ) (l o m : ℕ) → l ≡ getD w (182 + a) 0 → o ≡ outstandingBy (getD b a 0) → m ≡ getD w (214 + a) 0
+      → limitsAnswer l o m (getD b (32 + a) 0) ≡ answerOn w a (arraysOf b c r)
+  reads-answer w c r l o m e g f =
+      ap₂ (λ (x y : ℕ). limitsAnswer x o y (getD b (32 + a) 0)) (e ∙ sym (getD-drop 182 w a 0)) (f ∙ sym (getD-drop 214 w a 0))
+      ∙ ap₂ (λ (x y : ℕ). limitsAnswer (getD (limits w) a 0) x (getD (budgets w) a 0) y) (g ∙ ap outstandingBy reads-waiting) reads-admitted
+
+  -- the arrays stored to, where one is admitted
   module _ (x y z : ℕ) where
-    abbrev pub stored : List ℕ
+    abbrev stored : List ℕ
     stored = set (set (set b (64 + a) x) a y) (32 + a) z
 
-    pub stored-waiting : waitings stored ≡ set (waitings b) a y
+    stored-waiting : waitings stored ≡ set (waitings b) a y
     stored-waiting =
         take-set-le 32 (set (set b (64 + a) x) a y) (32 + a) z (omega arith) ∙ take-set-lt 32 (set b (64 + a) x) a y h
         ∙ ap (λ (l : List ℕ). set l a y) (take-set-le 32 b (64 + a) x (omega arith))
 
-    pub stored-admitted : admitteds stored ≡ set (admitteds b) a z
+    stored-admitted : admitteds stored ≡ set (admitteds b) a z
     stored-admitted =
         let e : 64 + a ≡ 32 + (32 + a) = omega arith in
         ap (take 32) (drop-set-add 32 (set (set b (64 + a) x) a y) a z)
         ∙ take-set-lt 32 (drop 32 (set (set b (64 + a) x) a y)) a z h
-        ∙ ap (λ (l : List ℕ). set (take 32 l) a z) (drop-set-lt 32 (set b (64 + a) x) a y h ∙ ap (λ (k : ℕ). drop 32 (set b k x)) e ∙ drop-set-add 32 b (32 + a) x)
+        ∙ ap (λ (l : List ℕ). set (take 32 l) a z)
+        (drop-set-lt 32 (set b (64 + a) x) a y h ∙ ap (λ (k : ℕ). drop 32 (set b k x)) e ∙ drop-set-add 32 b (32 + a) x)
         ∙ ap (λ (l : List ℕ). set l a z) (take-set-le 32 (drop 32 b) (32 + a) x (omega arith))
 
-    pub stored-held : helds stored ≡ set (helds b) a x
+    stored-held : helds stored ≡ set (helds b) a x
     stored-held =
-        drop-set-lt 64 (set (set b (64 + a) x) a y) (32 + a) z (omega arith) ∙ drop-set-lt 64 (set b (64 + a) x) a y (omega arith)
+        drop-set-lt 64 (set (set b (64 + a) x) a y) (32 + a) z (omega arith)
+        ∙ drop-set-lt 64 (set b (64 + a) x) a y (omega arith)
         ∙ drop-set-add 64 b a x
 
-    pub stored-arrays : (c r : List ℕ) → arraysOf stored c r ≡ arrays (set (waitings b) a y) (set (admitteds b) a z) (set (helds b) a x) c (lives r) (lasts r) (allowances r)
-    stored-arrays c r =
-        ap₂ (λ (i j : List ℕ). arrays i j (helds stored) c (lives r) (lasts r) (allowances r)) stored-waiting stored-admitted
-        ∙ ap (λ (i : List ℕ). arrays (set (waitings b) a y) (set (admitteds b) a z) i c (lives r) (lasts r) (allowances r)) stored-held
-
-    -- the arrays stored to, where one is admitted
     pub stored-one : (w c₀ r₀ c r : List ℕ) → x ≡ getD b (64 + a) 0 - 1 → y ≡ getD b a 0 + 1 → z ≡ getD b (32 + a) 0 + 1
-        → c ≡ raised (up 4 (aboves w) (getD w (150 + a) 0)) 1 c₀ → lives r ≡ opened (up 4 (aboves w) (getD w (150 + a) 0)) (lives r₀) → take 30 r ≡ take 30 r₀
+        → c ≡ raised (up 4 (parentPorts w) (getD w (150 + a) 0)) c₀
+        → lives r ≡ opened (up 4 (parentPorts w) (getD w (150 + a) 0)) (lives r₀) → take 30 r ≡ take 30 r₀
         → arraysOf stored c r ≡ admitOn w a (arraysOf b c₀ r₀)
     stored-one w c₀ r₀ c r ex ey ez ec er k =
-        let home = sym (getD-drop 150 w a 0) in
-        stored-arrays c r
-        ∙ ap₂ (λ (i j : ℕ). arrays (set (waitings b) a i) (set (admitteds b) a j) (set (helds b) a x) c (lives r) (lasts r) (allowances r)) (ey ∙ ap (λ (n : ℕ). n + 1) reads-waiting) (ez ∙ ap (λ (n : ℕ). n + 1) reads-admitted)
-        ∙ ap₂ (λ (i : ℕ) (j : List ℕ). arrays (set (waitings b) a (getD (waitings b) a 0 + 1)) (set (admitteds b) a (getD (admitteds b) a 0 + 1)) (set (helds b) a i) j (lives r) (lasts r) (allowances r))
-        (ex ∙ ap (λ (n : ℕ). n - 1) reads-held) (ec ∙ ap (λ (p : ℕ). raised (up 4 (aboves w) p) 1 c₀) home)
-        ∙ ap (λ (j : List ℕ). arrays (set (waitings b) a (getD (waitings b) a 0 + 1)) (set (admitteds b) a (getD (admitteds b) a 0 + 1)) (set (helds b) a (getD (helds b) a 0 - 1)) (raised (up 4 (aboves w) (getD (homes w) a 0)) 1 c₀) j (lasts r) (allowances r))
-        (er ∙ ap (λ (p : ℕ). opened (up 4 (aboves w) p) (lives r₀)) home)
-        ∙ ap₂ (λ (i j : List ℕ). record { waiting = set (waitings b) a (getD (waitings b) a 0 + 1); admitted = set (admitteds b) a (getD (admitteds b) a 0 + 1); held = set (helds b) a (getD (helds b) a 0 - 1); under = raised (up 4 (aboves w) (getD (homes w) a 0)) 1 c₀; live = opened (up 4 (aboves w) (getD (homes w) a 0)) (lives r₀); last = i; allowance = j })
+        let port = sym (getD-drop 150 w a 0) in
+        arrays-same _ _
+        (stored-waiting ∙ ap (set (waitings b) a) (ey ∙ ap (λ (n : ℕ). n + 1) reads-waiting))
+        (stored-admitted ∙ ap (set (admitteds b) a) (ez ∙ ap (λ (n : ℕ). n + 1) reads-admitted))
+        (stored-held ∙ ap (set (helds b) a) (ex ∙ ap (λ (n : ℕ). n - 1) reads-held))
+        (ec ∙ ap (λ (p : ℕ). raised (up 4 (parentPorts w) p) c₀) port)
+        (er ∙ ap (λ (p : ℕ). opened (up 4 (parentPorts w) p) (lives r₀)) port)
         (first-kept 15 15 r r₀ k) (second-kept 15 15 r r₀ k)
 
 -- the offers of k accelerators from number a on, the first of them first

@@ -1,11 +1,10 @@
 -- The offers before a slot, on the arrays that a run keeps (document 01, "Turns", last paragraph: "accelerators in rising
--- number offer held transactions until one is refused or none is left"). Each accelerator's offers are admitted together.
+-- number offer held transactions until one is refused or none is left").
 --
 -- Arrays                what waits, what is admitted and what is held for each accelerator, what waits under each port, the
 --                       live ports, the last ports and the allowances; arrays w m h c v l o: these seven
 -- waitings b, admitteds b, helds b   the counts of each accelerator in the array b of these, thirty-two each
 -- arraysOf b c r        the seven in b, c and r, as a run holds them
--- onAdmitted x y z      y if the answer x is an admission, else z
 -- answerOn w a d        what an offer of accelerator a answers, by the limits and budgets in the table w: 8, 9, or admitted
 -- admitOn w a d         one held transaction of accelerator a admitted: it is counted under each port from its own up to the root
 -- offeredOn w a d       the arrays after one offer: a refusal leaves them, and the held request first in line
@@ -16,12 +15,13 @@
 use Prim.Native.Nat.{ℕ, zero, suc, _+_, _-_}
 use mathlib.Core.Bool.{Bool}
 use mathlib.Core.List.{List}
-use lib.Dec.{ltb, leb}
+use lib.Dec.{ltb}
 use lib.ListN.{getD, set, take, drop}
 use Rattle.folds.specs.Fold.{pick}
-use Rattle.machine.specs.Machine.{Answer, admitted, served, idle, refused}
-use Rattle.counts.specs.Wiring.{limits, budgets, homes, aboves}
-use Rattle.counts.specs.Counts.{lasts, allowances, lives, up, raised, opened}
+use Rattle.model.specs.Tree.{outstandingBy}
+use Rattle.machine.specs.Machine.{Answer, limitsAnswer, onAdmitted}
+use Rattle.counts.specs.Table.{limits, budgets}
+use Rattle.counts.specs.Counts.{lasts, allowances, lives, pathPorts, raised, opened}
 
 pub record Arrays : Type 0 where
   pub waiting : List ℕ
@@ -47,17 +47,9 @@ helds b = drop 64 b
 abbrev pub arraysOf : (b c r : List ℕ) → Arrays
 arraysOf b c r = arrays (waitings b) (admitteds b) (helds b) c (lives r) (lasts r) (allowances r)
 
-abbrev pub onAdmitted : {A : Type 0} → Answer → A → A → A
-onAdmitted admitted y z = y
-onAdmitted (served a) y z = z
-onAdmitted idle y z = z
-onAdmitted (refused n) y z = z
-
 abbrev pub answerOn : List ℕ → ℕ → Arrays → Answer
 answerOn w a d =
-    pick (leb (getD (limits w) a 0) (getD (d .waiting) a 0)) (refused 8)
-    (pick (leb (getD (budgets w) a 0) (getD (d .admitted) a 0)) (refused 9)
-    admitted)
+    limitsAnswer (getD (limits w) a 0) (outstandingBy (getD (d .waiting) a 0)) (getD (budgets w) a 0) (getD (d .admitted) a 0)
 
 abbrev pub admitOn : List ℕ → ℕ → Arrays → Arrays
 admitOn w a d =
@@ -65,8 +57,8 @@ admitOn w a d =
       waiting = set (d .waiting) a (getD (d .waiting) a 0 + 1);
       admitted = set (d .admitted) a (getD (d .admitted) a 0 + 1);
       held = set (d .held) a (getD (d .held) a 0 - 1);
-      under = raised (up 4 (aboves w) (getD (homes w) a 0)) 1 (d .under);
-      live = opened (up 4 (aboves w) (getD (homes w) a 0)) (d .live);
+      under = raised (pathPorts w a) (d .under);
+      live = opened (pathPorts w a) (d .live);
       last = d .last;
       allowance = d .allowance;
     }

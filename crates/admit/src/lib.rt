@@ -1,10 +1,11 @@
 // The offers of a run before a slot, on the arrays that it keeps in place of a state.
 use counts::BUDGET;
-use counts::HOME;
 use counts::LIMIT;
+use counts::OWN_PORT;
 use counts::along::add_along;
 use machine::OfferAnswer;
-use model::Refusal;
+use machine::limits_answer;
+use model::access::outstanding_by;
 ghost use mathlib.Core.Path.{_≡_};
 ghost use Prim.Native.Nat.{_+_, _-_, _<_, min};
 ghost use Rattle.folds.specs.Fold.{pick};
@@ -36,47 +37,49 @@ fn one_less(n: u32) -> u32
 // Accelerator a offers one of its held transactions: refused by 8, by 9, or admitted, and then it is held no longer.
 fn offer_one(
     a: u8,
-    wires: &[u16; 246],
+    table: &[u16; 246],
     blocks: &mut [u32; 96],
     under: &mut [u16; 120],
     turns: &mut [u8; 45],
 ) -> OfferAnswer
     requires { ⌜ a < 32 ⌝ }
-    ensures answer { λ r. ⌜ offerMeans r ≡ answerOn (now (wires .entry)) a (arraysOf (now (blocks .entry)) (now (under .entry)) (now (turns .entry))) ⌝ }
-    ensures arrays { λ r. ⌜ arraysOf (now (blocks .exit)) (now (under .exit)) (now (turns .exit)) ≡ offeredOn (now (wires .entry)) a (arraysOf (now (blocks .entry)) (now (under .entry)) (now (turns .entry))) ⌝ }
+    ensures answer { λ r. ⌜ offerMeans r ≡ answerOn (now (table .entry)) a (arraysOf (now (blocks .entry)) (now (under .entry)) (now (turns .entry))) ⌝ }
+    ensures arrays { λ r. ⌜ arraysOf (now (blocks .exit)) (now (under .exit)) (now (turns .exit))
+        ≡ offeredOn (now (table .entry)) a (arraysOf (now (blocks .entry)) (now (under .entry)) (now (turns .entry))) ⌝ }
 {
     let i = a as usize;
     let waiting = blocks[i];
     let admitted = blocks[ADMITTED + i];
-    if wide(wires[LIMIT + i]) <= waiting {
-        return OfferAnswer::Refused(Refusal::Outstanding);
+    let limit = wide(table[LIMIT + i]);
+    let budget = wide(table[BUDGET + i]);
+    match limits_answer(limit, outstanding_by(waiting), budget, admitted) {
+        OfferAnswer::Admitted => {
+            blocks[HELD + i] = one_less(blocks[HELD + i]);
+            blocks[i] = waiting + 1;
+            blocks[ADMITTED + i] = admitted + 1;
+            add_along(table, table[OWN_PORT + i], under, turns);
+            OfferAnswer::Admitted
+        }
+        OfferAnswer::Refused(refusal) => OfferAnswer::Refused(refusal),
     }
-    if wide(wires[BUDGET + i]) <= admitted {
-        return OfferAnswer::Refused(Refusal::Budget);
-    }
-    blocks[HELD + i] = one_less(blocks[HELD + i]);
-    blocks[i] = waiting + 1;
-    blocks[ADMITTED + i] = admitted + 1;
-    add_along(wires, wires[HOME + i], 1, under, turns);
-    OfferAnswer::Admitted
 }
 
 // Accelerator a offers its held transactions until one is refused, which stays first in line, or none is left.
 fn offer_held(
     a: u8,
-    wires: &[u16; 246],
+    table: &[u16; 246],
     blocks: &mut [u32; 96],
     under: &mut [u16; 120],
     turns: &mut [u8; 45],
 )
-    ensures offers { λ _. ⌜ arraysOf (now (blocks .exit)) (now (under .exit)) (now (turns .exit)) ≡ offersOf (now (wires .entry)) a (arraysOf (now (blocks .entry)) (now (under .entry)) (now (turns .entry))) ⌝ }
+    ensures offers { λ _. ⌜ arraysOf (now (blocks .exit)) (now (under .exit)) (now (turns .exit)) ≡ offersOf (now (table .entry)) a (arraysOf (now (blocks .entry)) (now (under .entry)) (now (turns .entry))) ⌝ }
 {
     let i = a as usize;
     if 31 < i {
         return;
     }
     while 0 < blocks[HELD + i] {
-        let OfferAnswer::Admitted = offer_one(a, wires, blocks, under, turns) else {
+        let OfferAnswer::Admitted = offer_one(a, table, blocks, under, turns) else {
             return;
         };
     }
@@ -111,17 +114,17 @@ pub fn offer_before_slot(
     every: bool,
     served: u8,
     accs: u8,
-    wires: &[u16; 246],
+    table: &[u16; 246],
     blocks: &mut [u32; 96],
     under: &mut [u16; 120],
     turns: &mut [u8; 45],
 )
-    ensures offers { λ _. ⌜ arraysOf (now (blocks .exit)) (now (under .exit)) (now (turns .exit)) ≡ offersBefore (now (wires .entry)) every served accs (arraysOf (now (blocks .entry)) (now (under .entry)) (now (turns .entry))) ⌝ }
+    ensures offers { λ _. ⌜ arraysOf (now (blocks .exit)) (now (under .exit)) (now (turns .exit)) ≡ offersBefore (now (table .entry)) every served accs (arraysOf (now (blocks .entry)) (now (under .entry)) (now (turns .entry))) ⌝ }
 {
     let mut a = first_of(every, served);
     let end = end_of(every, served, accs);
     while a < end {
-        offer_held(a, wires, blocks, under, turns);
+        offer_held(a, table, blocks, under, turns);
         a += 1;
     }
 }

@@ -10,31 +10,19 @@
 -- takenOn j x c         c with the turn x taken at interconnect j
 -- belowOn f x l o       what a port leads to that carries x: an accelerator, by f an interconnect; an empty one leads nowhere
 -- chooseOn m n w u v j l o   the choice from interconnect j over at most m levels, on any arrays
--- Board t s n c g u v l o   the arrays of a run at state s of configuration t, which keep their rules: the table n of next
---                       ports, what the ports carry c, the granularities g, what waits under each port u, the live ports
---                       v, the last ports l and the allowances o
--- Chosen t s n j c      from interconnect j, over at most n levels, the choice of the definitions comes to c
 use Prim.Native.Nat.{ℕ, zero, suc, _+_, _*_, _-_, _%_, min}
-use mathlib.Core.Bool.{true}
 use mathlib.Core.List.{List}
-use mathlib.Core.Path.{_≡_}
 use lib.Dec.{ltb}
 use lib.ListN.{getD, set}
-use Rattle.model.specs.declared.Tree.{Tree}
-use Rattle.model.specs.declared.State.{State}
 use Rattle.folds.specs.Fold.{pick}
-use Rattle.model.specs.Tree.{waitingOf}
-use Rattle.rules.specs.Rules.{keeps}
 use Rattle.turns.specs.declared.Turn.{Turn}
-use Rattle.turns.specs.Turns.{NextPorts, who, after}
-use Rattle.counts.specs.Wiring.{Ports, portNumber, grants}
-use Rattle.counts.specs.Counts.{Counted}
+use Rattle.counts.specs.Table.{portNumber, interconnects, empty, granularities}
 
 abbrev pub countAt : List ℕ → ℕ → ℕ → ℕ
 countAt u j p = pick (ltb 7 p) 0 (getD u (portNumber j p) 0)
 
 abbrev pub carriedAt : List ℕ → ℕ → ℕ → ℕ
-carriedAt w j p = pick (ltb 7 p) 512 (getD w (portNumber j p) 0)
+carriedAt w j p = pick (ltb 7 p) empty (getD w (portNumber j p) 0)
 
 abbrev pub portOn : (n : List ℕ) (v l o : ℕ) → ℕ
 portOn n v l o = pick (ltb 0 o) l (getD n (v * 8 + l % 8) 0)
@@ -43,7 +31,7 @@ abbrev pub turnOn : (n u : List ℕ) (j g v l o : ℕ) → Turn
 turnOn n u j g v l o = record { port = portOn n v l o; allowance = pick (ltb 0 o) o (min g (countAt u j (portOn n v l o))) }
 
 abbrev pub turnAt : (n w u v l o : List ℕ) (j : ℕ) → Turn
-turnAt n w u v l o j = turnOn n u j (getD (grants w) j 0 % 256) (getD v j 0) (getD l j 0) (getD o j 0)
+turnAt n w u v l o j = turnOn n u j (min 255 (getD (granularities w) j 0)) (getD v j 0) (getD l j 0) (getD o j 0)
 
 pub record Choice : Type 0 where
   pub served : ℕ
@@ -57,7 +45,7 @@ abbrev pub takenOn : ℕ → Turn → Choice → Choice
 takenOn j x c = choice (c .served) (set (c .last) j (x .port)) (set (c .allowance) j (x .allowance - 1))
 
 abbrev pub belowOn : (ℕ → Choice) → ℕ → (l o : List ℕ) → Choice
-belowOn f x l o = pick (ltb x 256) (choice x l o) (pick (ltb 511 x) (choice 255 l o) (f (x - 256)))
+belowOn f x l o = pick (ltb x interconnects) (choice x l o) (pick (ltb x empty) (f (x - interconnects)) (choice 255 l o))
 
 unfoldable pub chooseOn : ℕ → (n w u v : List ℕ) → ℕ → (l o : List ℕ) → Choice
 chooseOn zero n w u v j l o = choice 255 l o
@@ -65,16 +53,3 @@ chooseOn (suc m) n w u v j l o =
     pick (ltb 14 j) (choice 255 l o)
     (takenOn j (turnAt n w u v l o j)
     (belowOn (λ k. chooseOn m n w u v k l o) (carriedAt w j (turnAt n w u v l o j .port)) l o))
-
-pub record Board (t : Tree) (s : State) (n c g u v l o : List ℕ) : Type 0 where
-  pub rules : keeps t s ≡ true
-  pub table : NextPorts n
-  pub ports : Ports t c g
-  pub counts : Counted t (waitingOf s) u v
-  pub last : l ≡ s .last
-  pub allowance : o ≡ s .allowance
-
-pub record Chosen (t : Tree) (s : State) (n j : ℕ) (c : Choice) : Type 0 where
-  pub served : c .served ≡ who n t s j
-  pub last : c .last ≡ after n t s j .last
-  pub allowance : c .allowance ≡ after n t s j .allowance

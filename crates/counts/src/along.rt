@@ -1,12 +1,12 @@
 // The counts and the live ports brought up to date along a path, from a port up to the root.
-use crate::ABOVE;
 use crate::LIVE;
+use crate::PARENT_PORT;
 ghost use mathlib.Core.Path.{_≡_};
-ghost use Prim.Native.Nat.{_+_, _%_, _-_};
+ghost use Prim.Native.Nat.{_+_, _%_, _-_, min};
 ghost use lib.Dec.{eqb};
 ghost use Rattle.folds.specs.Fold.{pick};
 ghost use lib.ListN.{take};
-ghost use Rattle.counts.specs.Wiring.{aboves};
+ghost use Rattle.counts.specs.Table.{parentPorts};
 ghost use Rattle.counts.specs.Counts.{lives, up, withPort, withoutPort, raised, opened, lowered, closed};
 
 // The set with port p in it.
@@ -36,11 +36,14 @@ fn less_one(n: u16) -> u16
     n - 1
 }
 
-// The count with n more, as 16 bits hold it.
-fn more(waiting: u16, n: u16) -> u16
-    ensures { λ r. ⌜ r ≡ (waiting + n) % 65536 ⌝ }
+// The count with one more, at most 65,535.
+fn one_more(waiting: u16) -> u16
+    ensures { λ r. ⌜ r ≡ min 65535 (waiting + 1) ⌝ }
 {
-    ((waiting as u32 + n as u32) % 65536) as u16
+    if waiting == 65535 {
+        return waiting;
+    }
+    waiting + 1
 }
 
 // A port's number as an index.
@@ -50,16 +53,10 @@ fn wide(c: u16) -> usize
     c as usize
 }
 
-// n more wait under the ports from `place` up to the root.
-pub fn add_along(
-    wires: &[u16; 246],
-    place: u16,
-    n: u16,
-    under: &mut [u16; 120],
-    turns: &mut [u8; 45],
-)
-    ensures counts { λ _. ⌜ now (under .exit) ≡ raised (up 4 (aboves (now (wires .entry))) place) n (now (under .entry)) ⌝ }
-    ensures sets { λ _. ⌜ lives (now (turns .exit)) ≡ opened (up 4 (aboves (now (wires .entry))) place) (lives (now (turns .entry))) ⌝ }
+// One more waits under the ports from `place` up to the root.
+pub fn add_along(table: &[u16; 246], place: u16, under: &mut [u16; 120], turns: &mut [u8; 45])
+    ensures counts { λ _. ⌜ now (under .exit) ≡ raised (up 4 (parentPorts (now (table .entry))) place) (now (under .entry)) ⌝ }
+    ensures sets { λ _. ⌜ lives (now (turns .exit)) ≡ opened (up 4 (parentPorts (now (table .entry))) place) (lives (now (turns .entry))) ⌝ }
     ensures rest { λ _. ⌜ take 30 (now (turns .exit)) ≡ take 30 (now (turns .entry)) ⌝ }
 {
     let mut c = place as usize;
@@ -69,20 +66,20 @@ pub fn add_along(
             return;
         }
         let j = c / 8;
-        under[c] = more(under[c], n);
+        under[c] = one_more(under[c]);
         turns[LIVE + j] = with_port(turns[LIVE + j], (c % 8) as u8);
         if j == 0 {
             return;
         }
-        c = wide(wires[ABOVE + j]);
+        c = wide(table[PARENT_PORT + j]);
         left -= 1;
     }
 }
 
 // One less waits under the ports from `place` up to the root.
-pub fn take_along(wires: &[u16; 246], place: u16, under: &mut [u16; 120], turns: &mut [u8; 45])
-    ensures counts { λ _. ⌜ now (under .exit) ≡ lowered (up 4 (aboves (now (wires .entry))) place) (now (under .entry)) ⌝ }
-    ensures sets { λ _. ⌜ lives (now (turns .exit)) ≡ closed (up 4 (aboves (now (wires .entry))) place) (now (under .entry)) (lives (now (turns .entry))) ⌝ }
+pub fn take_along(table: &[u16; 246], place: u16, under: &mut [u16; 120], turns: &mut [u8; 45])
+    ensures counts { λ _. ⌜ now (under .exit) ≡ lowered (up 4 (parentPorts (now (table .entry))) place) (now (under .entry)) ⌝ }
+    ensures sets { λ _. ⌜ lives (now (turns .exit)) ≡ closed (up 4 (parentPorts (now (table .entry))) place) (now (under .entry)) (lives (now (turns .entry))) ⌝ }
     ensures rest { λ _. ⌜ take 30 (now (turns .exit)) ≡ take 30 (now (turns .entry)) ⌝ }
 {
     let mut c = place as usize;
@@ -98,7 +95,7 @@ pub fn take_along(wires: &[u16; 246], place: u16, under: &mut [u16; 120], turns:
         if j == 0 {
             return;
         }
-        c = wide(wires[ABOVE + j]);
+        c = wide(table[PARENT_PORT + j]);
         left -= 1;
     }
 }

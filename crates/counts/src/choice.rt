@@ -1,13 +1,15 @@
 // The choice of a slot from the kept counts: no sum is taken anew.
 use crate::ALLOWANCE;
+use crate::EMPTY;
 use crate::GRANULARITY;
+use crate::INTERCONNECTS;
 use crate::LIVE;
 use turns::Turn;
 use turns::grant;
 use turns::less_one;
 use turns::next_in;
 ghost use mathlib.Core.Path.{_≡_};
-ghost use Prim.Native.Nat.{_+_, _-_, _<_};
+ghost use Prim.Native.Nat.{_+_, _-_, _<_, min};
 ghost use lib.ListN.{set};
 ghost use Rattle.counts.specs.Counts.{lasts, allowances, lives};
 ghost use Rattle.counts.specs.Choice.{countAt, carriedAt, turnOn, choice, chooseOn};
@@ -24,14 +26,24 @@ fn count_at(under: &[u16; 120], j: u8, p: u8) -> u16
 }
 
 // What port p of interconnect j carries; a port past the eighth is empty.
-fn carried_at(wires: &[u16; 246], j: u8, p: u8) -> u16
+fn carried_at(table: &[u16; 246], j: u8, p: u8) -> u16
     requires { ⌜ j < 15 ⌝ }
-    ensures { λ r. ⌜ r ≡ carriedAt (now (wires .entry)) j p ⌝ }
+    ensures { λ r. ⌜ r ≡ carriedAt (now (table .entry)) j p ⌝ }
 {
     if 7 < p {
-        return 512;
+        return EMPTY;
     }
-    wires[j as usize * 8 + p as usize]
+    table[j as usize * 8 + p as usize]
+}
+
+// A granularity as a byte, at most 255.
+fn byte_of(granularity: u16) -> u8
+    ensures { λ r. ⌜ r ≡ min 255 granularity ⌝ }
+{
+    if 255 < granularity {
+        return 255;
+    }
+    granularity as u8
 }
 
 // The turn of interconnect j: its last port goes on where its allowance is above 0, else the next live port has it.
@@ -74,20 +86,20 @@ fn take_turn(turns: &mut [u8; 45], j: u8, port: u8, left: u8)
 // leads. The last ports and the allowances on the way down are brought up to date.
 pub fn choose(
     next: &[u8; 2048],
-    wires: &[u16; 246],
+    table: &[u16; 246],
     under: &[u16; 120],
     levels: u8,
     j: u8,
     turns: &mut [u8; 45],
 ) -> u8
-    ensures chosen { λ r. ⌜ choice r (lasts (now (turns .exit))) (allowances (now (turns .exit))) ≡ chooseOn levels (now (next .entry)) (now (wires .entry)) (now (under .entry)) (lives (now (turns .entry))) j (lasts (now (turns .entry))) (allowances (now (turns .entry))) ⌝ }
+    ensures chosen { λ r. ⌜ choice r (lasts (now (turns .exit))) (allowances (now (turns .exit))) ≡ chooseOn levels (now (next .entry)) (now (table .entry)) (now (under .entry)) (lives (now (turns .entry))) j (lasts (now (turns .entry))) (allowances (now (turns .entry))) ⌝ }
     ensures sets { λ r. ⌜ lives (now (turns .exit)) ≡ lives (now (turns .entry)) ⌝ }
 {
     let i = j as usize;
     if (levels == 0) | (14 < i) {
         return 255;
     }
-    let granularity = (wires[GRANULARITY + i] % 256) as u8;
+    let granularity = byte_of(table[GRANULARITY + i]);
     let turn = turn_of(
         next,
         under,
@@ -97,17 +109,17 @@ pub fn choose(
         turns[i],
         turns[ALLOWANCE + i],
     );
-    let carried = carried_at(wires, j, turn.port);
-    if carried < 256 {
+    let carried = carried_at(table, j, turn.port);
+    if carried < INTERCONNECTS {
         take_turn(turns, j, turn.port, turn.allowance);
         return carried as u8;
     }
-    if 511 < carried {
+    if EMPTY <= carried {
         take_turn(turns, j, turn.port, turn.allowance);
         return 255;
     }
-    let below = (carried - 256) as u8;
-    let served = choose(next, wires, under, levels - 1, below, turns);
+    let below = (carried - INTERCONNECTS) as u8;
+    let served = choose(next, table, under, levels - 1, below, turns);
     take_turn(turns, j, turn.port, turn.allowance);
     served
 }

@@ -12,9 +12,9 @@ use lib.Seq.{getD-set-same, getD-set-other, set-out}
 use Rattle.model.specs.declared.Tree.{Tree}
 use Rattle.model.specs.declared.State.{State}
 use Rattle.rules.specs.Rules.{keeps}
-use Rattle.machine.specs.Machine.{Answer, admitted, served, idle, refused, offered}
+use Rattle.machine.specs.Machine.{Answer, admitted, served, idle, refused, offered, onAdmitted}
 use Rattle.machine.proofs.Laws.{offer-keeps}
-use Rattle.runner.specs.Offers.{Offering, heldOf, release, onAdmitted, offering, offerHeld, offerAll, offerEach}
+use Rattle.runner.specs.Offers.{Offering, heldOf, release, offering, offerHeld, offerAll, offerEach}
 
 -- an admission, and a refusal, picks its case
 on-admitted : {A : Type 0} (x : Answer) (y z : A) → x ≡ admitted → onAdmitted x y z ≡ y

@@ -5,6 +5,7 @@ pub mod Endings
 pub mod Laws
 pub mod Asked
 pub mod Parts
-pub mod Stored
 pub mod Settled
-pub mod Going
+pub mod Service
+pub mod Stored
+pub mod Walk

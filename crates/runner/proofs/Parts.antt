@@ -9,11 +9,12 @@ use lib.ListN.{length, getD, take, drop, set, replicate, length-drop}
 use lib.Seq.{getD-take, getD-drop, take-set-le, take-set-lt, drop-set-lt, drop-set-add, take-suc-set, take-suc}
 use Rattle.trace.specs.declared.Request.{Request}
 use Rattle.folds.specs.Fold.{pick}
-use Rattle.counts.specs.Wiring.{aboves}
+use Rattle.counts.specs.Table.{parentPorts}
 use Rattle.counts.specs.Counts.{lasts, allowances, lives, up, lowered, closed}
 use Rattle.counts.specs.Choice.{Choice, choice}
-use Rattle.admit.specs.Admitting.{Arrays, arrays, arraysOf, waitings, admitteds, helds}
+use Rattle.admit.specs.Admitting.{arraysOf, waitings, admitteds, helds}
 use Rattle.admit.proofs.Kept.{first-kept, second-kept}
+use Rattle.admit.proofs.Offers.{arrays-same}
 use Rattle.runner.specs.Arrays.{turnedOn, takeOn, openOn, withHeld}
 use Rattle.runner.specs.Run.{hold}
 
@@ -67,35 +68,28 @@ module _ (b : List ℕ) (a n : ℕ) (h : a < 32) (e : n ≡ getD b a 0 - 1) wher
   pub served-rest : drop 32 (set b a n) ≡ drop 32 b
   served-rest = drop-set-lt 32 b a n h
 
--- arrays are the same by their parts
-arrays-same : (d e : Arrays) → d .waiting ≡ e .waiting → d .admitted ≡ e .admitted → d .held ≡ e .held → d .under ≡ e .under → d .live ≡ e .live
-    → d .last ≡ e .last → d .allowance ≡ e .allowance → d ≡ e
-arrays-same d e p q r u v l o =
-    ap₂ (λ (x y : List ℕ). arrays x y (d .held) (d .under) (d .live) (d .last) (d .allowance)) p q
-    ∙ ap₂ (λ (x y : List ℕ). arrays (e .waiting) (e .admitted) x y (d .live) (d .last) (d .allowance)) r u
-    ∙ ap₂ (λ (x y : List ℕ). arrays (e .waiting) (e .admitted) (e .held) (e .under) x y (d .allowance)) v l
-    ∙ ap (arrays (e .waiting) (e .admitted) (e .held) (e .under) (e .live) (e .last)) o
-
 -- the lines due are held
 pub due-arrays : (b b₁ c r h : List ℕ) → helds b₁ ≡ h → take 64 b₁ ≡ take 64 b → arraysOf b₁ c r ≡ withHeld h (arraysOf b c r)
 due-arrays b b₁ c r h e k = arrays-same _ _ (first-kept 32 32 b₁ b k) (second-kept 32 32 b₁ b k) e refl refl refl refl
 
 -- a window opens, or goes on
-pub opened-arrays : (b b₁ c r : List ℕ) (q : Bool) → waitings b₁ ≡ waitings b → admitteds b₁ ≡ pick q (replicate 32 0) (admitteds b) → helds b₁ ≡ helds b
-    → arraysOf b₁ c r ≡ openOn q (arraysOf b c r)
+pub opened-arrays : (b b₁ c r : List ℕ) (q : Bool) → waitings b₁ ≡ waitings b
+    → admitteds b₁ ≡ pick q (replicate 32 0) (admitteds b) → helds b₁ ≡ helds b → arraysOf b₁ c r ≡ openOn q (arraysOf b c r)
 opened-arrays b b₁ c r q e f g = arrays-same _ _ e f g refl refl refl refl
 
 -- the choice is made, and its turns are stored
 pub turned-arrays : (b c r r₁ : List ℕ) (a : ℕ) (x : Choice) → choice a (lasts r₁) (allowances r₁) ≡ x → lives r₁ ≡ lives r
     → arraysOf b c r₁ ≡ turnedOn x (arraysOf b c r)
-turned-arrays b c r r₁ a x e f = arrays-same _ _ refl refl refl refl f (ap (λ (y : Choice). y .last) e) (ap (λ (y : Choice). y .allowance) e)
+turned-arrays b c r r₁ a x e f =
+    arrays-same _ _ refl refl refl refl f (ap (λ (y : Choice). y .last) e) (ap (λ (y : Choice). y .allowance) e)
 
 -- one transaction of accelerator a is served, and its path brought up to date
 pub taken-arrays : (w b c c₁ r r₁ : List ℕ) (a n : ℕ) → a < 32 → n ≡ getD b a 0 - 1
-    → c₁ ≡ lowered (up 4 (aboves w) (getD w (150 + a) 0)) c → lives r₁ ≡ closed (up 4 (aboves w) (getD w (150 + a) 0)) c (lives r) → take 30 r₁ ≡ take 30 r
+    → c₁ ≡ lowered (up 4 (parentPorts w) (getD w (150 + a) 0)) c
+    → lives r₁ ≡ closed (up 4 (parentPorts w) (getD w (150 + a) 0)) c (lives r) → take 30 r₁ ≡ take 30 r
     → arraysOf (set b a n) c₁ r₁ ≡ takeOn w a (arraysOf b c r)
 taken-arrays w b c c₁ r r₁ a n h e f g k =
-    let home = sym (getD-drop 150 w a 0) in
+    let port = sym (getD-drop 150 w a 0) in
     arrays-same _ _ (served-waiting b a n h e) (ap (take 32) (served-rest b a n h e)) (drop-set-lt 64 b a n (omega arith))
-    (f ∙ ap (λ (i : ℕ). lowered (up 4 (aboves w) i) c) home) (g ∙ ap (λ (i : ℕ). closed (up 4 (aboves w) i) c (lives r)) home)
+    (f ∙ ap (λ (i : ℕ). lowered (up 4 (parentPorts w) i) c) port) (g ∙ ap (λ (i : ℕ). closed (up 4 (parentPorts w) i) c (lives r)) port)
     (first-kept 15 15 r₁ r k) (second-kept 15 15 r₁ r k)

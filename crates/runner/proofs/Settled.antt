@@ -13,9 +13,9 @@ use Rattle.model.specs.declared.Tree.{Tree}
 use Rattle.model.specs.declared.State.{State}
 use Rattle.model.specs.Tree.{waitingOf, admittedOf}
 use Rattle.rules.specs.Rules.{keeps}
-use Rattle.machine.specs.Machine.{Answer, admitted, served, idle, refused, offered}
+use Rattle.machine.specs.Machine.{Answer, admitted, served, idle, refused, offered, onAdmitted}
 use Rattle.machine.proofs.Laws.{offer-own, offer-others}
-use Rattle.runner.specs.Offers.{Offering, heldOf, release, onAdmitted, offering, offerHeld, offerAll, offerEach}
+use Rattle.runner.specs.Offers.{Offering, heldOf, release, offering, offerHeld, offerAll, offerEach}
 use Rattle.runner.proofs.Held.{release-own, either, held-kept, each-kept}
 
 -- no transaction that accelerator a holds would be admitted

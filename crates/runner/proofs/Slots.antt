@@ -1,5 +1,5 @@
--- Slot by slot: the code's place stands for the run of the definition, and what was written so far, with what the definition
--- writes from here, is what it writes from the start. By the clauses of the definitions and the laws of offers and slots.
+-- Slot by slot: what was written so far, with what the definition writes from here, is what it writes from the start. By the
+-- clauses of the definitions.
 use Prim.Native.Nat.{ℕ, zero, suc, _+_, _-_, _≤_, _<_}
 use mathlib.Core.Bool.{Bool, true, false}
 use mathlib.Core.List.{List, [], _∷_, _++_, append-nil, append-assoc}
@@ -21,7 +21,6 @@ use Rattle.machine.proofs.Keeps.{zeros}
 use Rattle.runner.specs.Offers.{Offering, heldOf, offering, offerEach}
 use Rattle.runner.specs.declared.NextLine.{NextLine}
 use Rattle.runner.specs.Run.{Run, byteOf, lastByte, next, isDone, Trail, ended, written, trail, start, done, stopped, endAfter, endOf, over}
-use Rattle.runner.specs.Places.{Place, leftAt, runAt, Accepts, Taken, Stands, Stepped}
 
 -- done is tested before each slot
 pub trail-done : (k : ℕ) (t : Tree) (r : Run) → isDone r ≡ true → trail k t r ≡ ended true

@@ -1,5 +1,5 @@
--- The arrays of a run are those of the state that the definitions give: after an accelerator's offers, by what is admitted
--- together and the laws of the kept counts; and after a slot, by the choice from these counts.
+-- The arrays of a run are those of the state that the definitions give: after an accelerator's offers, by one offer at a time
+-- and the laws of the kept counts; and after a slot, by the choice from these counts.
 use Prim.Native.Nat.{ℕ, zero, suc, _+_, _*_, _-_, _%_, _≤_, _<_, min}
 use mathlib.Core.Bool.{Bool, true, false, not, _&&_}
 use mathlib.Core.List.{List}
@@ -11,30 +11,30 @@ use lib.ListN.{getD, set}
 use borrow.Author.Tests.{eq-eqb, ne-eqb, eqb-true, lt-ltb, le-ltb}
 use Rattle.model.specs.declared.Tree.{Tree}
 use Rattle.model.specs.declared.State.{State}
-use Rattle.model.specs.Tree.{limitOf, budgetOf, waitingOf, admittedOf}
+use Rattle.model.specs.Tree.{limitOf, budgetOf, waitingOf, outstandingBy, admittedOf}
 use Rattle.model.specs.Beneath.{inside}
 use Rattle.rules.specs.Rules.{keeps}
 use Rattle.folds.proofs.Folds.{picked, passed, at-all, all-at, clash}
 use Rattle.rules.proofs.Sound.{Sound, Kept, sound-of, kept-of}
 use Rattle.rules.proofs.Beneath.{root-zero}
 use Rattle.turns.specs.Turns.{NextPorts, who, after}
-use Rattle.machine.specs.Machine.{Answer, Outcome, admitted, served, idle, refused, admit, offered, noneWaits, serve}
-use Rattle.machine.proofs.Cases.{zero-all, refuses, admits, offer-cases}
-use Rattle.machine.proofs.Cases as Cases
-use Rattle.machine.proofs.Laws.{offer-keeps}
-use Rattle.machine.proofs.Steps.{offer-passed, offer-8, offer-9, offer-admitted}
+use Rattle.machine.specs.Machine.{Answer, Outcome, admitted, served, idle, refused, admit, limitsAnswer, onAdmitted, offered, noneWaits, serve}
+use Rattle.machine.proofs.Cases.{zero-all, Offered, refuses, admits, offer-cases}
+use Rattle.machine.proofs.Laws.{offer-keeps, offer-verdict}
+use Rattle.machine.proofs.Steps.{verdict-known}
 use Rattle.turns.proofs.Descent.{Choice as Choice-of, choice}
 use Rattle.machine.proofs.Keeps.{admit-waiting, take-waiting}
-use Rattle.counts.specs.Wiring.{Wired, aboves, homes}
-use Rattle.counts.specs.Counts.{Counted, up, lowered, closed}
-use Rattle.counts.specs.Choice.{Choice, Chosen}
-use Rattle.counts.proofs.Choosing.{chooses}
-use Rattle.counts.proofs.Counted.{counted-more, counted-less, none-live, weight-small}
-use Rattle.runner.specs.Offers.{Offering, heldOf, release, onAdmitted, offering, offerHeld, offerAll, offerEach}
+use Rattle.counts.specs.Counts.{pathPorts, lowered, closed}
+use Rattle.counts.specs.Choice.{Choice}
+use Rattle.counts.proofs.Table.{TableOf}
+use Rattle.counts.proofs.Choosing.{Chosen, chooses}
+use Rattle.counts.proofs.Counted.{Counted, counted-more, counted-less, none-live, weight-small}
+use Rattle.runner.specs.Offers.{Offering, heldOf, release, offering, offerHeld, offerAll, offerEach}
 use Rattle.admit.specs.Admitting.{Arrays, answerOn, offeredOn, offersFor, offersOf, offersBelow, offersBefore}
-use Rattle.admit.proofs.Offers.{answer-8, answer-9, answer-admitted, on-admitted, offers-known}
-use Rattle.runner.specs.Arrays.{begins, servedFrom, byteFrom, Slot, slotOn, chosenOn, turnedOn, takeOn, serveOn}
+use Rattle.admit.proofs.Offers.{on-admitted, offers-known}
+use Rattle.runner.specs.Arrays.{Slot, slotOn, chosenOn, turnedOn, takeOn, serveOn}
 use Rattle.runner.proofs.Settled.{Settled, settled-one}
+use Rattle.runner.proofs.Service.{servedFrom, byteFrom}
 
 -- d are the arrays of state s, which keeps its rules, and has what waits under each port there and the live ports
 pub record Stored (t : Tree) (s : State) (d : Arrays) : Type 0 where
@@ -46,7 +46,7 @@ pub record Stored (t : Tree) (s : State) (d : Arrays) : Type 0 where
   pub counts : Counted t (waitingOf s) (d .under) (d .live)
 
 -- d are the arrays of the state and the held counts of x
-pub record Offered (t : Tree) (x : Offering) (d : Arrays) : Type 0 where
+pub record StoredOffering (t : Tree) (x : Offering) (d : Arrays) : Type 0 where
   pub stored : Stored t (x .state) d
   pub held : d .held ≡ x .held
 
@@ -59,9 +59,9 @@ both Q idle y p o q d e f g = subst (λ (z : Answer). Q o (onAdmitted z q d)) (s
 both Q (refused n) y p o q d e f g = subst (λ (z : Answer). Q o (onAdmitted z q d)) (sym e) g
 
 -- the arrays' offers are those of the machine
-module _ (t : Tree) (g : List ℕ) (W : Wired t g) where
+module _ (t : Tree) (g : List ℕ) (W : TableOf t g) where
   module _ (a : ℕ) (la : a < t .accs) where
-    module _ (x : Offering) (d : Arrays) (O : Offered t x d) where
+    module _ (x : Offering) (d : Arrays) (O : StoredOffering t x d) where
       S : Sound t
       S = sound-of t (x .state) (O .stored .rules)
 
@@ -79,29 +79,22 @@ module _ (t : Tree) (g : List ℕ) (W : Wired t g) where
 
       same-answer : answerOn g a d ≡ offered t (x .state) a .answer
       same-answer =
-          let l = W .rooms .limit a known in
-          let b = W .rooms .budget a known in
-          let p = offer-passed t (x .state) a (O .stored .rules) in
-          elim (decLt (waitingOf (x .state) a) (limitOf t a)) [
-            | no f ↦ answer-8 g a d (omega (arith, l, waits)) ∙ ap (λ (o : Outcome). o .answer) (offer-8 t (x .state) a la (omega arith) ∙ p)
-            | yes w ↦ elim (decLt (admittedOf (x .state) a) (budgetOf t a)) [
-              | no f ↦ answer-9 g a d (omega (arith, l, waits)) (omega (arith, b, counts)) ∙ ap (λ (o : Outcome). o .answer) (offer-9 t (x .state) a la w (omega arith) ∙ p)
-              | yes m ↦ answer-admitted g a d (omega (arith, l, waits)) (omega (arith, b, counts)) ∙ ap (λ (o : Outcome). o .answer) (offer-admitted t (x .state) a la w m ∙ p)
-            ]
-          ]
+          ap₂ (λ (l m : ℕ). limitsAnswer l (outstandingBy (getD (d .waiting) a 0)) m (getD (d .admitted) a 0)) (W .limit a known) (W .budget a known)
+          ∙ ap₂ (λ (w m : ℕ). limitsAnswer (limitOf t a) (outstandingBy w) (budgetOf t a) m) waits counts
+          ∙ verdict-known t (x .state) a la ∙ sym (offer-verdict t (x .state) a (O .stored .rules))
 
       admits-one : offered t (x .state) a .answer ≡ admitted → offered t (x .state) a .state ≡ admit (x .state) a
       admits-one = go (offered t (x .state) a) (offer-cases t (x .state) a)
         where
-          go : (o : Outcome) → Cases.Offered t (x .state) a o → o .answer ≡ admitted → o .state ≡ admit (x .state) a
+          go : (o : Outcome) → Offered t (x .state) a o → o .answer ≡ admitted → o .state ≡ admit (x .state) a
           go o (refuses w) e = clash cc
           go o (admits l h m) e = refl
 
-      next-offered : answerOn g a d ≡ admitted → Offered t (offering (offered t (x .state) a .state) (release (x .held) a)) (offeredOn g a d)
+      next-offered : answerOn g a d ≡ admitted → StoredOffering t (offering (offered t (x .state) a .state) (release (x .held) a)) (offeredOn g a d)
       next-offered e =
           let f = admits-one (sym same-answer ∙ e) in
           let k : keeps t (admit (x .state) a) ≡ true = subst (λ (s : State). keeps t s ≡ true) f (offer-keeps t (x .state) a (O .stored .rules)) in
-          subst₂ (λ (s : State) (b : Arrays). Offered t (offering s (release (x .held) a)) b) (sym f) (sym (on-admitted g a d e))
+          subst₂ (λ (s : State) (b : Arrays). StoredOffering t (offering s (release (x .held) a)) b) (sym f) (sym (on-admitted g a d e))
           (record {
             stored = record {
               rules = k;
@@ -109,40 +102,40 @@ module _ (t : Tree) (g : List ℕ) (W : Wired t g) where
               admitted = ap (λ (l : List ℕ). set l a (getD l a 0 + 1)) (O .stored .admitted);
               last = O .stored .last;
               allowance = O .stored .allowance;
-              counts = counted-more t S (aboves g) (homes g) (W .lanes) a la (waitingOf (x .state)) (waitingOf (admit (x .state) a)) 1 (omega arith)
-                  (λ b. omega (arith, admit-waiting t S (x .state) K a la b))
+              counts = counted-more t S g W a la (waitingOf (x .state)) (waitingOf (admit (x .state) a))
+                  (admit-waiting t S (x .state) K a la)
                   (weight-small t S (waitingOf (admit (x .state) a)) (λ i li. omega (arith, kept-of t (admit (x .state) a) k .waiting i li, S .limit i li)))
                   (d .under) (d .live) (O .stored .counts);
             };
             held = ap (λ (l : List ℕ). set l a (getD l a 0 - 1)) (O .held);
           })
 
-    for-offered : (k : ℕ) (x : Offering) (d : Arrays) → Offered t x d → Offered t (offerHeld k t x a) (offersFor k g a d)
+    for-offered : (k : ℕ) (x : Offering) (d : Arrays) → StoredOffering t x d → StoredOffering t (offerHeld k t x a) (offersFor k g a d)
     unfolding offerHeld offersFor
     for-offered zero x d O = O
     for-offered (suc k) x d O =
-        both (Offered t) (offered t (x .state) a .answer) (answerOn g a d) _ x _ d (same-answer x d O)
+        both (StoredOffering t) (offered t (x .state) a .answer) (answerOn g a d) _ x _ d (same-answer x d O)
         (λ e. for-offered k (offering (offered t (x .state) a .state) (release (x .held) a)) (offeredOn g a d) (next-offered x d O e)) O
 
     -- accelerator a has offered
-    pub one-offered : (x : Offering) (d : Arrays) → Offered t x d → Offered t (offerAll t x a) (offersOf g a d)
+    pub one-offered : (x : Offering) (d : Arrays) → StoredOffering t x d → StoredOffering t (offerAll t x a) (offersOf g a d)
     one-offered x d O =
-        subst (Offered t (offerAll t x a)) (sym (offers-known g a d (known x d O)))
-        (subst (λ (h : List ℕ). Offered t (offerAll t x a) (offersFor (getD h a 0) g a d)) (sym (O .held)) (for-offered (heldOf (x .held) a) x d O))
+        subst (StoredOffering t (offerAll t x a)) (sym (offers-known g a d (known x d O)))
+        (subst (λ (h : List ℕ). StoredOffering t (offerAll t x a) (offersFor (getD h a 0) g a d)) (sym (O .held)) (for-offered (heldOf (x .held) a) x d O))
 
-  module _ (x : Offering) (d : Arrays) (O : Offered t x d) where
+  module _ (x : Offering) (d : Arrays) (O : StoredOffering t x d) where
     -- the accelerators below n have offered
-    below-offered : (n : ℕ) → n ≤ t .accs → Offered t (offerEach n t x) (offersBelow g n d)
+    below-offered : (n : ℕ) → n ≤ t .accs → StoredOffering t (offerEach n t x) (offersBelow g n d)
     unfolding offerEach offersBelow
     below-offered zero z = O
     below-offered (suc n) z = one-offered n (omega arith) (offerEach n t x) (offersBelow g n d) (below-offered n (omega arith))
 
     -- the offers before a slot: where only accelerator y may have more admitted, its offers are all offers
     pub before-offered : (e : Bool) (y : ℕ) → (e ≡ false → (y < t .accs) × Settled t (x .state) (x .held) y)
-        → Offered t (offerEach (t .accs) t x) (offersBefore g e y (t .accs) d)
+        → StoredOffering t (offerEach (t .accs) t x) (offersBefore g e y (t .accs) d)
     before-offered true y f = below-offered (t .accs) (omega arith)
     before-offered false y f =
-        subst (λ (o : Offering). Offered t o (offersOf g y d)) (sym (settled-one t (x .state) (x .held) y (O .stored .rules) (f refl .1) (f refl .0)))
+        subst (λ (o : Offering). StoredOffering t o (offersOf g y d)) (sym (settled-one t (x .state) (x .held) y (O .stored .rules) (f refl .1) (f refl .0)))
         (one-offered y (f refl .0) x d O)
 
 -- nothing waits exactly if no port of the root is live
@@ -198,7 +191,7 @@ module _ (n w : List ℕ) (d : Arrays) where
         ∙ sym (passed _ _ _ (ne-eqb _ _ e) ∙ passed _ _ _ (le-ltb 31 (chosenOn n w d .served) (omega arith)))
 
 -- x is what the slot comes to from state s and its arrays d
-pub record Served (t : Tree) (s : State) (d : Arrays) (x : Slot) : Type 0 where
+pub record StoredSlot (t : Tree) (s : State) (d : Arrays) (x : Slot) : Type 0 where
   pub byte : x .byte ≡ byteFrom t s
   pub waiting : x .arrays .waiting ≡ servedFrom t s .waiting
   pub admitted : x .arrays .admitted ≡ d .admitted
@@ -207,8 +200,8 @@ pub record Served (t : Tree) (s : State) (d : Arrays) (x : Slot) : Type 0 where
   pub allowance : x .arrays .allowance ≡ servedFrom t s .allowance
   pub counts : Counted t (waitingOf (servedFrom t s)) (x .arrays .under) (x .arrays .live)
 
-module _ (t : Tree) (g n : List ℕ) (W : Wired t g) (N : NextPorts n) (s : State) (d : Arrays) (R : Stored t s d) where
-  served-none : getD (d .live) 0 0 ≡ 0 → Served t s d (slotOn 255 d)
+module _ (t : Tree) (g n : List ℕ) (W : TableOf t g) (N : NextPorts n) (s : State) (d : Arrays) (R : Stored t s d) where
+  served-none : getD (d .live) 0 0 ≡ 0 → StoredSlot t s d (slotOn 255 d)
   served-none e =
       let z = live-root t s (R .rules) (d .under) (d .live) (R .counts) .0 e in
       let same : servedFrom t s ≡ s = picked _ _ _ z in
@@ -230,13 +223,13 @@ module _ (t : Tree) (g n : List ℕ) (W : Wired t g) (N : NextPorts n) (s : Stat
     turn = choice t (sound-of t s (R .rules)) s (kept-of t s (R .rules)) inner
 
     chosen : Chosen t s 4 0 (chosenOn n g d)
-    chosen = chooses n g (d .under) (d .live) (d .last) (d .allowance) t s
-        (record { rules = R .rules; table = N; ports = W .ports; counts = R .counts; last = R .last; allowance = R .allowance }) 4 0 (sound-of t s (R .rules) .some-ints) inner
+    chosen = chooses t s n g (d .under) (d .live) (d .last) (d .allowance)
+        (record { rules = R .rules; next = N; table = W; counts = R .counts; last = R .last; allowance = R .allowance }) 4 0 (sound-of t s (R .rules) .some-ints) inner
 
     chosen-known : chosenOn n g d .served < 32
     chosen-known = omega (arith, chosen .served, turn .acc, sound-of t s (R .rules) .most-accs)
 
-    served-one : Served t s d (slotOn (chosenOn n g d .served) (takeOn g (chosenOn n g d .served) (turnedOn (chosenOn n g d) d)))
+    served-one : StoredSlot t s d (slotOn (chosenOn n g d .served) (takeOn g (chosenOn n g d .served) (turnedOn (chosenOn n g d) d)))
     served-one =
         let z = some-live t s (R .rules) (d .under) (d .live) (R .counts) e in
         let same : servedFrom t s ≡ serve t s = passed _ _ _ z in
@@ -248,27 +241,14 @@ module _ (t : Tree) (g n : List ℕ) (W : Wired t g) (N : NextPorts n) (s : Stat
           held = refl;
           last = chosen .last ∙ sym (ap (λ (x : State). x .last) same);
           allowance = chosen .allowance ∙ sym (ap (λ (x : State). x .allowance) same);
-          counts = subst₂ (λ (x : State) (a : ℕ). Counted t (waitingOf x) (lowered (up 4 (aboves g) (getD (homes g) a 0)) (d .under)) (closed (up 4 (aboves g) (getD (homes g) a 0)) (d .under) (d .live))) (sym same) (sym (chosen .served))
-              (counted-less t (sound-of t s (R .rules)) (aboves g) (homes g) (W .lanes) (who 4 t s 0) (turn .acc) (waitingOf s) (waitingOf (serve t s))
+          counts = subst₂ (λ (x : State) (a : ℕ). Counted t (waitingOf x) (lowered (pathPorts g a) (d .under)) (closed (pathPorts g a) (d .under) (d .live))) (sym same) (sym (chosen .served))
+              (counted-less t (sound-of t s (R .rules)) g W (who 4 t s 0) (turn .acc) (waitingOf s) (waitingOf (serve t s))
               (take-waiting t (sound-of t s (R .rules)) s (kept-of t s (R .rules)) (who 4 t s 0) (after 4 t s 0) turn) (d .under) (d .live) (R .counts));
         }
 
   -- the service on the arrays of a state is that of the definition
-  pub serves : Served t s d (serveOn n g d)
+  pub serves : StoredSlot t s d (serveOn n g d)
   serves = elim (ℕ-discrete (getD (d .live) 0 0) 0) [
-    | yes e ↦ subst (Served t s d) (serve-none n g d e) (served-none e)
-    | no e ↦ subst (Served t s d) (serve-known n g d e (chosenOn n g d) refl (chosen-known e)) (served-one e)
+    | yes e ↦ subst (StoredSlot t s d) (serve-none n g d e) (served-none e)
+    | no e ↦ subst (StoredSlot t s d) (serve-known n g d e (chosenOn n g d) refl (chosen-known e)) (served-one e)
   ]
-
-pub window-none : (w n : ℕ) → w ≡ 0 → begins w n ≡ false
-window-none w n e = ap (λ (c : Bool). not c && eqb (n % w) 0) (eq-eqb w 0 e)
-
-pub window-begins : (w n : ℕ) → (w ≡ 0 → ⊥) → n % w ≡ 0 → begins w n ≡ true
-window-begins w n d e = ap₂ (λ (c b : Bool). not c && b) (ne-eqb w 0 d) (eq-eqb (n % w) 0 e)
-
-both-false : (c : Bool) → (c && false) ≡ false
-both-false true = refl
-both-false false = refl
-
-pub window-goes-on : (w n : ℕ) → (n % w ≡ 0 → ⊥) → begins w n ≡ false
-window-goes-on w n d = ap (λ (b : Bool). not (eqb w 0) && b) (ne-eqb (n % w) 0 d) ∙ both-false (not (eqb w 0))

@@ -1,7 +1,6 @@
 -- One slot of a run on the arrays that it holds in place of a state: what the inner functions come to on any arrays.
 --
 -- begins w n            slot n begins a window of w slots
--- servedFrom t s        the state once a slot has served, before the slot count rises; byteFrom t s: its byte
 -- Slot                  a slot's byte and the arrays after it; slotOn b d: these two
 -- chosenOn n w d        the choice from the root, by the table n of next ports and the table w of the configuration
 -- turnedOn x d          the arrays d with the last ports and the allowances of the choice x
@@ -19,12 +18,8 @@ use mathlib.Core.Bool.{Bool, not, _&&_, _||_}
 use mathlib.Core.List.{List}
 use lib.Dec.{eqb, ltb, leb}
 use lib.ListN.{getD, set, replicate}
-use Rattle.model.specs.declared.Tree.{Tree}
-use Rattle.model.specs.declared.State.{State}
 use Rattle.folds.specs.Fold.{pick}
-use Rattle.machine.specs.Machine.{noneWaits, chosen, serve}
-use Rattle.counts.specs.Wiring.{aboves, homes}
-use Rattle.counts.specs.Counts.{up, lowered, closed}
+use Rattle.counts.specs.Counts.{pathPorts, lowered, closed}
 use Rattle.counts.specs.Choice.{Choice, chooseOn}
 use Rattle.admit.specs.Admitting.{Arrays, offersBefore}
 use Rattle.runner.specs.declared.NextLine.{NextLine}
@@ -34,12 +29,6 @@ use Rattle.runner.specs.Places.{leftAt}
 
 abbrev pub begins : ℕ → ℕ → Bool
 begins w n = not (eqb w 0) && eqb (n % w) 0
-
-abbrev pub servedFrom : Tree → State → State
-servedFrom t s = pick (noneWaits s) s (serve t s)
-
-abbrev pub byteFrom : Tree → State → ℕ
-byteFrom t s = pick (noneWaits s) 255 (chosen t s)
 
 pub record Slot : Type 0 where
   pub byte : ℕ
@@ -69,8 +58,8 @@ takeOn w a d =
       waiting = set (d .waiting) a (getD (d .waiting) a 0 - 1);
       admitted = d .admitted;
       held = d .held;
-      under = lowered (up 4 (aboves w) (getD (homes w) a 0)) (d .under);
-      live = closed (up 4 (aboves w) (getD (homes w) a 0)) (d .under) (d .live);
+      under = lowered (pathPorts w a) (d .under);
+      live = closed (pathPorts w a) (d .under) (d .live);
       last = d .last;
       allowance = d .allowance;
     }

@@ -2,7 +2,7 @@
 // is written as one byte.
 mod steps;
 
-use counts::tables::wires_of;
+use counts::tables::table_of;
 use lines::FileAnswer;
 use machine::FreshAnswer;
 use machine::fresh;
@@ -66,7 +66,7 @@ fn run_slots(t: Tree, fresh: State, trace: &[u8], out: &mut [u8]) -> RunAnswer
     ensures answer { λ r. ⌜ runMeans r ≡ endOf (runFor t (leftAt (now (trace .entry)) 0) (length (now (out .entry)))) ⌝ }
     ensures bytes { λ r. ⌜ now (out .exit) ≡ over (runFor t (leftAt (now (trace .entry)) 0) (length (now (out .entry)))) (now (out .entry)) ⌝ }
 {
-    let wires = wires_of(t);
+    let table = table_of(t);
     let next = next_ports();
     let last = fresh.last;
     let mut blocks = [0u32; 96];
@@ -85,14 +85,14 @@ fn run_slots(t: Tree, fresh: State, trace: &[u8], out: &mut [u8]) -> RunAnswer
             line,
             past,
             t.accs,
-            &wires,
+            &table,
             &mut blocks,
             &mut under,
             &mut turns,
         );
         past = after_slot(
             &next,
-            &wires,
+            &table,
             t.bus.window as u32,
             used as u32,
             &mut blocks,

@@ -5,8 +5,8 @@ use crate::SlotEnd;
 use admit::ADMITTED;
 use admit::HELD;
 use admit::offer_before_slot;
-use counts::HOME;
 use counts::LIVE;
+use counts::OWN_PORT;
 use counts::along::take_along;
 use counts::choice::choose;
 use trace::NextRequest;
@@ -20,13 +20,14 @@ ghost use Rattle.counts.specs.Counts.{lasts, allowances, lives};
 ghost use Rattle.admit.specs.Admitting.{waitings, admitteds, helds, arraysOf};
 ghost use Rattle.folds.specs.Fold.{pick};
 ghost use Rattle.runner.specs.Run.{noneHeld, heldWith};
-ghost use Rattle.runner.specs.Places.{leftAt, dueOf, Accepts, Room, Taken};
+ghost use Rattle.runner.specs.Places.{leftAt, AtLine, NextOf};
 ghost use Rattle.runner.specs.Arrays.{begins, slotOn, serveOn, endOn, afterOn, beforeOn};
 
 // Adds the lines due in this slot to the held counts.
 fn take_due(trace: &[u8], slot: u32, line: NextLine, blocks: &mut [u32; 96]) -> NextLine
-    requires { ⌜ Accepts (now trace) (line .at) × Room (helds (now blocks)) (line .at) × (line .due ≤ dueOf (leftAt (now trace) (line .at))) ⌝ }
-    ensures due { λ r. ⌜ Taken slot (now (trace .entry)) (helds (now (blocks .entry))) (line .at) (helds (now (blocks .exit))) r ⌝ }
+    requires { ⌜ AtLine (now trace) (helds (now blocks)) line ⌝ }
+    ensures held { λ _. ⌜ helds (now (blocks .exit)) ≡ heldWith slot (helds (now (blocks .entry))) (leftAt (now (trace .entry)) (line .at)) ⌝ }
+    ensures line { λ r. ⌜ NextOf slot (now (trace .entry)) (helds (now (blocks .entry))) (line .at) r ⌝ }
     ensures rest { λ _. ⌜ take 64 (now (blocks .exit)) ≡ take 64 (now (blocks .entry)) ⌝ }
 {
     if slot < line.due {
@@ -85,23 +86,23 @@ fn one_less(n: u32) -> u32
 // Serves the transaction whose turn it is, and answers its accelerator, or that the slot is idle.
 fn serve(
     next: &[u8; 2048],
-    wires: &[u16; 246],
+    table: &[u16; 246],
     blocks: &mut [u32; 96],
     under: &mut [u16; 120],
     turns: &mut [u8; 45],
 ) -> u8
-    ensures { λ r. ⌜ slotOn r (arraysOf (now (blocks .exit)) (now (under .exit)) (now (turns .exit))) ≡ serveOn (now (next .entry)) (now (wires .entry)) (arraysOf (now (blocks .entry)) (now (under .entry)) (now (turns .entry))) ⌝ }
+    ensures { λ r. ⌜ slotOn r (arraysOf (now (blocks .exit)) (now (under .exit)) (now (turns .exit))) ≡ serveOn (now (next .entry)) (now (table .entry)) (arraysOf (now (blocks .entry)) (now (under .entry)) (now (turns .entry))) ⌝ }
 {
     if turns[LIVE] == 0 {
         return IDLE;
     }
-    let a = choose(next, wires, under, 4, 0, turns);
+    let a = choose(next, table, under, 4, 0, turns);
     let i = a as usize;
     if 31 < i {
         return IDLE;
     }
     blocks[i] = one_less(blocks[i]);
-    take_along(wires, wires[HOME + i], under, turns);
+    take_along(table, table[OWN_PORT + i], under, turns);
     a
 }
 
@@ -145,25 +146,25 @@ pub fn before_slot(
     line: NextLine,
     past: SlotEnd,
     accs: u8,
-    wires: &[u16; 246],
+    table: &[u16; 246],
     blocks: &mut [u32; 96],
     under: &mut [u16; 120],
     turns: &mut [u8; 45],
 ) -> NextLine
-    requires { ⌜ Accepts (now trace) (line .at) × Room (helds (now blocks)) (line .at) × (line .due ≤ dueOf (leftAt (now trace) (line .at))) ⌝ }
-    ensures arrays { λ r. ⌜ arraysOf (now (blocks .exit)) (now (under .exit)) (now (turns .exit)) ≡ beforeOn (now (trace .entry)) slot line past accs (now (wires .entry)) (arraysOf (now (blocks .entry)) (now (under .entry)) (now (turns .entry))) ⌝ }
-    ensures line { λ r. ⌜ Taken slot (now (trace .entry)) (helds (now (blocks .entry))) (line .at) (heldWith slot (helds (now (blocks .entry))) (leftAt (now (trace .entry)) (line .at))) r ⌝ }
+    requires { ⌜ AtLine (now trace) (helds (now blocks)) line ⌝ }
+    ensures arrays { λ r. ⌜ arraysOf (now (blocks .exit)) (now (under .exit)) (now (turns .exit)) ≡ beforeOn (now (trace .entry)) slot line past accs (now (table .entry)) (arraysOf (now (blocks .entry)) (now (under .entry)) (now (turns .entry))) ⌝ }
+    ensures line { λ r. ⌜ NextOf slot (now (trace .entry)) (helds (now (blocks .entry))) (line .at) r ⌝ }
 {
     let every = past.opened | (line.due <= slot) | (past.served == IDLE);
     let next = take_due(trace, slot, line, blocks);
-    offer_before_slot(every, past.served, accs, wires, blocks, under, turns);
+    offer_before_slot(every, past.served, accs, table, blocks, under, turns);
     next
 }
 
 // One slot is run once the offers are made: the service, and the end of a window.
 pub fn after_slot(
     next: &[u8; 2048],
-    wires: &[u16; 246],
+    table: &[u16; 246],
     window: u32,
     slot: u32,
     blocks: &mut [u32; 96],
@@ -171,10 +172,10 @@ pub fn after_slot(
     turns: &mut [u8; 45],
 ) -> SlotEnd
     requires { ⌜ slot < 4294967295 ⌝ }
-    ensures end { λ r. ⌜ r ≡ endOn (serveOn (now (next .entry)) (now (wires .entry)) (arraysOf (now (blocks .entry)) (now (under .entry)) (now (turns .entry))) .byte) (begins window (slot + 1)) ⌝ }
-    ensures arrays { λ r. ⌜ arraysOf (now (blocks .exit)) (now (under .exit)) (now (turns .exit)) ≡ afterOn (now (next .entry)) (now (wires .entry)) window slot (arraysOf (now (blocks .entry)) (now (under .entry)) (now (turns .entry))) ⌝ }
+    ensures end { λ r. ⌜ r ≡ endOn (serveOn (now (next .entry)) (now (table .entry)) (arraysOf (now (blocks .entry)) (now (under .entry)) (now (turns .entry))) .byte) (begins window (slot + 1)) ⌝ }
+    ensures arrays { λ r. ⌜ arraysOf (now (blocks .exit)) (now (under .exit)) (now (turns .exit)) ≡ afterOn (now (next .entry)) (now (table .entry)) window slot (arraysOf (now (blocks .entry)) (now (under .entry)) (now (turns .entry))) ⌝ }
 {
-    let served = serve(next, wires, blocks, under, turns);
+    let served = serve(next, table, blocks, under, turns);
     let opened = open_window(window, slot + 1, blocks);
     SlotEnd {
         served: served,

@@ -8,52 +8,77 @@ use borrow.Author.Needs.{needs}
 use borrow.Author.Tests.{not-true, not-false}
 use mathlib.Core.Logic.{inl, inr}
 use Rattle.folds.proofs.Folds.{clash}
+use Rattle.counts.proofs.Table.{table-is}
 use Rattle.admit.specs.Admitting.{arraysOf}
 use Rattle.runner.specs.Run.{runFor}
 use Rattle.runner.specs.Places.{leftAt}
 use Rattle.runner.proofs.Slots.{Running, running-start, running-turn, running-ended}
-use Rattle.runner.proofs.Going.{fewer, Fixed, Walk, walk-start, here, walk-done, walk-next}
+use Rattle.runner.proofs.Walk.{fewer, Fixed, Walk, walk-start, here, walk-done, walk-next}
 use Rattle.runner.proofs.run_slots.Statement.{statement}
 use Rattle.runner.proofs.run_slots.Tie as tie
 
 abbrev Inv-loop : tie.InvT-loop
-Inv-loop t trace out₀ wires next blocks₀ under₀ turns₀ line₀ past₀ used₀ out blocks under turns line past used =
-    Fixed t wires next × Walk t trace (Running t (runFor t (leftAt trace 0) (length out₀)) out₀ out used) (arraysOf blocks under turns) line past used × (length out₀ ≤ 65536)
+Inv-loop t trace out₀ table next blocks₀ under₀ turns₀ line₀ past₀ used₀ out blocks under turns line past used =
+    Fixed t table next
+    × Walk t trace (Running t (runFor t (leftAt trace 0) (length out₀)) out₀ out used) (arraysOf blocks under turns) line past used
+    × (length out₀ ≤ 65536)
 
 abbrev μ-loop : tie.MeasureT-loop
-μ-loop t trace out₀ wires next blocks₀ under₀ turns₀ line₀ past₀ used₀ out blocks under turns line past used = length out - used
+μ-loop t trace out₀ table next blocks₀ under₀ turns₀ line₀ past₀ used₀ out blocks under turns line past used = length out - used
 
 loop-holds : tie.Need-loop-holds Inv-loop μ-loop
 loop-holds c =
     let x = c .before .before .before .before .before .before .args in
     let q = c .before .before .before .before .before .before .pre in
     let y = c .turns-of .ensures in (
-      record { rules = q .0; wired = c .before .before .before .wires-of .ensures; table = c .before .before .next-ports .ensures },
-      walk-start (x .t) (x .trace .now) _ _ _ (x .fresh) _ (q .0) (q .1) (q .3) (y .0) (y .1 .0) (y .1 .1) (running-start (x .t) (x .out .now) _),
+      record { rules = q .0; table = table-is (x .t) _ (c .before .before .before .table-of .ensures); next = c .before .before .next-ports .ensures },
+      walk-start (x .t) (x .trace .now) _ _ _ (x .fresh) _ (q .0) (q .1) (q .3) (y .0) (y .1 .0) (y .1 .1)
+          (running-start (x .t) (x .out .now) _),
       q .2,
     )
 
 before-slot-requires : tie.Need-before-slot-requires Inv-loop μ-loop
-before-slot-requires c κs = let g = c .before .before .before .before .before .before .before .before .before .loop .inv .1 .shows in (g .accepts, g .room, g .due)
+before-slot-requires c κs = c .before .before .before .before .before .before .before .before .before .loop .inv .1 .shows .line
+
+cast-before-slot : tie.Need-cast-before-slot Inv-loop μ-loop
+cast-before-slot c = let l = c .before .before .before .before .before .loop in omega (arith, l .inv .1 .holds .small)
+
+cast-after-slot : tie.Need-cast-after-slot-2 Inv-loop μ-loop
+cast-after-slot c = let l = c .before .before .before .before .before .before .before .before .before .before .before .before .before .loop in omega (arith, l .inv .1 .holds .small)
+
+after-slot-requires : tie.Need-after-slot-requires Inv-loop μ-loop
+after-slot-requires c κs = let l = c .before .before .before .before .before .before .before .before .before .before .before .before .before .before .before .before .loop in omega (arith, l .inv .1 .holds .small)
+
+slice-write-out : tie.Need-slice-write-out Inv-loop μ-loop
+slice-write-out c = c .before .before .before .before .before .before .before .before .before .before .before .before .before .before .before .before .loop-test .taken
+
+add-used : tie.Need-add-used Inv-loop μ-loop
+add-used c = let l = c .before .before .before .before .before .before .before .before .before .before .before .before .before .before .before .before .before .loop in omega (arith, l .inv .1 .holds .small)
 
 loop-less : tie.Need-loop-less Inv-loop μ-loop
-loop-less c = let l = c .before .before .before .before .before .before .before .before .before .before .before .before .before .before .before .before .before .loop in fewer (l .out) (l .used) _ _ (c .before .before .before .before .before .before .before .before .before .before .before .before .before .before .before .before .loop-test .taken) (omega arith)
+loop-less c =
+    let k = c .before .before .before .before .before .before .before .before .before .before .before .before .before .before .before .before in
+    let l = k .before .loop in
+    fewer (l .out) (l .used) _ _ (k .loop-test .taken) (omega arith)
 
 loop-again : tie.Need-loop-again Inv-loop μ-loop
 loop-again c =
-    let x = c .before .before .before .before .before .before .before .before .before .before .before .before .before .before .before .before .before .before .before .before .before .before .before .before .args in
-    let l = c .before .before .before .before .before .before .before .before .before .before .before .before .before .before .before .before .before .loop in
+    let k = c .before .before .before .before .before .before .before .before .before .before .before .before in
+    let x = k .before .before .before .before .before .before .before .before .before .before .before .before .args in
+    let l = k .before .before .before .before .before .loop in
     let G = l .inv .1 in
     let d = arraysOf (l .blocks) (l .under) (l .turns) in
     let first = c .before .before .before .before .before .before .before .before-slot in
     let then = c .after-slot in
     let R = Running (x .t) (runFor (x .t) (leftAt (x .trace .now) 0) (length (x .out .now))) (x .out .now) in
-    let more = c .before .before .before .before .before .before .before .before .before .before .before .before .before .before .before .before .loop-test .taken in
-    let going = sym (walk-done (x .t) _ _ (x .trace .now) (l .inv .0) _ d (l .line) (l .past) (l .used) G _ (c .before .before .before .before .before .before .before .before .before .before .before .before .before .is-done .ensures)) ∙ not-true _ (c .before .before .before .before .before .before .before .before .before .before .before .before .if1 .taken) in (
+    let more = k .before .before .before .before .loop-test .taken in
+    let done = walk-done (x .t) _ _ (x .trace .now) (l .inv .0) _ d (l .line) (l .past) (l .used) G _ (k .before .is-done .ensures) in
+    let going = sym done ∙ not-true _ (k .if1 .taken) in (
       l .inv .0,
       walk-next (x .t) _ _ (x .trace .now) (l .inv .0) _ d (l .line) (l .past) (l .used) G
-          (first .result) (first .ensures .1) _ (first .ensures .0) _ refl (then .result) (then .ensures .0) _ (then .ensures .1) (omega (arith, G .holds .long))
-          (R _ (l .used + 1)) (running-turn (x .t) _ (x .out .now) (l .out) (l .used) _ (G .holds) more going (then .result .served)),
+          (first .result) (first .ensures .1) _ (first .ensures .0) (then .result) (then .ensures .0) _ (then .ensures .1)
+          (omega (arith, G .holds .long)) (R _ (l .used + 1))
+          (running-turn (x .t) _ (x .out .now) (l .out) (l .used) _ (G .holds) more going (then .result .served)),
       l .inv .2,
     )
 
@@ -83,7 +108,5 @@ pub run-slots-spec : {M : Type 1} → statement M
 run-slots-spec =
     tie.close
     (tie.spec Inv-loop μ-loop (λ c κs. search needs) (λ c κs. search needs) (λ c κs. search needs) loop-holds (λ c κs. search needs)
-    (λ c. let l = c .before .before .before .before .before .loop in omega (arith, l .inv .1 .holds .small)) before-slot-requires
-    (λ c. search needs) (λ c. let l = c .before .before .before .before .before .before .before .before .before .before .before .before .before .loop in omega (arith, l .inv .1 .holds .small)) (λ c κs. let l = c .before .before .before .before .before .before .before .before .before .before .before .before .before .before .before .before .loop in omega (arith, l .inv .1 .holds .small))
-    (λ c. c .before .before .before .before .before .before .before .before .before .before .before .before .before .before .before .before .loop-test .taken) (λ c. let l = c .before .before .before .before .before .before .before .before .before .before .before .before .before .before .before .before .before .loop in omega (arith, l .inv .1 .holds .small))
+    cast-before-slot before-slot-requires (λ c. search needs) cast-after-slot after-slot-requires slice-write-out add-used
     loop-less loop-again (λ c κs. search needs) cast-ended (λ c κs. search needs) same-length returns)

@@ -3,7 +3,7 @@
 use mathlib.Core.Path.{refl, sym, _∙_}
 use lib.ListN.{take}
 use lib.Seq.{getD-drop}
-use Rattle.counts.specs.Wiring.{aboves}
+use Rattle.counts.specs.Table.{parentPorts}
 use Prim.Native.Nat.{_/_}
 use borrow.Author.Needs.{needs}
 use Rattle.counts.specs.Counts.{lives, up, lowered, closed}
@@ -12,11 +12,11 @@ use Rattle.counts.proofs.along.take_along.Statement.{statement}
 use Rattle.counts.proofs.along.take_along.Tie as tie
 
 abbrev Inv-loop : tie.InvT-loop
-Inv-loop wires place under₀ turns₀ c₀ left₀ under turns c left =
-    Lowers (up left (aboves wires) c) under turns (lowered (up 4 (aboves wires) place) under₀) (closed (up 4 (aboves wires) place) under₀ (lives turns₀)) (take 30 turns₀)
+Inv-loop table place under₀ turns₀ c₀ left₀ under turns c left =
+    Lowers (up left (parentPorts table) c) under turns (lowered (up 4 (parentPorts table) place) under₀) (closed (up 4 (parentPorts table) place) under₀ (lives turns₀)) (take 30 turns₀)
 
 abbrev μ-loop : tie.MeasureT-loop
-μ-loop wires place under₀ turns₀ c₀ left₀ under turns c left = left
+μ-loop table place under₀ turns₀ c₀ left₀ under turns c left = left
 
 loop-holds : tie.Need-loop-holds Inv-loop μ-loop
 loop-holds c = record { counts = refl; sets = refl; rest = refl }
@@ -32,7 +32,7 @@ returns-2 c =
 
 loop-again : tie.Need-loop-again Inv-loop μ-loop
 loop-again c =
-    lowers-port (up-next _ _ _ _ (c .before .before .before .before .before .before .before .before .loop-test .taken) (c .before .before .before .before .before .before .before .if1 .left) (c .before .before .if2 .left) (c .wide .ensures ∙ sym (getD-drop 135 (c .before .before .before .before .before .before .before .before .before .before .args .wires .now) (c .before .before .before .before .before .before .before .before .before .loop .c / 8) 0)))
+    lowers-port (up-next _ _ _ _ (c .before .before .before .before .before .before .before .before .loop-test .taken) (c .before .before .before .before .before .before .before .if1 .left) (c .before .before .if2 .left) (c .wide .ensures ∙ sym (getD-drop 135 (c .before .before .before .before .before .before .before .before .before .before .args .table .now) (c .before .before .before .before .before .before .before .before .before .loop .c / 8) 0)))
     (c .before .before .before .before .before .less-one .ensures) (c .before .before .before .if-waiting .ensures) (c .before .before .before .before .before .before .before .before .before .loop .inv)
 
 returns-3 : tie.Need-returns-3 Inv-loop μ-loop

@@ -1,10 +1,7 @@
 -- `before_slot` meets its contract: the lines due are held, and then the offers are those of the definition.
-use mathlib.Core.Path.{_∙_, ap, subst}
-use Prim.Native.Nat.{ℕ}
-use mathlib.Core.List.{List}
+use mathlib.Core.Path.{_∙_, ap}
 use borrow.Author.Needs.{needs}
-use Rattle.admit.specs.Admitting.{helds, offersBefore}
-use Rattle.runner.specs.Places.{Taken}
+use Rattle.admit.specs.Admitting.{offersBefore}
 use Rattle.runner.specs.Arrays.{everyOn}
 use Rattle.runner.proofs.Parts.{due-arrays}
 use Rattle.runner.proofs.steps.before_slot.Statement.{statement}
@@ -14,10 +11,11 @@ returns : tie.Need-returns
 returns c =
     let x = c .before .before .before .before .before .before .before .before .before .before .args in
     let q = c .before .before .before .before .take-due in
-    let T = q .ensures .0 in (
+    let T = q .ensures in (
       c .offer-before-slot .ensures
-          ∙ ap (offersBefore (x .wires .now) (everyOn (x .past) (x .line) (x .slot)) (x .past .served) (x .accs)) (due-arrays (x .blocks .now) (q .last .1 .1 .1 .0) (x .under .now) (x .turns .now) _ (T .held) (q .ensures .1)),
-      subst (λ (h : List ℕ). Taken (x .slot) (x .trace .now) (helds (x .blocks .now)) (x .line .at) h (q .result)) (T .held) T,
+          ∙ ap (offersBefore (x .table .now) (everyOn (x .past) (x .line) (x .slot)) (x .past .served) (x .accs))
+          (due-arrays (x .blocks .now) (q .last .1 .1 .1 .0) (x .under .now) (x .turns .now) _ (T .0) (T .1 .1)),
+      T .1 .0,
     )
 
 pub before-slot-spec : {M : Type 1} → statement M
