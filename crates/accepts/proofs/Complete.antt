@@ -27,7 +27,7 @@ use mathlib.Core.Logic.{_↔_}
 use Rattle.reader.proofs.Files.{tree-start}
 use Rattle.accepts.proofs.Kept.{accepted-keeps}
 use Rattle.accepts.proofs.Written.{accEntry, Below, below-none, below-more, numbers-clean, root-clean, clean3, bus-read, acc-read, root-read, child-read}
-use Rattle.accepts.proofs.Stage.{Sized, Agrees, bus-limits, acc-ranges, bus-step, agrees-bus, root-step, agrees-root, child-step, agrees-child, acc-step, agrees-acc, agrees-all}
+use Rattle.accepts.proofs.Stage.{Agrees, bus-limits, acc-ranges, bus-step, agrees-bus, root-step, agrees-root, child-step, agrees-child, acc-step, agrees-acc, agrees-all}
 
 -- one accepted line
 line-given : (n : ℕ) (u w : Tree) (l : List ℕ) (ls : List (List ℕ)) (r : List ℕ) → treeLine n u (lineOf l) ≡ given w → readLines n u (l ∷ ls) r ≡ readLines (n + 1) w ls r
@@ -177,16 +177,16 @@ module _ (t : Tree) (e : treeKeeps t ≡ true) where
   unfolding readLines finish
   end-read n = picked _ _ _ whole
 
-  lines-given : Sized t → readLines 1 emptyTree (treeLines t) [] ≡ given t
-  lines-given Z =
+  lines-given : readLines 1 emptyTree (treeLines t) [] ≡ given t
+  lines-given =
       let a = line-given 1 emptyTree (withBus emptyTree (t .bus)) (busText t) (rows (t .ints) 0 (intText t) ++ rows (t .accs) 0 (accText t)) [] (ap (treeLine 1 emptyTree) (bus-read t bus-below) ∙ bus-step t e 1) in
       let I = ints-read (t .ints) 0 2 (withBus emptyTree (t .bus)) (rows (t .accs) 0 (accText t)) (omega arith) (agrees-bus t e) in
       let R = accs-read (t .accs) 0 (I .line) (I .tree) (omega arith) (I .agrees) in
-      a ∙ I .left ∙ R .left ∙ ap (λ (u : Tree). readLines (R .line) u [] []) (agrees-all t e Z (R .tree) (R .agrees)) ∙ end-read (R .line)
+      a ∙ I .left ∙ R .left ∙ ap (λ (u : Tree). readLines (R .line) u [] []) (agrees-all t e (R .tree) (R .agrees)) ∙ end-read (R .line)
 
   -- every configuration that keeps its rules is read from its text
-  pub text-given : Sized t → readTree (treeText t) ≡ given t
-  text-given Z =
+  pub text-given : readTree (treeText t) ≡ given t
+  text-given =
       let I = rows-clean (t .ints) 0 (intText t) (λ j l. int-fit j (omega arith)) in
       let A = rows-clean (t .accs) 0 (accText t) (λ a l. acc-fit a (omega arith)) in
       let n : length (rows (t .ints) 0 (intText t) ++ rows (t .accs) 0 (accText t)) ≡ t .ints + t .accs = length-append (rows (t .ints) 0 (intText t)) (rows (t .accs) 0 (accText t)) ∙ omega (arith, I .2, A .2) in
@@ -195,8 +195,8 @@ module _ (t : Tree) (e : treeKeeps t ≡ true) where
       let b : length (treeText t) ≤ 65536 = omega (arith, f, n, S .most-ints, S .most-accs) in
       tree-start (treeText t) b
       ∙ ap₂ (readLines 1 emptyTree) (r .0) (r .1)
-      ∙ lines-given Z
+      ∙ lines-given
 
 -- a configuration keeps its rules exactly if a tree file could have given it
-pub exactly-given : (t : Tree) → Sized t → (treeKeeps t ≡ true) ↔ ((s : List ℕ) × (readTree s ≡ given t))
-exactly-given t Z = (λ e. (treeText t, text-given t e Z), λ r. subst (λ (x : TreeRead). treeKeeps (x .tree) ≡ true) (r .1) (accepted-keeps (r .0) (ap (λ (x : TreeRead). x .answer) (r .1))))
+pub exactly-given : (t : Tree) → (treeKeeps t ≡ true) ↔ ((s : List ℕ) × (readTree s ≡ given t))
+exactly-given t = (λ e. (treeText t, text-given t e), λ r. subst (λ (x : TreeRead). treeKeeps (x .tree) ≡ true) (r .1) (accepted-keeps (r .0) (ap (λ (x : TreeRead). x .answer) (r .1))))

@@ -701,7 +701,7 @@ module _ (t : Tree) (P : Partial t) where
       let g = both (ltb 0 (t .bus .window) && ltb 0 (t .ints)) _ (h .0) in
       let w = both (ltb 0 (t .bus .window)) _ (g .0) in
       let full : (b : ℕ) → b < t .accs → 0 < limitOf t b = λ b l. ltb-true _ _ (all-at (t .accs) (λ a. ltb 0 (limitOf t a)) (h .1) b l) in
-      simp tests ((((P .bus (ltb-true _ _ (w .0)), (ltb-true _ _ (w .1), P .most-ints)), (ltb-true _ _ (g .1), P .most-accs)), λ j l. int-kept j), λ a l. acc-kept a full)
+      simp tests (((((((P .ints-size, P .accs-size), λ j l. P .ports-size j), P .bus (ltb-true _ _ (w .0))), (ltb-true _ _ (w .1), P .most-ints)), (ltb-true _ _ (g .1), P .most-accs)), λ j l. int-kept j), λ a l. acc-kept a full)
 
 -- every tree that the lines give keeps its rules
 kept-finish : (n : ℕ) (t : Tree) → Partial t → finish n t .answer ≡ Accepted → treeKeeps (finish n t .tree) ≡ true

@@ -30,12 +30,6 @@ use Rattle.placing.proofs.Tests.{line-record, int-root, int-child, child-given,
 use Rattle.accepts.proofs.Kept.{Partial, partial-empty, level-same, new-here, root-size, root-ports, child-new, child-parent, child-parent-port, child-granularity, child-port-new, child-port-at, child-port-other, acc-new, acc-old, acc-at, stored-apart, stored-parent, stored-parent-port, stored-granularity, home-size, not-acc, not-int, is-empty, partial-bus, partial-root, partial-child, partial-acc}
 use Rattle.accepts.proofs.Written.{busEntry, rootEntry, childEntry, accEntry}
 
--- the arrays have the lengths of their type, as every value of a program has
-pub record Sized (t : Tree) : Type 0 where
-  pub ints : length (t .interconnects) ≡ 15
-  pub accs : length (t .accelerators) ≡ 32
-  pub ports : (j : ℕ) → length (interconnectOf t j .ports) ≡ 8
-
 -- what a port carries of the first k interconnects and m accelerators
 pub restrict : ℕ → ℕ → Port → Port
 restrict k m Empty = Empty
@@ -57,7 +51,7 @@ pub record Agrees (t u : Tree) (k m : ℕ) : Type 0 where
 module _ (t : Tree) (e : treeKeeps t ≡ true) where
   pub bus-limits : busKeeps (t .bus) ≡ true
   unfolding treeKeeps
-  bus-limits = simp tests at e .0 .0 .0 .0
+  bus-limits = simp tests at e .0 .0 .0 .0 .1
 
   int-rule : (j : ℕ) → j < 15 → interconnectKeeps t j ≡ true
   unfolding treeKeeps
@@ -383,13 +377,13 @@ module _ (t : Tree) (e : treeKeeps t ≡ true) where
       go (Acc a) q = restrict-acc (t .ints) (t .accs) a (portOf t j p) q (S .acc-place j p a l b q .0) ∙ sym q
       go (Int c) q = restrict-int (t .ints) (t .accs) c (portOf t j p) q (S .int-place j p c l b q .1) ∙ sym q
 
-  same-ints : Sized t → (u : Tree) → Agrees t u (t .ints) (t .accs) → (j : ℕ) → j < 15 → interconnectOf u j ≡ interconnectOf t j
-  same-ints Z u A j b = elim (decLt j (t .ints)) [
-    | yes l ↦ same-interconnect _ _ (A .parent j l) (A .parent-port j l) (A .granularity j l) (A .part .ports-size j) (Z .ports j) (λ p h. A .port j p l h ∙ whole-port j p l h)
+  same-ints : (u : Tree) → Agrees t u (t .ints) (t .accs) → (j : ℕ) → j < 15 → interconnectOf u j ≡ interconnectOf t j
+  same-ints u A j b = elim (decLt j (t .ints)) [
+    | yes l ↦ same-interconnect _ _ (A .parent j l) (A .parent-port j l) (A .granularity j l) (A .part .ports-size j) (S .ports-size j) (λ p h. A .port j p l h ∙ whole-port j p l h)
     | no d ↦
         let o = A .part .unused-int j (omega (arith, A .ints)) in
         let f = unused-fields j (omega arith) b in
-        o ∙ same-interconnect noInterconnect (interconnectOf t j) (sym (f .1)) (sym (f .2)) (sym (f .0)) refl (Z .ports j) (λ p h. ap (λ (c : PortCell). c .port) (getD-replicate 8 p emptyCell emptyCell h) ∙ sym (unused-port j p (omega arith) b h))
+        o ∙ same-interconnect noInterconnect (interconnectOf t j) (sym (f .1)) (sym (f .2)) (sym (f .0)) refl (S .ports-size j) (λ p h. ap (λ (c : PortCell). c .port) (getD-replicate 8 p emptyCell emptyCell h) ∙ sym (unused-port j p (omega arith) b h))
   ]
 
   same-accs : (u : Tree) → Agrees t u (t .ints) (t .accs) → (a : ℕ) → a < 32 → acceleratorOf u a ≡ acceleratorOf t a
@@ -398,9 +392,9 @@ module _ (t : Tree) (e : treeKeeps t ≡ true) where
     | no d ↦ A .part .unused-acc a (omega (arith, A .accs)) ∙ sym (unused-record a (omega arith) b)
   ]
 
-  pub agrees-all : Sized t → (u : Tree) → Agrees t u (t .ints) (t .accs) → u ≡ t
-  agrees-all Z u A =
+  pub agrees-all : (u : Tree) → Agrees t u (t .ints) (t .accs) → u ≡ t
+  agrees-all u A =
       let P = A .part in
-      let x : u .interconnects ≡ t .interconnects = ext-getD noInterconnect (u .interconnects) (t .interconnects) (P .ints-size ∙ sym (Z .ints)) (λ j h. same-ints Z u A j (omega (arith, P .ints-size))) in
-      let y : u .accelerators ≡ t .accelerators = ext-getD noAccelerator (u .accelerators) (t .accelerators) (P .accs-size ∙ sym (Z .accs)) (λ a h. same-accs u A a (omega (arith, P .accs-size))) in
+      let x : u .interconnects ≡ t .interconnects = ext-getD noInterconnect (u .interconnects) (t .interconnects) (P .ints-size ∙ sym (S .ints-size)) (λ j h. same-ints u A j (omega (arith, P .ints-size))) in
+      let y : u .accelerators ≡ t .accelerators = ext-getD noAccelerator (u .accelerators) (t .accelerators) (P .accs-size ∙ sym (S .accs-size)) (λ a h. same-accs u A a (omega (arith, P .accs-size))) in
       λ i. record { bus = A .bus i; interconnects = x i; accelerators = y i; ints = A .ints i; accs = A .accs i }

@@ -4,9 +4,9 @@ use crate::EMPTY;
 use crate::GRANULARITY;
 use crate::INTERCONNECTS;
 use crate::LIVE;
+use rules::less_one;
 use turns::Turn;
 use turns::grant;
-use turns::less_one;
 use turns::next_in;
 ghost use mathlib.Core.Path.{_≡_};
 ghost use Prim.Native.Nat.{_+_, _-_, _<_, min};
@@ -79,7 +79,7 @@ fn take_turn(turns: &mut [u8; 45], j: u8, port: u8, left: u8)
 {
     let i = j as usize;
     turns[i] = port;
-    turns[ALLOWANCE + i] = less_one(left);
+    turns[ALLOWANCE + i] = less_one(left as u32) as u8;
 }
 
 // The choice from interconnect j, over at most `levels` levels: the accelerator served, 255 for none, where an empty port

@@ -3,15 +3,16 @@ use Prim.Native.Nat.{ℕ, _+_, _%_, _≤_, _<_, min}
 use mathlib.Core.Bool.{Bool, true, false, not}
 use mathlib.Core.Logic.{_↔_}
 use mathlib.Core.Path.{_≡_, refl, sym, _∙_, ap, ap₂, subst}
+use native.Mathlib.Decide.{decLt}
 use native.Mathlib.Omega.{arith}
 use lib.ListN.{getD}
 use lib.Seq.{getD-set-other}
 use lib.Dec.{leb}
-use borrow.Author.Tests.{eq-eqb, ne-eqb}
+use borrow.Author.Tests.{eq-eqb, ne-eqb, le-leb, lt-leb}
 use Rattle.model.specs.declared.Tree.{Tree}
 use Rattle.model.specs.declared.State.{State}
 use Rattle.folds.specs.Fold.{pick}
-use Rattle.model.specs.Tree.{granularityOf, limitOf, budgetOf, windowOf, path, waitingOf, admittedOf, lastOf, allowanceOf}
+use Rattle.model.specs.Tree.{granularityOf, limitOf, budgetOf, windowOf, path, waitingOf, outstandingOf, admittedOf, lastOf, allowanceOf}
 use Rattle.model.specs.Beneath.{waitsUnder}
 use Rattle.rules.specs.Rules.{treeKeeps, keeps}
 use Rattle.folds.proofs.Folds.{joined, picked, passed, clash}
@@ -94,14 +95,27 @@ pub offer-verdict : (t : Tree) (s : State) (a : ℕ) → keeps t s ≡ true → 
 unfolding offered
 offer-verdict t s a k = ap (λ (o : Outcome). o .answer) (passed _ _ _ (ap not k))
 
--- the answer depends on the accelerator's own limits and record alone
-pub offer-own : (t : Tree) (s r : State) (a : ℕ) → keeps t s ≡ true → keeps t r ≡ true → waitingOf s a ≡ waitingOf r a
-    → admittedOf s a ≡ admittedOf r a
-    → offered t s a .answer ≡ offered t r a .answer
-offer-own t s r a k l e f =
+-- an accelerator is in the tree exactly if it may have one outstanding
+known : (t : Tree) → Sound t → (a : ℕ) → leb (t .accs) a ≡ leb (limitOf t a) 0
+known t S a = elim (decLt a (t .accs)) [
+  | yes l ↦ lt-leb (t .accs) a l ∙ sym (lt-leb (limitOf t a) 0 (S .limit a l .0))
+  | no d ↦
+      let e : t .accs ≤ a = omega arith in
+      le-leb (t .accs) a e ∙ sym (le-leb (limitOf t a) 0 (omega (arith, S .no-limit a e)))
+]
+
+-- the answer depends on the accelerator's own limits and record alone, in any two configurations
+pub offer-own : (t u : Tree) (s r : State) (a : ℕ) → keeps t s ≡ true → keeps u r ≡ true
+    → limitOf t a ≡ limitOf u a → budgetOf t a ≡ budgetOf u a
+    → outstandingOf s a ≡ outstandingOf r a → admittedOf s a ≡ admittedOf r a
+    → offered t s a .answer ≡ offered u r a .answer
+offer-own t u s r a k l e f o n =
     offer-verdict t s a k
-    ∙ ap₂ (λ w m. pick (leb (t .accs) a) (refused 7) (limitsAnswer (limitOf t a) w (budgetOf t a) m)) e f
-    ∙ sym (offer-verdict t r a l)
+    ∙ ap₂ (λ c v. pick c (refused 7) v)
+    (known t (sound-of t s k) a ∙ ap (λ m. leb m 0) e ∙ sym (known u (sound-of u r l) a))
+    (ap₂ (λ m b. limitsAnswer m (outstandingOf s a) b (admittedOf s a)) e f
+    ∙ ap₂ (λ w m. limitsAnswer (limitOf u a) w (budgetOf u a) m) o n)
+    ∙ sym (offer-verdict u r a l)
 
 -- a slot that served a: one of a's that waited waits no more, and nobody else's
 pub record Served (t : Tree) (s : State) (a : ℕ) (r : State) : Type 0 where

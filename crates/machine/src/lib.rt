@@ -9,9 +9,9 @@ use model::access::admitted_of;
 use model::access::outstanding_of;
 use model::access::waiting_of;
 use rules::both_keep;
+use rules::less_one;
 use rules::tree_keeps;
 use turns::choose;
-use turns::less_one;
 ghost use mathlib.Core.Path.{_≡_};
 ghost use Prim.Native.Nat.{_<_, _≤_};
 ghost use Rattle.model.specs.Tree.{waitingOf, admittedOf};
@@ -220,7 +220,7 @@ fn take_one(s: State, a: u8) -> State
     let i = a as usize;
     let mut next = s;
     if i < 32 {
-        next.waiting[i] = less_one(s.waiting[i]);
+        next.waiting[i] = less_one(waiting_of(s, a) as u32) as u8;
     }
     next
 }

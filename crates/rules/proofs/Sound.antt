@@ -13,13 +13,16 @@ use Rattle.model.specs.declared.State.{State}
 use Rattle.model.specs.declared.Port.{Port}
 use Rattle.model.specs.declared.Port.the-variants.{Empty, Acc, Int}
 use Rattle.folds.specs.Fold.{pick}
-use Rattle.model.specs.Tree.{portOf, granularityOf, parentOf, parentPortOf, homeOf, homePortOf, limitOf, budgetOf, levelOf, above, waitingOf, outstandingOf, admittedOf, lastOf, allowanceOf}
+use Rattle.model.specs.Tree.{noInterconnect, noAccelerator, interconnectOf, portOf, granularityOf, parentOf, parentPortOf, homeOf, homePortOf, limitOf, budgetOf, levelOf, above, waitingOf, outstandingOf, admittedOf, lastOf, allowanceOf}
 use Rattle.model.specs.Beneath.{waitsUnder}
-use Rattle.rules.specs.Rules.{busKeeps, carries, isAcc, isInt, childPlaced, usedInterconnect, usedAccelerator, treeKeeps, sized, recordKeeps, turnKeeps, stateKeeps, keeps}
+use Rattle.rules.specs.Rules.{busKeeps, carries, isAcc, isInt, childPlaced, usedInterconnect, usedAccelerator, unusedAccelerator, treeKeeps, sized, recordKeeps, turnKeeps, stateKeeps, keeps}
 use Rattle.folds.proofs.Folds.{both, joined, tests, picked, passed, clash}
 use Rattle.model.proofs.Lists.{beyond}
 
 pub record Sound (t : Tree) : Type 0 where
+  pub ints-size : length (t .interconnects) ≡ 15
+  pub accs-size : length (t .accelerators) ≡ 32
+  pub ports-size : (j : ℕ) → length (interconnectOf t j .ports) ≡ 8
   pub window : 1 ≤ t .bus .window
   pub some-ints : 1 ≤ t .ints
   pub most-ints : t .ints ≤ 15
@@ -34,6 +37,7 @@ pub record Sound (t : Tree) : Type 0 where
   pub home-port : (a : ℕ) → a < t .accs → homePortOf t a < 8
   pub home-carries : (a : ℕ) → a < t .accs → portOf t (homeOf t a) (homePortOf t a) ≡ Acc a
   pub limit : (a : ℕ) → a < t .accs → (1 ≤ limitOf t a) × (limitOf t a ≤ 16)
+  pub no-limit : (a : ℕ) → t .accs ≤ a → limitOf t a ≡ 0
   pub budget : (a : ℕ) → a < t .accs → (1 ≤ budgetOf t a) × (budgetOf t a ≤ 1024)
   pub acc-place : (j p a : ℕ) → j < t .ints → p < 8 → portOf t j p ≡ Acc a
       → (a < t .accs) × (homeOf t a ≡ j) × (homePortOf t a ≡ p)
@@ -55,6 +59,17 @@ module _ (t : Tree) (e : treeKeeps t ≡ true) where
   unfolding treeKeeps busKeeps
   counts = let h = simp tests at e in omega arith
 
+  sizes : (length (t .interconnects) ≡ 15) × (length (t .accelerators) ≡ 32)
+      × ((j : ℕ) → j < 15 → length (interconnectOf t j .ports) ≡ 8)
+  unfolding treeKeeps
+  sizes = let h = simp tests at e in (h .0 .0 .0 .0 .0 .0 .0, h .0 .0 .0 .0 .0 .0 .1, h .0 .0 .0 .0 .0 .1)
+
+  all-ports : (j : ℕ) → length (interconnectOf t j .ports) ≡ 8
+  all-ports j = elim (decLt j 15) [
+    | yes l ↦ sizes .2 j l
+    | no d ↦ ap (λ x. length (x .ports)) (sym (beyond (t .interconnects) noInterconnect j 15 (sizes .0) (omega arith)))
+  ]
+
   used-int : (j : ℕ) → j < t .ints → usedInterconnect t j ≡ true
   unfolding treeKeeps
   used-int j l = let h = simp tests at e in sym (picked _ _ _ (lt-ltb _ _ l)) ∙ h .0 .1 j (omega (arith, counts))
@@ -62,6 +77,15 @@ module _ (t : Tree) (e : treeKeeps t ≡ true) where
   used-acc : (a : ℕ) → a < t .accs → usedAccelerator t a ≡ true
   unfolding treeKeeps
   used-acc a l = let h = simp tests at e in sym (picked _ _ _ (lt-ltb _ _ l)) ∙ h .1 a (omega (arith, counts))
+
+  unused-limit : (a : ℕ) → t .accs ≤ a → limitOf t a ≡ 0
+  unfolding treeKeeps unusedAccelerator
+  unused-limit a l = elim (decLt a 32) [
+    | yes b ↦
+        let h = simp tests at e in
+        simp tests at (sym (passed _ _ _ (le-ltb a (t .accs) l)) ∙ h .1 a b) .0 .0 .0 .0 .0 .1
+    | no d ↦ ap (λ x. x .phi) (sym (beyond (t .accelerators) noAccelerator a 32 (sizes .1) (omega arith)))
+  ]
 
   child : (k : ℕ) → 0 < k → k < t .ints → childPlaced t k ≡ true
   unfolding usedInterconnect
@@ -81,6 +105,9 @@ module _ (t : Tree) (e : treeKeeps t ≡ true) where
   unfolding usedInterconnect usedAccelerator childPlaced carries
   sound =
       record {
+        ints-size = sizes .0;
+        accs-size = sizes .1;
+        ports-size = all-ports;
         window = counts .4;
         some-ints = counts .0;
         most-ints = counts .1;
@@ -95,6 +122,7 @@ module _ (t : Tree) (e : treeKeeps t ≡ true) where
         home-port = λ a l. bounds-of a l .1;
         home-carries = λ a l. acc-carried a _ (simp tests at (used-acc a l) .0 .0 .0 .0 .0 .0 .1);
         limit = λ a l. omega (arith, bounds-of a l);
+        no-limit = unused-limit;
         budget = λ a l. omega (arith, bounds-of a l);
         acc-place = λ j p a l b q. let h = simp tests at (subst (λ x. carries t j p x ≡ true) q (carried j p l b)) in
             (h .0 .0, h .0 .1, h .1);

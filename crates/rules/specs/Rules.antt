@@ -12,6 +12,7 @@
 -- interconnectKeeps t j  the rules of interconnect j, in the tree or unused
 -- usedAccelerator t a    the rules of an accelerator in the tree; unusedAccelerator t a: of an unused entry
 -- acceleratorKeeps t a   the rules of accelerator a, in the tree or unused
+-- sizedTree t            the configuration's arrays have the lengths of their type, as every value of a program has
 -- treeKeeps t            "A configuration keeps them if a tree file could have given it"
 -- sized s                the state's arrays have the lengths of their type, as every value of a program has
 -- recordKeeps t s a      at most phi outstanding ("each waiting count is at most phi"), "each admitted count at most the
@@ -30,7 +31,7 @@ use Rattle.model.specs.declared.State.{State}
 use Rattle.model.specs.declared.Port.{Port}
 use Rattle.model.specs.declared.Port.the-variants.{Empty, Acc, Int}
 use Rattle.folds.specs.Fold.{pick, all, within}
-use Rattle.model.specs.Tree.{portOf, granularityOf, parentOf, parentPortOf, homeOf, homePortOf, limitOf, budgetOf, levelOf, acceleratorOf, waitingOf, outstandingOf, admittedOf, lastOf, allowanceOf}
+use Rattle.model.specs.Tree.{interconnectOf, portOf, granularityOf, parentOf, parentPortOf, homeOf, homePortOf, limitOf, budgetOf, levelOf, acceleratorOf, waitingOf, outstandingOf, admittedOf, lastOf, allowanceOf}
 use Rattle.model.specs.Beneath.{waitsUnder}
 
 unfoldable pub busKeeps : Bus → Bool
@@ -121,9 +122,16 @@ unusedAccelerator t a =
 abbrev pub acceleratorKeeps : Tree → ℕ → Bool
 acceleratorKeeps t a = pick (ltb a (t .accs)) (usedAccelerator t a) (unusedAccelerator t a)
 
+abbrev pub sizedTree : Tree → Bool
+sizedTree t =
+    eqb (length (t .interconnects)) 15
+    && eqb (length (t .accelerators)) 32
+    && all 15 (λ j. eqb (length (interconnectOf t j .ports)) 8)
+
 unfoldable pub treeKeeps : Tree → Bool
 treeKeeps t =
-    busKeeps (t .bus)
+    sizedTree t
+    && busKeeps (t .bus)
     && within 1 (t .ints) 15
     && within 1 (t .accs) 32
     && all 15 (interconnectKeeps t)

@@ -15,7 +15,7 @@ use model::access::port_at;
 use model::access::waiting_of;
 use model::access::waits_under;
 ghost use mathlib.Core.Path.{_≡_};
-ghost use Prim.Native.Nat.{min};
+ghost use Prim.Native.Nat.{_-_, min};
 ghost use Rattle.folds.specs.Fold.{all, within};
 ghost use Rattle.model.specs.Tree.{portOf};
 ghost use Rattle.rules.specs.Rules.{busKeeps, isEmpty, isAcc, isInt, carries, rootPlaced, childPlaced, isPlaced, usedInterconnect, unusedInterconnect, interconnectKeeps, usedAccelerator, unusedAccelerator, acceleratorKeeps, treeKeeps, recordKeeps, turnKeeps, stateKeeps, keeps};
@@ -260,6 +260,16 @@ pub fn smaller(a: u32, b: u32) -> u32
     ensures { λ r. ⌜ r ≡ min a b ⌝ }
 {
     if a < b { a } else { b }
+}
+
+// One less, 0 for 0.
+pub fn less_one(n: u32) -> u32
+    ensures { λ r. ⌜ r ≡ n - 1 ⌝ }
+{
+    if n == 0 {
+        return 0;
+    }
+    n - 1
 }
 
 fn turn_keeps(t: Tree, s: State, j: u8) -> bool

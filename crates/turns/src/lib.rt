@@ -10,8 +10,9 @@ use model::access::interconnect_at;
 use model::access::last_of;
 use model::access::port_at;
 use model::access::waits_under;
+use rules::less_one;
 ghost use mathlib.Core.Path.{_≡_};
-ghost use Prim.Native.Nat.{_+_, _*_, _-_, _%_, min};
+ghost use Prim.Native.Nat.{_+_, _*_, _%_, min};
 ghost use lib.Dec.{ltb};
 ghost use lib.ListN.{getD};
 ghost use Rattle.folds.specs.Fold.{pick};
@@ -81,16 +82,6 @@ pub fn grant(granularity: u8, waiting: u32) -> u8
     granularity
 }
 
-// One less, 0 for 0.
-pub fn less_one(n: u8) -> u8
-    ensures { λ r. ⌜ r ≡ n - 1 ⌝ }
-{
-    if n == 0 {
-        return 0;
-    }
-    n - 1
-}
-
 // The turn of interconnect j: its last port where its allowance is above 0, else the next live port after it.
 pub fn turn_at(t: Tree, s: State, j: u8) -> Turn
     ensures { λ r. ⌜ (r .port ≡ turnPort t s j) × (r .allowance ≡ turnAllowance t s j) ⌝ }
@@ -146,7 +137,7 @@ pub fn choose(t: Tree, s: State, levels: u8, port: Port) -> Choice
             let turn = turn_at(t, s, j);
             let below = choose(t, s, levels - 1, port_at(t, j, turn.port));
             let down = below.state;
-            let next = with_turn(down, j, turn.port, less_one(turn.allowance));
+            let next = with_turn(down, j, turn.port, less_one(turn.allowance as u32) as u8);
             Choice {
                 served: below.served,
                 state: next,

@@ -1,4 +1,6 @@
 -- `take_one` meets its contract: the store is that of the definition, and none past the end changes anything.
+use mathlib.Core.Path.{ap, _∙_}
+use Prim.Native.Nat.{ℕ, _-_}
 use borrow.Author.Needs.{needs}
 use Rattle.machine.proofs.Steps.{take-far, take-near}
 use Rattle.machine.proofs.take_one.Statement.{statement}
@@ -6,11 +8,13 @@ use Rattle.machine.proofs.take_one.Tie as tie
 
 returns : tie.Need-returns
 returns c =
-    take-near (c .before .before .before .args .t1) (c .before .before .before .args .a) _ (c .less-one .ensures)
+    let x = c .before .before .before .args in
+    take-near (x .s) (x .a) _ (c .less-one .ensures ∙ ap (λ (n : ℕ). n - 1) (c .before .waiting-of .ensures))
 
 returns-2 : tie.Need-returns-2
 returns-2 c =
-    take-far (c .before .args .t1) (c .before .args .a) (search needs) (search needs)
+    take-far (c .before .args .s) (c .before .args .a) (search needs) (search needs)
 
 pub take-one-spec : {M : Type 1} → statement M
-take-one-spec = tie.close (tie.spec (λ c. search needs) (λ c κs. search needs) (λ c. search needs) returns returns-2)
+take-one-spec =
+    tie.close (tie.spec (λ c κs. search needs) (λ c. search needs) (λ c κs. search needs) (λ c. search needs) (λ c. search needs) returns returns-2)

@@ -11,7 +11,7 @@ use Rattle.turns.proofs.Steps.{who-none, after-none, who-turn, after-tu
 use Rattle.turns.proofs.choose.Reads as choose
 use Rattle.turns.proofs.choose.Kinds as choose-kinds
 use Rattle.turns.proofs.+choose.Lts-choose as lts
-use Rattle.turns.proofs.less_one.Reads as less-one-reads
+use Rattle.rules.proofs.less_one.Reads as less-one-reads
 use Rattle.turns.proofs.turn_at.Reads as turn-at-reads
 use Rattle.turns.proofs.with_turn.Reads as with-turn-reads
 use Rattle.model.proofs.access.port_at.Reads as port-at-reads
@@ -59,18 +59,19 @@ module _ (t : ℕ) where
 
   returns-4 : lts.Need-returns-4 (calls t) (at t) choose.Post
   returns-4 c =
-      let a = c .before .before .before .before .before .before .before .before .before .before .args in
-      let e = c .before .before .before .before .before .before .before .before .port2 .given .1 in
-      let j = c .before .before .before .before .before .before .before .before .port2 .given .0 .0 in
-      let h = c .before .before .before .before .before .before .if1 .left in
-      let p = c .before .before .before .before .before .turn-at .ensures .0 in
-      let d = c .before .before .before .before .port-at .ensures in (
-        who-turn (a .levels) (a .t) (a .s) j _ _ h p d _ (c .before .before .before .choose .ensures .0) ∙ sym (ap (reached (who (a .levels) (a .t) (a .s))) e),
+      let b = c .before .before .before .before in
+      let a = b .before .before .before .before .before .before .before .args in
+      let e = b .before .before .before .before .before .port2 .given .1 in
+      let j = b .before .before .before .before .before .port2 .given .0 .0 in
+      let h = b .before .before .before .if1 .left in
+      let p = b .before .before .turn-at .ensures .0 in
+      let d = b .before .port-at .ensures in (
+        who-turn (a .levels) (a .t) (a .s) j _ _ h p d _ (b .choose .ensures .0) ∙ sym (ap (reached (who (a .levels) (a .t) (a .s))) e),
         c .with-turn .ensures
-            ∙ after-turn (a .levels) (a .t) (a .s) j _ _ h p d _ _ (c .before .before .before .choose .ensures .1) (c .before .less-one .ensures ∙ ap (λ (n : ℕ). n - 1) (c .before .before .before .before .before .turn-at .ensures .1))
+            ∙ after-turn (a .levels) (a .t) (a .s) j _ _ h p d _ _ (b .choose .ensures .1) (c .before .less-one .ensures ∙ ap (λ (n : ℕ). n - 1) (b .before .before .turn-at .ensures .1))
             ∙ sym (ap (turned (a .s) (after (a .levels) (a .t) (a .s))) e),
       )
 
 pub +choose-spec : {M : Type 1} → statement M
 +choose-spec = close μ λ t. lts.spec (calls t) (at t) choose.Post
-    (λ c. search needs) (λ c. search needs) (λ c. search needs) (returns t) (λ c κs. search needs) (sub-choose t) (λ c κs. search needs) (choose-requires t) (λ c κs. search needs) (λ c κs. search needs) (returns-2 t) (returns-3 t) (returns-4 t)
+    (λ c. search needs) (λ c. search needs) (λ c. search needs) (returns t) (λ c κs. search needs) (sub-choose t) (λ c κs. search needs) (choose-requires t) (λ c. search needs) (λ c κs. search needs) (λ c. search needs) (λ c κs. search needs) (returns-2 t) (returns-3 t) (returns-4 t)

@@ -12,4 +12,4 @@ returns c =
     ap (λ (n : ℕ). set (set (a .turns .now) (a .j) (a .port)) (15 + a .j) n) (c .less-one .ensures)
 
 pub take-turn-spec : {M : Type 1} → statement M
-take-turn-spec = tie.close (tie.spec (λ c. search needs) (λ c κs. search needs) (λ c. search needs) (λ c. search needs) returns)
+take-turn-spec = tie.close (tie.spec (λ c. search needs) (λ c κs. search needs) (λ c. search needs) (λ c. search needs) (λ c. search needs) returns)

@@ -1,7 +1,7 @@
 -- `less_one` meets its contract: 0 less one is 0, and no other number wraps.
 use borrow.Author.Needs.{needs}
-use Rattle.turns.proofs.less_one.Statement.{statement}
-use Rattle.turns.proofs.less_one.Tie as tie
+use Rattle.rules.proofs.less_one.Statement.{statement}
+use Rattle.rules.proofs.less_one.Tie as tie
 
 returns : tie.Need-returns
 returns c = search needs
