@@ -6,8 +6,9 @@ use counts::along::add_along;
 use machine::OfferAnswer;
 use machine::limits_answer;
 use model::access::outstanding_by;
+use rules::less_one;
 ghost use mathlib.Core.Path.{_≡_};
-ghost use Prim.Native.Nat.{_+_, _-_, _<_, min};
+ghost use Prim.Native.Nat.{_+_, _<_, min};
 ghost use Rattle.folds.specs.Fold.{pick};
 ghost use Rattle.machine.specs.Answers.{offerMeans};
 ghost use Rattle.admit.specs.Admitting.{arraysOf, answerOn, offeredOn, offersOf, offersBefore};
@@ -22,16 +23,6 @@ fn wide(limit: u16) -> u32
     ensures { λ r. ⌜ (r ≡ limit) × (r < 65536) ⌝ }
 {
     limit as u32
-}
-
-// One less, 0 for 0.
-fn one_less(n: u32) -> u32
-    ensures { λ r. ⌜ r ≡ n - 1 ⌝ }
-{
-    if n == 0 {
-        return 0;
-    }
-    n - 1
 }
 
 // Accelerator a offers one of its held transactions: refused by 8, by 9, or admitted, and then it is held no longer.
@@ -54,7 +45,7 @@ fn offer_one(
     let budget = wide(table[BUDGET + i]);
     match limits_answer(limit, outstanding_by(waiting), budget, admitted) {
         OfferAnswer::Admitted => {
-            blocks[HELD + i] = one_less(blocks[HELD + i]);
+            blocks[HELD + i] = less_one(blocks[HELD + i]);
             blocks[i] = waiting + 1;
             blocks[ADMITTED + i] = admitted + 1;
             add_along(table, table[OWN_PORT + i], under, turns);

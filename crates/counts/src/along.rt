@@ -1,6 +1,7 @@
 // The counts and the live ports brought up to date along a path, from a port up to the root.
 use crate::LIVE;
 use crate::PARENT_PORT;
+use rules::less_one;
 ghost use mathlib.Core.Path.{_≡_};
 ghost use Prim.Native.Nat.{_+_, _%_, _-_, min};
 ghost use lib.Dec.{eqb};
@@ -26,16 +27,6 @@ fn if_waiting(set: u8, p: u8, waiting: u16) -> u8
     set
 }
 
-// One less, 0 for 0.
-fn less_one(n: u16) -> u16
-    ensures { λ r. ⌜ r ≡ n - 1 ⌝ }
-{
-    if n == 0 {
-        return 0;
-    }
-    n - 1
-}
-
 // The count with one more, at most 65,535.
 fn one_more(waiting: u16) -> u16
     ensures { λ r. ⌜ r ≡ min 65535 (waiting + 1) ⌝ }
@@ -44,6 +35,13 @@ fn one_more(waiting: u16) -> u16
         return waiting;
     }
     waiting + 1
+}
+
+// The count with one less, 0 for 0.
+fn one_less(waiting: u16) -> u16
+    ensures { λ r. ⌜ r ≡ waiting - 1 ⌝ }
+{
+    less_one(waiting as u32) as u16
 }
 
 // A port's number as an index.
@@ -89,7 +87,7 @@ pub fn take_along(table: &[u16; 246], place: u16, under: &mut [u16; 120], turns:
             return;
         }
         let j = c / 8;
-        let waiting = less_one(under[c]);
+        let waiting = one_less(under[c]);
         under[c] = waiting;
         turns[LIVE + j] = if_waiting(turns[LIVE + j], (c % 8) as u8, waiting);
         if j == 0 {

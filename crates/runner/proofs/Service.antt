@@ -10,7 +10,7 @@ use borrow.Author.Tests.{eq-eqb, ne-eqb}
 use Rattle.model.specs.declared.Tree.{Tree}
 use Rattle.model.specs.declared.State.{State}
 use Rattle.folds.specs.Fold.{pick}
-use Rattle.model.specs.Tree.{waitingOf}
+use Rattle.model.specs.Tree.{outstandingOf}
 use Rattle.rules.specs.Rules.{keeps}
 use Rattle.rules.proofs.Sound.{sound-of, kept-of}
 use Rattle.rules.proofs.Beneath.{only-other}
@@ -57,9 +57,9 @@ module _ (t : Tree) (s : State) (k : keeps t s ≡ true) where
   pub served-outcome : (s .slot ≡ lastSlot → ⊥) → outcome slotAnswer (tick t (servedFrom t s)) ≡ slottedWithin t s
   served-outcome d = by-waiting (λ r _ a. outcome a (tick t r) ≡ slottedWithin t s) (slot-idle t s d) (slot-serves t s d)
 
-  -- only the accelerator served has less waiting
-  pub served-others : (a : ℕ) → (a ≡ byteFrom t s → ⊥) → waitingOf (servedFrom t s) a ≡ waitingOf s a
-  served-others a = by-waiting (λ r b _. (a ≡ b → ⊥) → waitingOf r a ≡ waitingOf s a) (λ _ _. refl)
+  -- only the accelerator served has less outstanding
+  pub served-others : (a : ℕ) → (a ≡ byteFrom t s → ⊥) → outstandingOf (servedFrom t s) a ≡ outstandingOf s a
+  served-others a = by-waiting (λ r b _. (a ≡ b → ⊥) → outstandingOf r a ≡ outstandingOf s a) (λ _ _. refl)
       (λ e d. omega (
         arith,
         take-waiting t (sound-of t s k) s (kept-of t s k) (who 4 t s 0) (after 4 t s 0) (turn e) a,

@@ -11,7 +11,7 @@ use lib.Seq.{getD-set-other}
 use Rattle.folds.proofs.Folds.{clash}
 use Rattle.model.specs.declared.Tree.{Tree}
 use Rattle.model.specs.declared.State.{State}
-use Rattle.model.specs.Tree.{waitingOf, admittedOf}
+use Rattle.model.specs.Tree.{outstandingBy, outstandingOf, admittedOf}
 use Rattle.rules.specs.Rules.{keeps}
 use Rattle.machine.specs.Machine.{Answer, admitted, served, idle, refused, offered, onAdmitted}
 use Rattle.machine.proofs.Laws.{offer-own, offer-others}
@@ -46,7 +46,7 @@ not-past l i h = elim (decLt i (length l)) [ yes b ↦ b | no d ↦ absurd (omeg
 
 -- accelerator a has the same record and held count in p as in o
 record Leaves (o p : Offering) (a : ℕ) : Type 0 where
-  waiting : waitingOf (p .state) a ≡ waitingOf (o .state) a
+  outstanding : outstandingOf (p .state) a ≡ outstandingOf (o .state) a
   admitted : admittedOf (p .state) a ≡ admittedOf (o .state) a
   held : heldOf (p .held) a ≡ heldOf (o .held) a
 
@@ -54,23 +54,23 @@ module _ (t : Tree) where
   idles-still : (o p : Offering) (a : ℕ) → keeps t (o .state) ≡ true → keeps t (p .state) ≡ true → Leaves o p a
       → Idles t (o .state) (o .held) a → Idles t (p .state) (p .held) a
   idles-still o p a k l L e h f =
-      e (omega (arith, L .held)) (offer-own t (o .state) (p .state) a k l (sym (L .waiting)) (sym (L .admitted)) ∙ f)
+      e (omega (arith, L .held)) (offer-own t t (o .state) (p .state) a k l refl refl (sym (L .outstanding)) (sym (L .admitted)) ∙ f)
 
   -- the offers of a leave the record of any other
   for-others : (k : ℕ) (o : Offering) (a b : ℕ) → (b ≡ a → ⊥) → Leaves o (offerHeld k t o a) b
   unfolding offerHeld
-  for-others zero o a b d = record { waiting = refl; admitted = refl; held = refl }
+  for-others zero o a b d = record { outstanding = refl; admitted = refl; held = refl }
   for-others (suc k) o a b d =
       let x = offered t (o .state) a in
       let L = for-others k (offering (x .state) (release (o .held) a)) a b d in
       let N = offer-others t (o .state) a in
       either (λ p. Leaves o p b) (x .answer) _ o
       (record {
-        waiting = L .waiting ∙ N .waiting b d;
+        outstanding = L .outstanding ∙ ap outstandingBy (N .waiting b d);
         admitted = L .admitted ∙ N .admitted b d;
         held = L .held ∙ getD-set-other (o .held) a b _ 0 d;
       })
-      (record { waiting = refl; admitted = refl; held = refl })
+      (record { outstanding = refl; admitted = refl; held = refl })
 
   -- and after all of them it idles
   for-idles : (k : ℕ) (o : Offering) (a : ℕ) → heldOf (o .held) a ≡ k → Idles t (offerHeld k t o a .state) (offerHeld k t o a .held) a
@@ -137,7 +137,7 @@ settled-each t s h k = each-idles t s h k (t .accs) (omega arith)
 -- a service lets only the accelerator served offer more, and a slot count that rises none, unless it opens a window
 pub settled-served : (t : Tree) (s r : State) (h : List ℕ) (x : ℕ) → keeps t s ≡ true → keeps t r ≡ true
     → ((a : ℕ) → a < t .accs → Idles t s h a)
-    → ((a : ℕ) → (a ≡ x → ⊥) → waitingOf r a ≡ waitingOf s a) → ((a : ℕ) → admittedOf r a ≡ admittedOf s a)
+    → ((a : ℕ) → (a ≡ x → ⊥) → outstandingOf r a ≡ outstandingOf s a) → ((a : ℕ) → admittedOf r a ≡ admittedOf s a)
     → Settled t r h x
 settled-served t s r h x k kr I w m a l d =
-    idles-still t (offering s h) (offering r h) a k kr (record { waiting = w a d; admitted = m a; held = refl }) (I a l)
+    idles-still t (offering s h) (offering r h) a k kr (record { outstanding = w a d; admitted = m a; held = refl }) (I a l)

@@ -11,6 +11,7 @@ use borrow.Author.Tests.{leb-false, eqb-false}
 use Rattle.model.specs.declared.Tree.{Tree}
 use Rattle.model.specs.declared.State.{State}
 use Rattle.folds.specs.Fold.{pick}
+use Rattle.model.specs.Tree.{outstandingBy}
 use Rattle.rules.specs.Rules.{treeKeeps, keeps}
 use Rattle.folds.proofs.Folds.{passed, clash}
 use Rattle.rules.proofs.Sound.{sound, sound-of}
@@ -218,7 +219,7 @@ module _ (t : Tree) (s : List ℕ) (z : State) (d : Arrays) (x : NextLine) (e : 
         subst (λ (b : ℕ). b < t .accs) (sym (Y .byte)) (served-known t mid mid-rules (λ q. f (Y .byte ∙ q))),
         settled-served t mid then (after .held) byte mid-rules then-rules
             (λ b lb. subst (λ (h : List ℕ). Idles t mid h b) (sym after-held) (settled-each t z _ (H .stored .rules) b lb))
-            (λ b q. ap (λ (l : List ℕ). getD l b 0) (sym (after-stored .waiting) ∙ Y .waiting)
+            (λ b q. ap (λ (l : List ℕ). outstandingBy (getD l b 0)) (sym (after-stored .waiting) ∙ Y .waiting)
             ∙ served-others t mid mid-rules b (λ j. q (j ∙ sym (Y .byte))))
             (λ b. ap (λ (l : List ℕ). getD l b 0)
             (sym (after-stored .admitted) ∙ passed _ _ _ a ∙ Y .admitted ∙ before-shown .stored .admitted)),

@@ -9,6 +9,7 @@ use counts::LIVE;
 use counts::OWN_PORT;
 use counts::along::take_along;
 use counts::choice::choose;
+use rules::less_one;
 use trace::NextRequest;
 use trace::request_at;
 ghost use mathlib.Core.Path.{_≡_};
@@ -73,16 +74,6 @@ pub fn is_done(trace: &[u8], at: usize, blocks: &[u32; 96], turns: &[u8; 45]) ->
     (at == trace.len()) & none_held(blocks) & (turns[LIVE] == 0)
 }
 
-// What is left of a waiting count once one is served.
-fn one_less(n: u32) -> u32
-    ensures { λ r. ⌜ r ≡ n - 1 ⌝ }
-{
-    if n == 0 {
-        return 0;
-    }
-    n - 1
-}
-
 // Serves the transaction whose turn it is, and answers its accelerator, or that the slot is idle.
 fn serve(
     next: &[u8; 2048],
@@ -101,7 +92,7 @@ fn serve(
     if 31 < i {
         return IDLE;
     }
-    blocks[i] = one_less(blocks[i]);
+    blocks[i] = less_one(blocks[i]);
     take_along(table, table[OWN_PORT + i], under, turns);
     a
 }

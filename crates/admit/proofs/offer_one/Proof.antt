@@ -40,7 +40,7 @@ returns c =
     (k .before .outstanding-by .ensures) (k .before .before .wide2 .ensures .0) in (
       sym means ∙ same,
       stored-one b (x .a) p _ _ _ w (x .under .now) (x .turns .now) (along .last .1 .1 .0) (along .last .1 .1 .1 .0)
-          (c .before .before .before .before .one-less .ensures) refl refl (along .ensures .0) (along .ensures .1 .0) (along .ensures .1 .1)
+          (c .before .before .before .before .less-one .ensures) refl refl (along .ensures .0) (along .ensures .1 .0) (along .ensures .1 .1)
           ∙ sym (on-admitted w (x .a) (arraysOf b (x .under .now) (x .turns .now)) (sym same ∙ means)),
     )
 

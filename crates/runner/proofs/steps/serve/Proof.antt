@@ -39,7 +39,7 @@ returns-3 c =
     let k = c .before .before .before .before .before .before .if2 .left in
     let y = choice (q .result) (lasts r₁) (allowances r₁) in
     ap (slotOn (q .result))
-    (taken-arrays (x .table .now) (x .blocks .now) (x .under .now) (c .take-along .last .1 .1 .0) r₁ (c .take-along .last .1 .1 .1 .0) (q .result) _ (omega arith) (c .before .before .before .before .one-less .ensures) (c .take-along .ensures .0) (c .take-along .ensures .1 .0) (c .take-along .ensures .1 .1)
+    (taken-arrays (x .table .now) (x .blocks .now) (x .under .now) (c .take-along .last .1 .1 .0) r₁ (c .take-along .last .1 .1 .1 .0) (q .result) _ (omega arith) (c .before .before .before .before .less-one .ensures) (c .take-along .ensures .0) (c .take-along .ensures .1 .0) (c .take-along .ensures .1 .1)
     ∙ ap (takeOn (x .table .now) (q .result)) (turned-arrays (x .blocks .now) (x .under .now) r r₁ (q .result) y refl (q .ensures .1)))
     ∙ serve-known (x .next .now) (x .table .now) d (λ e. c .before .before .before .before .before .before .before .before .before .before .if1 .left (sym (getD-drop 30 r 0 0) ∙ e)) y (q .ensures .0) (omega arith)
 
