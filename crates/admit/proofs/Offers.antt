@@ -1,5 +1,5 @@
 -- Laws of the offers on a run's arrays, by their definitions.
-use Prim.Native.Nat.{ℕ, zero, suc, _+_, _-_, _≤_, _<_, min}
+use Prim.Native.Nat.{ℕ, zero, suc, _+_, _-_, _<_, min}
 use mathlib.Core.Bool.{Bool, true, false}
 use mathlib.Core.List.{List}
 use mathlib.Core.Path.{_≡_, refl, sym, _∙_, ap, ap₂}
@@ -17,7 +17,7 @@ use Rattle.machine.specs.Machine.{admitted, refused, limitsAnswer, onAdmitted}
 use Rattle.machine.specs.Answers.{offerMeans}
 use Rattle.machine.proofs.Steps.{limits-room}
 use Rattle.counts.specs.Table.{limits, budgets, parentPorts}
-use Rattle.counts.specs.Counts.{lasts, allowances, lives, up, raised, opened}
+use Rattle.counts.specs.Counts.{lives, up, raised, opened}
 use Rattle.admit.proofs.Kept.{first-kept, second-kept}
 use Rattle.admit.specs.Admitting.{Arrays, arrays, waitings, admitteds, helds, arraysOf, answerOn, admitOn, offeredOn, offersFor, offersOf, offersBelow, offersBefore}
 

@@ -63,7 +63,8 @@ fn offer_held(
     under: &mut [u16; 120],
     turns: &mut [u8; 45],
 )
-    ensures offers { λ _. ⌜ arraysOf (now (blocks .exit)) (now (under .exit)) (now (turns .exit)) ≡ offersOf (now (table .entry)) a (arraysOf (now (blocks .entry)) (now (under .entry)) (now (turns .entry))) ⌝ }
+    ensures offers { λ _. ⌜ arraysOf (now (blocks .exit)) (now (under .exit)) (now (turns .exit))
+        ≡ offersOf (now (table .entry)) a (arraysOf (now (blocks .entry)) (now (under .entry)) (now (turns .entry))) ⌝ }
 {
     let i = a as usize;
     if 31 < i {
@@ -110,7 +111,8 @@ pub fn offer_before_slot(
     under: &mut [u16; 120],
     turns: &mut [u8; 45],
 )
-    ensures offers { λ _. ⌜ arraysOf (now (blocks .exit)) (now (under .exit)) (now (turns .exit)) ≡ offersBefore (now (table .entry)) every served accs (arraysOf (now (blocks .entry)) (now (under .entry)) (now (turns .entry))) ⌝ }
+    ensures offers { λ _. ⌜ arraysOf (now (blocks .exit)) (now (under .exit)) (now (turns .exit))
+        ≡ offersBefore (now (table .entry)) every served accs (arraysOf (now (blocks .entry)) (now (under .entry)) (now (turns .entry))) ⌝ }
 {
     let mut a = first_of(every, served);
     let end = end_of(every, served, accs);

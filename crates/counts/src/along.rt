@@ -77,7 +77,8 @@ pub fn add_along(table: &[u16; 246], place: u16, under: &mut [u16; 120], turns: 
 // One less waits under the ports from `place` up to the root.
 pub fn take_along(table: &[u16; 246], place: u16, under: &mut [u16; 120], turns: &mut [u8; 45])
     ensures counts { λ _. ⌜ now (under .exit) ≡ lowered (up 4 (parentPorts (now (table .entry))) place) (now (under .entry)) ⌝ }
-    ensures sets { λ _. ⌜ lives (now (turns .exit)) ≡ closed (up 4 (parentPorts (now (table .entry))) place) (now (under .entry)) (lives (now (turns .entry))) ⌝ }
+    ensures sets { λ _. ⌜ lives (now (turns .exit))
+        ≡ closed (up 4 (parentPorts (now (table .entry))) place) (now (under .entry)) (lives (now (turns .entry))) ⌝ }
     ensures rest { λ _. ⌜ take 30 (now (turns .exit)) ≡ take 30 (now (turns .entry)) ⌝ }
 {
     let mut c = place as usize;

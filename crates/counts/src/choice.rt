@@ -11,8 +11,8 @@ use turns::next_in;
 ghost use mathlib.Core.Path.{_≡_};
 ghost use Prim.Native.Nat.{_+_, _-_, _<_, min};
 ghost use lib.ListN.{set};
-ghost use Rattle.counts.specs.Counts.{lasts, allowances, lives};
-ghost use Rattle.counts.specs.Choice.{countAt, carriedAt, turnOn, choice, chooseOn};
+ghost use Rattle.counts.specs.Counts.{lives};
+ghost use Rattle.counts.specs.Choice.{countAt, carriedAt, turnOn, choiceIn, chooseIn};
 
 // What waits under port p of interconnect j; nothing under a port past the eighth.
 fn count_at(under: &[u16; 120], j: u8, p: u8) -> u16
@@ -92,7 +92,7 @@ pub fn choose(
     j: u8,
     turns: &mut [u8; 45],
 ) -> u8
-    ensures chosen { λ r. ⌜ choice r (lasts (now (turns .exit))) (allowances (now (turns .exit))) ≡ chooseOn levels (now (next .entry)) (now (table .entry)) (now (under .entry)) (lives (now (turns .entry))) j (lasts (now (turns .entry))) (allowances (now (turns .entry))) ⌝ }
+    ensures chosen { λ r. ⌜ choiceIn r (now (turns .exit)) ≡ chooseIn levels (now (next .entry)) (now (table .entry)) (now (under .entry)) j (now (turns .entry)) ⌝ }
     ensures sets { λ r. ⌜ lives (now (turns .exit)) ≡ lives (now (turns .entry)) ⌝ }
 {
     let i = j as usize;

@@ -62,10 +62,10 @@ module _ (b : List ℕ) (r : Request) where
 
 -- one transaction of accelerator a is served
 module _ (b : List ℕ) (a n : ℕ) (h : a < 32) (e : n ≡ getD b a 0 - 1) where
-  pub served-waiting : waitings (set b a n) ≡ set (waitings b) a (getD (waitings b) a 0 - 1)
+  served-waiting : waitings (set b a n) ≡ set (waitings b) a (getD (waitings b) a 0 - 1)
   served-waiting = take-set-lt 32 b a n h ∙ ap (set (waitings b) a) (e ∙ ap (λ (i : ℕ). i - 1) (sym (getD-take 32 b a 0 h)))
 
-  pub served-rest : drop 32 (set b a n) ≡ drop 32 b
+  served-rest : drop 32 (set b a n) ≡ drop 32 b
   served-rest = drop-set-lt 32 b a n h
 
 -- the lines due are held

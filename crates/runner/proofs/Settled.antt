@@ -1,22 +1,21 @@
 -- Which accelerators would have a held transaction admitted. Each offers until one is refused, and an offer's answer depends
 -- on its own accelerator's record alone: so one that idles goes on idling while others offer, and offers nothing.
-use Prim.Native.Nat.{ℕ, zero, suc, _+_, _-_, _≤_, _<_}
+use Prim.Native.Nat.{ℕ, zero, suc, _-_, _≤_, _<_}
 use mathlib.Core.Bool.{true}
 use mathlib.Core.List.{List}
-use mathlib.Core.Path.{_≡_, refl, sym, _∙_, ap, ap₂, subst}
+use mathlib.Core.Path.{_≡_, refl, sym, _∙_, ap, subst}
 use native.Mathlib.Decide.{decLt, ℕ-discrete}
 use native.Mathlib.Omega.{arith}
 use lib.ListN.{getD, length, List·getD-eq-default}
 use lib.Seq.{getD-set-other}
-use Rattle.folds.proofs.Folds.{clash}
 use Rattle.model.specs.declared.Tree.{Tree}
 use Rattle.model.specs.declared.State.{State}
 use Rattle.model.specs.Tree.{outstandingBy, outstandingOf, admittedOf}
 use Rattle.rules.specs.Rules.{keeps}
-use Rattle.machine.specs.Machine.{Answer, admitted, served, idle, refused, offered, onAdmitted}
+use Rattle.machine.specs.Machine.{admitted, offered}
 use Rattle.machine.proofs.Laws.{offer-own, offer-others}
 use Rattle.runner.specs.Offers.{Offering, heldOf, release, offering, offerHeld, offerAll, offerEach}
-use Rattle.runner.proofs.Held.{release-own, either, held-kept, each-kept}
+use Rattle.runner.proofs.Held.{release-own, by-answer, either, held-kept, each-kept}
 
 -- no transaction that accelerator a holds would be admitted
 abbrev pub Idles : Tree → State → List ℕ → ℕ → Type 0
@@ -25,20 +24,6 @@ Idles t s h a = 0 < heldOf h a → offered t s a .answer ≡ admitted → ⊥
 -- no accelerator but x would have a held transaction admitted
 abbrev pub Settled : Tree → State → List ℕ → ℕ → Type 0
 Settled t s h x = (a : ℕ) → a < t .accs → (a ≡ x → ⊥) → Idles t s h a
-
--- an answer that is no admission
-not-admitted : {A : Type 0} (x : Answer) (y z : A) → (x ≡ admitted → ⊥) → onAdmitted x y z ≡ z
-not-admitted admitted y z d = absurd (d refl)
-not-admitted (served a) y z d = refl
-not-admitted idle y z d = refl
-not-admitted (refused n) y z d = refl
-
--- what holds of either way, by the answer
-pub by-answer : {A : Type 0} (Q : A → Type 0) (x : Answer) (y z : A) → (x ≡ admitted → Q y) → ((x ≡ admitted → ⊥) → Q z) → Q (onAdmitted x y z)
-by-answer Q admitted y z p q = p refl
-by-answer Q (served a) y z p q = q (λ e. clash cc)
-by-answer Q idle y z p q = q (λ e. clash cc)
-by-answer Q (refused n) y z p q = q (λ e. clash cc)
 
 -- where a list has more than 0, it does not end before
 not-past : (l : List ℕ) (i : ℕ) → 0 < getD l i 0 → i < length l
@@ -86,7 +71,8 @@ module _ (t : Tree) where
   for-none : (k : ℕ) (o : Offering) (a : ℕ) → heldOf (o .held) a ≡ k → Idles t (o .state) (o .held) a → offerHeld k t o a ≡ o
   unfolding offerHeld
   for-none zero o a e i = refl
-  for-none (suc k) o a e i = not-admitted (offered t (o .state) a .answer) _ o (i (omega arith))
+  for-none (suc k) o a e i =
+      by-answer (λ (p : Offering). p ≡ o) (offered t (o .state) a .answer) _ o (λ q. absurd (i (omega arith) q)) (λ _. refl)
 
   module _ (s : State) (h : List ℕ) (k : keeps t s ≡ true) where
     each-idles : (n : ℕ) → n ≤ t .accs → (a : ℕ) → a < n
@@ -100,7 +86,8 @@ module _ (t : Tree) where
           | yes e ↦
               subst (λ b. Idles t (offerAll t o n .state) (offerAll t o n .held) b) (sym e) (for-idles (heldOf (o .held) n) o n refl)
           | no d ↦
-              idles-still o (offerAll t o n) a ko (held-kept (heldOf (o .held) n) t o n ko) (for-others (heldOf (o .held) n) o n a d) (each-idles n (omega arith) a (omega arith))
+              idles-still o (offerAll t o n) a ko (held-kept (heldOf (o .held) n) t o n ko) (for-others (heldOf (o .held) n) o n a d)
+              (each-idles n (omega arith) a (omega arith))
         ]
 
     module _ (x : ℕ) (S : Settled t s h x) where
@@ -121,7 +108,8 @@ module _ (t : Tree) where
             let p = offerAll t (offering s h) x in
             ap (λ (q : Offering). offerAll t q n) (each-past n (omega arith) (omega arith))
             ∙ for-none (heldOf (p .held) n) p n refl
-            (idles-still (offering s h) p n k (held-kept (heldOf h x) t (offering s h) x k) (for-others (heldOf h x) (offering s h) x n d) (S n (omega arith) d))
+            (idles-still (offering s h) p n k (held-kept (heldOf h x) t (offering s h) x k) (for-others (heldOf h x) (offering s h) x n d)
+            (S n (omega arith) d))
       ]
 
 -- all of x's offers are all the offers there are

@@ -3,24 +3,14 @@
 use Prim.Native.Nat.{ℕ, zero, suc, _+_, _-_, _≤_, _<_}
 use mathlib.Core.Bool.{Bool, true, false}
 use mathlib.Core.List.{List, [], _∷_, _++_, append-nil, append-assoc}
-use mathlib.Core.Path.{_≡_, refl, sym, _∙_, ap, ap₂, subst}
+use mathlib.Core.Path.{_≡_, refl, sym, _∙_, ap}
 use native.Mathlib.Numerals.{add-one}
 use native.Mathlib.Omega.{arith}
-use lib.ListN.{length, take, drop, set, replicate, length-set, take-append-drop}
+use lib.ListN.{length, take, drop, set, length-set, take-append-drop}
 use lib.Seq.{length-take-le, take-suc-set, drop-set-lt, drop-drop}
 use Rattle.model.specs.declared.Tree.{Tree}
-use Rattle.model.specs.declared.State.{State}
-use Rattle.folds.specs.Fold.{pick}
-use Rattle.rules.specs.Rules.{treeKeeps, keeps}
 use Rattle.folds.proofs.Folds.{picked, passed}
-use Rattle.trace.specs.declared.Request.{Request}
-use Rattle.machine.specs.Machine.{Answer, Outcome, outcome, freshState, slottedWithin, slotted}
-use Rattle.machine.proofs.Steps.{slot-passed}
-use Rattle.machine.proofs.Laws.{slot-keeps, fresh-keeps}
-use Rattle.machine.proofs.Keeps.{zeros}
-use Rattle.runner.specs.Offers.{Offering, heldOf, offering, offerEach}
-use Rattle.runner.specs.declared.NextLine.{NextLine}
-use Rattle.runner.specs.Run.{Run, byteOf, lastByte, next, isDone, Trail, ended, written, trail, start, done, stopped, endAfter, endOf, over}
+use Rattle.runner.specs.Run.{Run, lastByte, next, isDone, Trail, ended, written, trail, done, endAfter, endOf, over}
 
 -- done is tested before each slot
 pub trail-done : (k : ℕ) (t : Tree) (r : Run) → isDone r ≡ true → trail k t r ≡ ended true

@@ -1,7 +1,7 @@
 -- The arrays of a run are those of the state that the definitions give: after an accelerator's offers, by one offer at a time
 -- and the laws of the kept counts; and after a slot, by the choice from these counts.
-use Prim.Native.Nat.{ℕ, zero, suc, _+_, _*_, _-_, _%_, _≤_, _<_, min}
-use mathlib.Core.Bool.{Bool, true, false, not, _&&_}
+use Prim.Native.Nat.{ℕ, zero, suc, _+_, _-_, _≤_, _<_}
+use mathlib.Core.Bool.{Bool, true, false}
 use mathlib.Core.List.{List}
 use mathlib.Core.Path.{_≡_, refl, sym, _∙_, ap, ap₂, subst, subst₂}
 use native.Mathlib.Decide.{decLt, ℕ-discrete}
@@ -118,7 +118,7 @@ module _ (t : Tree) (g : List ℕ) (W : TableOf t g) where
         (λ e. for-offered k (offering (offered t (x .state) a .state) (release (x .held) a)) (offeredOn g a d) (next-offered x d O e)) O
 
     -- accelerator a has offered
-    pub one-offered : (x : Offering) (d : Arrays) → StoredOffering t x d → StoredOffering t (offerAll t x a) (offersOf g a d)
+    one-offered : (x : Offering) (d : Arrays) → StoredOffering t x d → StoredOffering t (offerAll t x a) (offersOf g a d)
     one-offered x d O =
         subst (StoredOffering t (offerAll t x a)) (sym (offers-known g a d (known x d O)))
         (subst (λ (h : List ℕ). StoredOffering t (offerAll t x a) (offersFor (getD h a 0) g a d)) (sym (O .held)) (for-offered (heldOf (x .held) a) x d O))
@@ -161,7 +161,7 @@ module _ (t : Tree) (s : State) (k : keeps t s ≡ true) (c v : List ℕ) (C : C
     | no d ↦ ne-eqb _ _ d ∙ sym (some-live d)
   ]
 
-  pub some-inside : (getD v 0 0 ≡ 0 → ⊥) → 0 < inside 4 t (waitingOf s) 0
+  some-inside : (getD v 0 0 ≡ 0 → ⊥) → 0 < inside 4 t (waitingOf s) 0
   some-inside d = elim (decLt 0 (inside 4 t (waitingOf s) 0)) [
     | yes h ↦ h
     | no f ↦ absurd (d (none-live t S (waitingOf s) c v C .1 (root-zero t S (waitingOf s) .0 (omega arith))))

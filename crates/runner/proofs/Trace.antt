@@ -109,7 +109,7 @@ module _ (n : ℕ) (h : List ℕ) where
       (picked _ _ _ (le-leb _ _ l), picked _ _ _ (le-leb _ _ l))
 
 -- a line's count fits beside what is held
-pub hold-room : (h : List ℕ) (at p : ℕ) (r : Request) → Room h at → r .count < 256 → at < p → Room (hold h r) p
+hold-room : (h : List ℕ) (at p : ℕ) (r : Request) → Room h at → r .count < 256 → at < p → Room (hold h r) p
 hold-room h at p r R c m a = elim (ℕ-discrete a (r .accelerator)) [
   | yes e ↦ elim (decLt (r .accelerator) (length h)) [
     | yes l ↦

@@ -29,11 +29,11 @@ use Rattle.runner.specs.declared.SlotEnd.{SlotEnd}
 use Rattle.runner.specs.Offers.{heldOf, offering, offerEach}
 use Rattle.runner.specs.Run.{Run, heldWith, leftAfter, withDue, beforeSlot, byteOf, lastByte, next, noneHeld, isDone, start}
 use Rattle.runner.specs.Places.{leftAt, Accepts, Room, AtLine, NextOf}
-use Rattle.runner.specs.Arrays.{begins, serveOn, endOn, afterOn, everyOn, withHeld, beforeOn}
+use Rattle.runner.specs.Arrays.{begins, serveOn, endOn, slotEndOn, afterOn, everyOn, withHeld, beforeOn}
 use Rattle.runner.proofs.Held.{each-same, each-less}
 use Rattle.runner.proofs.Trace.{left-ends, not-due}
 use Rattle.runner.proofs.Settled.{Idles, Settled, settled-each, settled-served}
-use Rattle.runner.proofs.Service.{servedFrom, byteFrom, slotAnswer, served-frame, served-answer, served-outcome, served-others, served-known, window-same}
+use Rattle.runner.proofs.Service.{servedFrom, slotAnswer, served-frame, served-answer, served-outcome, served-others, served-known, window-same}
 use Rattle.runner.proofs.Stored.{Stored, StoredOffering, StoredSlot, live-none, before-offered, serves}
 
 -- from a later place on, a byte written, less of the buffer is left
@@ -270,10 +270,10 @@ module _ (t : Tree) (w k s : List ℕ) (F : Fixed t w k) (Q : Run → Type 0) (d
   walk-done = shows-done t s (G .state) d x e (G .shows)
 
   pub walk-next : (x₁ : NextLine) → NextOf n s (d .held) (x .at) x₁ → (d₁ : Arrays) → d₁ ≡ beforeOn s n x e (t .accs) w d
-      → (e₂ : SlotEnd) → e₂ ≡ endOn (serveOn k w d₁ .byte) (begins (t .bus .window) (n + 1))
+      → (e₂ : SlotEnd) → e₂ ≡ slotEndOn k w (t .bus .window) n d₁
       → (d₂ : Arrays) → d₂ ≡ afterOn k w (t .bus .window) n d₁
       → n < lastSlot → (P : Run → Type 0) → (e₂ .served ≡ lastByte t here → P (next t here)) → Walk t s P d₂ x₁ e₂ (n + 1)
   walk-next x₁ T d₁ E e₂ q d₂ E₂ g P f =
-      let end = q ∙ ap (λ (y : Arrays). endOn (serveOn k w y .byte) (begins (t .bus .window) (n + 1))) E in
+      let end = q ∙ ap (slotEndOn k w (t .bus .window) n) E in
       subst₂ (λ (y : Arrays) (i : SlotEnd). Walk t s P y x₁ i (n + 1)) (sym (E₂ ∙ ap (afterOn k w (t .bus .window) n) E)) (sym end)
       (walked t s (G .state) d x e (G .shows) w k F n (G .slot) x₁ T g P (λ b. f (ap (λ (i : SlotEnd). i .served) end ∙ b)))

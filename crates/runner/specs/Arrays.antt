@@ -8,6 +8,7 @@
 -- serveOn n w d         the slot serves, or is idle
 -- openOn b d            the arrays d where a window opens if b: the admitted counts return to 0
 -- endOn x b             how a slot ends, by its byte x and whether a window opens then
+-- slotEndOn n w p m d   how the slot m ends that is run on d, in windows of p slots
 -- afterOn n w p m d     the slot m is run: service, and the end of a window of p slots
 -- everyOn e x n         every accelerator may have a transaction admitted in slot n, and not only the one served last
 -- withHeld h d          the arrays d with the held counts h
@@ -84,6 +85,9 @@ openOn b d =
 
 abbrev pub endOn : ℕ → Bool → SlotEnd
 endOn x b = record { served = x; opened = b }
+
+abbrev pub slotEndOn : (n w : List ℕ) (p m : ℕ) → Arrays → SlotEnd
+slotEndOn n w p m d = endOn (serveOn n w d .byte) (begins p (m + 1))
 
 abbrev pub afterOn : (n w : List ℕ) (p m : ℕ) → Arrays → Arrays
 afterOn n w p m d = openOn (begins p (m + 1)) (serveOn n w d .arrays)

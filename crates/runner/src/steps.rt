@@ -14,7 +14,7 @@ use trace::NextRequest;
 use trace::request_at;
 ghost use mathlib.Core.Path.{_≡_};
 ghost use mathlib.Core.Bool.{_&&_};
-ghost use Prim.Native.Nat.{_≤_, _<_, _+_, _-_};
+ghost use Prim.Native.Nat.{_<_, _+_, _-_};
 ghost use lib.Dec.{eqb};
 ghost use lib.ListN.{length, getD, take, replicate};
 ghost use Rattle.counts.specs.Counts.{lasts, allowances, lives};
@@ -22,7 +22,7 @@ ghost use Rattle.admit.specs.Admitting.{waitings, admitteds, helds, arraysOf};
 ghost use Rattle.folds.specs.Fold.{pick};
 ghost use Rattle.runner.specs.Run.{noneHeld, heldWith};
 ghost use Rattle.runner.specs.Places.{leftAt, AtLine, NextOf};
-ghost use Rattle.runner.specs.Arrays.{begins, slotOn, serveOn, endOn, afterOn, beforeOn};
+ghost use Rattle.runner.specs.Arrays.{begins, slotOn, serveOn, slotEndOn, afterOn, beforeOn};
 
 // Adds the lines due in this slot to the held counts.
 fn take_due(trace: &[u8], slot: u32, line: NextLine, blocks: &mut [u32; 96]) -> NextLine
@@ -82,7 +82,8 @@ fn serve(
     under: &mut [u16; 120],
     turns: &mut [u8; 45],
 ) -> u8
-    ensures { λ r. ⌜ slotOn r (arraysOf (now (blocks .exit)) (now (under .exit)) (now (turns .exit))) ≡ serveOn (now (next .entry)) (now (table .entry)) (arraysOf (now (blocks .entry)) (now (under .entry)) (now (turns .entry))) ⌝ }
+    ensures { λ r. ⌜ slotOn r (arraysOf (now (blocks .exit)) (now (under .exit)) (now (turns .exit)))
+        ≡ serveOn (now (next .entry)) (now (table .entry)) (arraysOf (now (blocks .entry)) (now (under .entry)) (now (turns .entry))) ⌝ }
 {
     if turns[LIVE] == 0 {
         return IDLE;
@@ -143,7 +144,8 @@ pub fn before_slot(
     turns: &mut [u8; 45],
 ) -> NextLine
     requires { ⌜ AtLine (now trace) (helds (now blocks)) line ⌝ }
-    ensures arrays { λ r. ⌜ arraysOf (now (blocks .exit)) (now (under .exit)) (now (turns .exit)) ≡ beforeOn (now (trace .entry)) slot line past accs (now (table .entry)) (arraysOf (now (blocks .entry)) (now (under .entry)) (now (turns .entry))) ⌝ }
+    ensures arrays { λ r. ⌜ arraysOf (now (blocks .exit)) (now (under .exit)) (now (turns .exit))
+        ≡ beforeOn (now (trace .entry)) slot line past accs (now (table .entry)) (arraysOf (now (blocks .entry)) (now (under .entry)) (now (turns .entry))) ⌝ }
     ensures line { λ r. ⌜ NextOf slot (now (trace .entry)) (helds (now (blocks .entry))) (line .at) r ⌝ }
 {
     let every = past.opened | (line.due <= slot) | (past.served == IDLE);
@@ -163,8 +165,9 @@ pub fn after_slot(
     turns: &mut [u8; 45],
 ) -> SlotEnd
     requires { ⌜ slot < 4294967295 ⌝ }
-    ensures end { λ r. ⌜ r ≡ endOn (serveOn (now (next .entry)) (now (table .entry)) (arraysOf (now (blocks .entry)) (now (under .entry)) (now (turns .entry))) .byte) (begins window (slot + 1)) ⌝ }
-    ensures arrays { λ r. ⌜ arraysOf (now (blocks .exit)) (now (under .exit)) (now (turns .exit)) ≡ afterOn (now (next .entry)) (now (table .entry)) window slot (arraysOf (now (blocks .entry)) (now (under .entry)) (now (turns .entry))) ⌝ }
+    ensures end { λ r. ⌜ r ≡ slotEndOn (now (next .entry)) (now (table .entry)) window slot (arraysOf (now (blocks .entry)) (now (under .entry)) (now (turns .entry))) ⌝ }
+    ensures arrays { λ r. ⌜ arraysOf (now (blocks .exit)) (now (under .exit)) (now (turns .exit))
+        ≡ afterOn (now (next .entry)) (now (table .entry)) window slot (arraysOf (now (blocks .entry)) (now (under .entry)) (now (turns .entry))) ⌝ }
 {
     let served = serve(next, table, blocks, under, turns);
     let opened = open_window(window, slot + 1, blocks);

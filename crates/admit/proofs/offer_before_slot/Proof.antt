@@ -1,7 +1,7 @@
 -- `offer_before_slot` meets its contract: what is left of the offers, made on the arrays as they are, is what all offers come to.
 use Prim.Native.Nat.{_-_, suc, _+_}
 use native.Mathlib.Omega.{arith}
-use mathlib.Core.Path.{_≡_, refl, sym, _∙_, ap, ap₂}
+use mathlib.Core.Path.{_≡_, sym, _∙_, ap, ap₂}
 use borrow.Author.Needs.{needs}
 use Rattle.admit.specs.Admitting.{arraysOf, offersBefore}
 use Rattle.admit.proofs.Offers.{offersFrom, from-none, from-turn, from-first}

@@ -1,6 +1,6 @@
 -- `offer_held` meets its contract: what is left of the offers, made on the arrays as they are, is what all of them come to.
 use mathlib.Core.Path.{_≡_, refl, sym, _∙_, ap}
-use Prim.Native.Nat.{ℕ, _<_}
+use Prim.Native.Nat.{_<_}
 use native.Mathlib.Omega.{arith}
 use lib.ListN.{getD}
 use borrow.Author.Needs.{needs}

@@ -1,6 +1,6 @@
 -- `run_slots` meets its contract: what was written so far, with what is left of the run, is the run from the start.
-use mathlib.Core.Path.{_≡_, refl, sym, _∙_}
-use Prim.Native.Nat.{ℕ, _≤_, _-_, _+_}
+use mathlib.Core.Path.{_≡_, sym, _∙_}
+use Prim.Native.Nat.{_≤_, _-_, _+_}
 use mathlib.Core.Bool.{true, false}
 use native.Mathlib.Omega.{arith}
 use lib.ListN.{length}
@@ -13,7 +13,7 @@ use Rattle.admit.specs.Admitting.{arraysOf}
 use Rattle.runner.specs.Run.{runFor}
 use Rattle.runner.specs.Places.{leftAt}
 use Rattle.runner.proofs.Slots.{Running, running-start, running-turn, running-ended}
-use Rattle.runner.proofs.Walk.{fewer, Fixed, Walk, walk-start, here, walk-done, walk-next}
+use Rattle.runner.proofs.Walk.{fewer, Fixed, Walk, walk-start, walk-done, walk-next}
 use Rattle.runner.proofs.run_slots.Statement.{statement}
 use Rattle.runner.proofs.run_slots.Tie as tie
 

@@ -1,14 +1,13 @@
 -- `serve` meets its contract: each test picks the case of the definition, and each array is stored to as the definition says.
-use mathlib.Core.Path.{_≡_, refl, sym, _∙_, ap, subst}
-use Prim.Native.Nat.{ℕ, _<_}
+use mathlib.Core.Path.{refl, sym, _∙_, ap, subst}
+use Prim.Native.Nat.{_<_}
 use native.Mathlib.Omega.{arith}
-use lib.ListN.{getD}
 use lib.Seq.{getD-drop}
 use borrow.Author.Needs.{needs}
-use Rattle.counts.specs.Counts.{lasts, allowances, lives}
+use Rattle.counts.specs.Counts.{lasts, allowances}
 use Rattle.counts.specs.Choice.{Choice, choice}
 use Rattle.admit.specs.Admitting.{arraysOf}
-use Rattle.runner.specs.Arrays.{slotOn, chosenOn, takeOn}
+use Rattle.runner.specs.Arrays.{slotOn, takeOn}
 use Rattle.runner.proofs.Parts.{turned-arrays, taken-arrays}
 use Rattle.runner.proofs.Stored.{serve-none, serve-unknown, serve-known}
 use Rattle.runner.proofs.steps.serve.Statement.{statement}
