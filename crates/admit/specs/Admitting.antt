@@ -1,29 +1,27 @@
 -- The offers before a slot, on the arrays that a run keeps (document 01, "Turns", last paragraph: "accelerators in rising
--- number offer held transactions until one is refused or none is left"). Each accelerator's offers are admitted together.
+-- number offer held transactions until one is refused or none is left").
 --
--- Arrays                what waits, what is admitted and what is held for each accelerator, what waits under each port, and
---                       the live ports; arrays w m h c v: these five
+-- Arrays                what waits, what is admitted and what is held for each accelerator, what waits under each port, the
+--                       live ports, the last ports and the allowances; arrays w m h c v l o: these seven
 -- waitings b, admitteds b, helds b   the counts of each accelerator in the array b of these, thirty-two each
--- arraysOf b c r        the five in b, c and r, as a run holds them
--- admission n h w m     n of the h held transactions admitted, beside w waiting and m admitted ones
--- heldOffers n h w m    the same, or that none is admitted if n is 0
--- fits l b a d          how many held transactions of accelerator a are admitted before one is refused: as many as it holds
---                       and as its outstanding limit, in l, and its budget, in b, leave
--- admitted n a y u d    n transactions of accelerator a admitted: they are counted under each port from its own, in y, up to
---                       the root, where u has the port above each interconnect
--- offersOf l b y u a d  the offers of accelerator a; a number that no accelerator has offers nothing
--- offersBelow l b y u n d   those of the accelerators below n, in rising number
--- offersBefore l b y u e x n d   those below n if e, else those of x alone
-use Prim.Native.Nat.{ℕ, zero, suc, _+_, _-_, min}
-use mathlib.Core.Bool.{Bool, _||_}
+-- arraysOf b c r        the seven in b, c and r, as a run holds them
+-- answerOn w a d        what an offer of accelerator a answers, by the limits and budgets in the table w: 8, 9, or admitted
+-- admitOn w a d         one held transaction of accelerator a admitted: it is counted under each port from its own up to the root
+-- offeredOn w a d       the arrays after one offer: a refusal leaves them, and the held request first in line
+-- offersFor k w a d     accelerator a offers at most k transactions, until one is refused
+-- offersOf w a d        the offers of accelerator a, of all that it holds; a number that no accelerator has offers nothing
+-- offersBelow w n d     those of the accelerators below n, in rising number
+-- offersBefore w e x n d   those below n if e, else those of x alone
+use Prim.Native.Nat.{ℕ, zero, suc, _+_, _-_}
+use mathlib.Core.Bool.{Bool}
 use mathlib.Core.List.{List}
-use lib.Dec.{ltb, eqb}
+use lib.Dec.{ltb}
 use lib.ListN.{getD, set, take, drop}
 use Rattle.folds.specs.Fold.{pick}
-use Rattle.counts.specs.Counts.{lives, up, raised, opened}
-use Rattle.admit.specs.declared.Admission.{Admission}
-use Rattle.admit.specs.declared.HeldOffers.{HeldOffers}
-use Rattle.admit.specs.declared.HeldOffers.the-variants.{NoneAdmitted, Admitted}
+use Rattle.model.specs.Tree.{outstandingBy}
+use Rattle.machine.specs.Machine.{Answer, limitsAnswer, onAdmitted}
+use Rattle.counts.specs.Table.{limits, budgets}
+use Rattle.counts.specs.Counts.{lasts, allowances, lives, pathPorts, raised, opened}
 
 pub record Arrays : Type 0 where
   pub waiting : List ℕ
@@ -31,9 +29,11 @@ pub record Arrays : Type 0 where
   pub held : List ℕ
   pub under : List ℕ
   pub live : List ℕ
+  pub last : List ℕ
+  pub allowance : List ℕ
 
-abbrev pub arrays : (w m h c v : List ℕ) → Arrays
-arrays w m h c v = record { waiting = w; admitted = m; held = h; under = c; live = v }
+abbrev pub arrays : (w m h c v l o : List ℕ) → Arrays
+arrays w m h c v l o = record { waiting = w; admitted = m; held = h; under = c; live = v; last = l; allowance = o }
 
 abbrev pub waitings : List ℕ → List ℕ
 waitings b = take 32 b
@@ -45,33 +45,37 @@ abbrev pub helds : List ℕ → List ℕ
 helds b = drop 64 b
 
 abbrev pub arraysOf : (b c r : List ℕ) → Arrays
-arraysOf b c r = arrays (waitings b) (admitteds b) (helds b) c (lives r)
+arraysOf b c r = arrays (waitings b) (admitteds b) (helds b) c (lives r) (lasts r) (allowances r)
 
-abbrev pub admission : (n h w m : ℕ) → Admission
-admission n h w m = record { count = n; held = h - n; waiting = w + n; admitted = m + n }
+abbrev pub answerOn : List ℕ → ℕ → Arrays → Answer
+answerOn w a d =
+    limitsAnswer (getD (limits w) a 0) (outstandingBy (getD (d .waiting) a 0)) (getD (budgets w) a 0) (getD (d .admitted) a 0)
 
-abbrev pub heldOffers : (n h w m : ℕ) → HeldOffers
-heldOffers n h w m = pick (eqb n 0) NoneAdmitted (Admitted (admission n h w m))
-
-abbrev pub fits : (l b : List ℕ) → ℕ → Arrays → ℕ
-fits l b a d = min (getD (d .held) a 0) (min (getD l a 0 - getD (d .waiting) a 0) (getD b a 0 - getD (d .admitted) a 0))
-
-abbrev pub admitted : (n a : ℕ) (y u : List ℕ) → Arrays → Arrays
-admitted n a y u d =
+abbrev pub admitOn : List ℕ → ℕ → Arrays → Arrays
+admitOn w a d =
     record {
-      waiting = set (d .waiting) a (getD (d .waiting) a 0 + n);
-      admitted = set (d .admitted) a (getD (d .admitted) a 0 + n);
-      held = set (d .held) a (getD (d .held) a 0 - n);
-      under = raised (up 4 u (getD y a 0)) n (d .under);
-      live = opened (up 4 u (getD y a 0)) (d .live);
+      waiting = set (d .waiting) a (getD (d .waiting) a 0 + 1);
+      admitted = set (d .admitted) a (getD (d .admitted) a 0 + 1);
+      held = set (d .held) a (getD (d .held) a 0 - 1);
+      under = raised (pathPorts w a) (d .under);
+      live = opened (pathPorts w a) (d .live);
+      last = d .last;
+      allowance = d .allowance;
     }
 
-abbrev pub offersOf : (l b y u : List ℕ) → ℕ → Arrays → Arrays
-offersOf l b y u a d = pick (ltb 31 a || eqb (fits l b a d) 0) d (admitted (fits l b a d) a y u d)
+abbrev pub offeredOn : List ℕ → ℕ → Arrays → Arrays
+offeredOn w a d = onAdmitted (answerOn w a d) (admitOn w a d) d
 
-unfoldable pub offersBelow : (l b y u : List ℕ) → ℕ → Arrays → Arrays
-offersBelow l b y u zero d = d
-offersBelow l b y u (suc n) d = offersOf l b y u n (offersBelow l b y u n d)
+unfoldable pub offersFor : ℕ → List ℕ → ℕ → Arrays → Arrays
+offersFor zero w a d = d
+offersFor (suc k) w a d = onAdmitted (answerOn w a d) (offersFor k w a (offeredOn w a d)) d
 
-abbrev pub offersBefore : (l b y u : List ℕ) → Bool → (x n : ℕ) → Arrays → Arrays
-offersBefore l b y u e x n d = pick e (offersBelow l b y u n d) (offersOf l b y u x d)
+abbrev pub offersOf : List ℕ → ℕ → Arrays → Arrays
+offersOf w a d = pick (ltb 31 a) d (offersFor (getD (d .held) a 0) w a d)
+
+unfoldable pub offersBelow : List ℕ → ℕ → Arrays → Arrays
+offersBelow w zero d = d
+offersBelow w (suc n) d = offersOf w n (offersBelow w n d)
+
+abbrev pub offersBefore : List ℕ → Bool → (x n : ℕ) → Arrays → Arrays
+offersBefore w e x n d = pick e (offersBelow w n d) (offersOf w x d)

@@ -1,92 +1,80 @@
 // The offers of a run before a slot, on the arrays that it keeps in place of a state.
 use counts::BUDGET;
-use counts::HOME;
 use counts::LIMIT;
+use counts::OWN_PORT;
 use counts::along::add_along;
-use rules::smaller;
+use machine::OfferAnswer;
+use machine::limits_answer;
+use model::access::outstanding_by;
+use rules::less_one;
 ghost use mathlib.Core.Path.{_≡_};
-ghost use Prim.Native.Nat.{_+_, _-_, min};
+ghost use Prim.Native.Nat.{_+_, _<_, min};
 ghost use Rattle.folds.specs.Fold.{pick};
-ghost use lib.ListN.{take};
-ghost use Rattle.counts.specs.Wiring.{limits, budgets, homes, aboves};
-ghost use Rattle.admit.specs.Admitting.{arraysOf, heldOffers, offersOf, offersBefore};
+ghost use Rattle.machine.specs.Answers.{offerMeans};
+ghost use Rattle.admit.specs.Admitting.{arraysOf, answerOn, offeredOn, offersOf, offersBefore};
 
 // In the array of the counts of each accelerator, after the waiting counts: the admitted counts.
 pub const ADMITTED: usize = 32;
 // The held counts.
 pub const HELD: usize = 64;
 
-// What is held, waiting and admitted once `count` of the held transactions are admitted.
-struct Admission {
-    count: u16,
-    held: u32,
-    waiting: u32,
-    admitted: u32,
-}
-
-// What the offers of one accelerator before a slot come to.
-enum HeldOffers {
-    NoneAdmitted,
-    Admitted(Admission),
-}
-
-// What a limit leaves beside a count.
-fn rest(limit: u32, count: u32) -> u32
-    ensures { λ r. ⌜ r ≡ limit - count ⌝ }
+// A limit beside the counts that it is compared with.
+fn wide(limit: u16) -> u32
+    ensures { λ r. ⌜ (r ≡ limit) × (r < 65536) ⌝ }
 {
-    if limit < count {
-        return 0;
-    }
-    limit - count
+    limit as u32
 }
 
-// The offers of one accelerator: as many of the held transactions are admitted as are admitted one by one before one is refused.
-fn admit_held(held: u32, limit: u16, waiting: u32, budget: u16, admitted: u32) -> HeldOffers
-    ensures { λ r. ⌜ r ≡ heldOffers (min held (min (limit - waiting) (budget - admitted))) held waiting admitted ⌝ }
+// Accelerator a offers one of its held transactions: refused by 8, by 9, or admitted, and then it is held no longer.
+fn offer_one(
+    a: u8,
+    table: &[u16; 246],
+    blocks: &mut [u32; 96],
+    under: &mut [u16; 120],
+    turns: &mut [u8; 45],
+) -> OfferAnswer
+    requires { ⌜ a < 32 ⌝ }
+    ensures answer { λ r. ⌜ offerMeans r ≡ answerOn (now (table .entry)) a (arraysOf (now (blocks .entry)) (now (under .entry)) (now (turns .entry))) ⌝ }
+    ensures arrays { λ r. ⌜ arraysOf (now (blocks .exit)) (now (under .exit)) (now (turns .exit))
+        ≡ offeredOn (now (table .entry)) a (arraysOf (now (blocks .entry)) (now (under .entry)) (now (turns .entry))) ⌝ }
 {
-    let outstanding = rest(limit as u32, waiting);
-    let unspent = rest(budget as u32, admitted);
-    let n = smaller(held, smaller(outstanding, unspent));
-    if n == 0 {
-        return HeldOffers::NoneAdmitted;
+    let i = a as usize;
+    let waiting = blocks[i];
+    let admitted = blocks[ADMITTED + i];
+    let limit = wide(table[LIMIT + i]);
+    let budget = wide(table[BUDGET + i]);
+    match limits_answer(limit, outstanding_by(waiting), budget, admitted) {
+        OfferAnswer::Admitted => {
+            blocks[HELD + i] = less_one(blocks[HELD + i]);
+            blocks[i] = waiting + 1;
+            blocks[ADMITTED + i] = admitted + 1;
+            add_along(table, table[OWN_PORT + i], under, turns);
+            OfferAnswer::Admitted
+        }
+        OfferAnswer::Refused(refusal) => OfferAnswer::Refused(refusal),
     }
-    HeldOffers::Admitted(Admission {
-        count: n as u16,
-        held: held - n,
-        waiting: waiting + n,
-        admitted: admitted + n,
-    })
 }
 
-// Accelerator a offers its held transactions until one is refused, which stays held, or none is left.
+// Accelerator a offers its held transactions until one is refused, which stays first in line, or none is left.
 fn offer_held(
     a: u8,
-    wires: &[u16; 246],
+    table: &[u16; 246],
     blocks: &mut [u32; 96],
     under: &mut [u16; 120],
     turns: &mut [u8; 45],
 )
-    ensures offers { λ _. ⌜ arraysOf (now (blocks .exit)) (now (under .exit)) (now (turns .exit)) ≡ offersOf (limits (now (wires .entry))) (budgets (now (wires .entry))) (homes (now (wires .entry))) (aboves (now (wires .entry))) a (arraysOf (now (blocks .entry)) (now (under .entry)) (now (turns .entry))) ⌝ }
-    ensures rest { λ _. ⌜ take 30 (now (turns .exit)) ≡ take 30 (now (turns .entry)) ⌝ }
+    ensures offers { λ _. ⌜ arraysOf (now (blocks .exit)) (now (under .exit)) (now (turns .exit))
+        ≡ offersOf (now (table .entry)) a (arraysOf (now (blocks .entry)) (now (under .entry)) (now (turns .entry))) ⌝ }
 {
     let i = a as usize;
     if 31 < i {
         return;
     }
-    let offers = admit_held(
-        blocks[HELD + i],
-        wires[LIMIT + i],
-        blocks[i],
-        wires[BUDGET + i],
-        blocks[ADMITTED + i],
-    );
-    let HeldOffers::Admitted(x) = offers else {
-        return;
-    };
-    blocks[HELD + i] = x.held;
-    blocks[i] = x.waiting;
-    blocks[ADMITTED + i] = x.admitted;
-    add_along(wires, wires[HOME + i], x.count, under, turns);
+    while 0 < blocks[HELD + i] {
+        let OfferAnswer::Admitted = offer_one(a, table, blocks, under, turns) else {
+            return;
+        };
+    }
 }
 
 // The first accelerator that offers.
@@ -118,18 +106,18 @@ pub fn offer_before_slot(
     every: bool,
     served: u8,
     accs: u8,
-    wires: &[u16; 246],
+    table: &[u16; 246],
     blocks: &mut [u32; 96],
     under: &mut [u16; 120],
     turns: &mut [u8; 45],
 )
-    ensures offers { λ _. ⌜ arraysOf (now (blocks .exit)) (now (under .exit)) (now (turns .exit)) ≡ offersBefore (limits (now (wires .entry))) (budgets (now (wires .entry))) (homes (now (wires .entry))) (aboves (now (wires .entry))) every served accs (arraysOf (now (blocks .entry)) (now (under .entry)) (now (turns .entry))) ⌝ }
-    ensures rest { λ _. ⌜ take 30 (now (turns .exit)) ≡ take 30 (now (turns .entry)) ⌝ }
+    ensures offers { λ _. ⌜ arraysOf (now (blocks .exit)) (now (under .exit)) (now (turns .exit))
+        ≡ offersBefore (now (table .entry)) every served accs (arraysOf (now (blocks .entry)) (now (under .entry)) (now (turns .entry))) ⌝ }
 {
     let mut a = first_of(every, served);
     let end = end_of(every, served, accs);
     while a < end {
-        offer_held(a, wires, blocks, under, turns);
+        offer_held(a, table, blocks, under, turns);
         a += 1;
     }
 }

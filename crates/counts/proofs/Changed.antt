@@ -1,6 +1,6 @@
 -- The updates of the counts along a list of crossings as one fold: each crossing's entry is updated, and where no two
 -- crossings have one place, an entry is as it was or updated once. By induction on the list.
-use Prim.Native.Nat.{ℕ, _+_, _-_, _%_, _<_}
+use Prim.Native.Nat.{ℕ, _+_, _-_, _<_, min}
 use mathlib.Core.List.{List, [], _∷_}
 use mathlib.Core.Path.{_≡_, refl, sym, _∙_, ap, ap₂, subst}
 use native.Mathlib.Decide.{ℕ-discrete}
@@ -12,7 +12,7 @@ use Rattle.folds.specs.Fold.{pick}
 use Rattle.model.specs.Tree.{Crossing}
 use Rattle.rules.proofs.Beneath.{On, here, there, no-crossing}
 use Rattle.turns.proofs.Steps.{index-set, index-last}
-use Rattle.counts.specs.Wiring.{portNumber}
+use Rattle.counts.specs.Table.{portNumber}
 use Rattle.counts.specs.Counts.{withPort, withoutPort, raised, opened, lower, lowered, closed}
 
 -- the port numbers of the crossings of a list
@@ -76,11 +76,10 @@ own j p = j
 abbrev pub shuts : (ℕ → ℕ → ℕ) → ℕ → ℕ → ℕ → ℕ
 shuts n j p s = pick (eqb (n j p - 1) 0) (withoutPort s p) s
 
-pub raised-changed : (n : ℕ) (l : List Crossing) (c : List ℕ)
-    → raised (numbers l) n c ≡ changed portNumber (λ _ _ x. (x + n) % 65536) l c
+pub raised-changed : (l : List Crossing) (c : List ℕ) → raised (numbers l) c ≡ changed portNumber (λ _ _ x. min 65535 (x + 1)) l c
 unfolding raised changed
-raised-changed n [] c = refl
-raised-changed n (k ∷ l) c = raised-changed n l _
+raised-changed [] c = refl
+raised-changed (k ∷ l) c = raised-changed l _
 
 pub lowered-changed : (l : List Crossing) (c : List ℕ) → lowered (numbers l) c ≡ changed portNumber (λ _ _ x. x - 1) l c
 unfolding lowered changed

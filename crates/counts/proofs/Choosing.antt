@@ -1,16 +1,15 @@
 -- The choice from the kept arrays is the choice of the definition: the turn read from them is the turn of the interconnect,
 -- something waits under its port, so that it carries an accelerator, or an interconnect with something waiting inside.
-use Prim.Native.Nat.{ℕ, _+_, _*_, _-_, _%_, _≤_, _<_, min}
+use Prim.Native.Nat.{ℕ, zero, suc, _+_, _*_, _-_, _%_, _≤_, _<_, min}
 use mathlib.Core.Bool.{Bool, true, false, _||_}
 use mathlib.Core.List.{List}
-use mathlib.Core.Logic.{_⊎_, inl, inr}
 use mathlib.Core.Path.{_≡_, refl, sym, _∙_, ap, ap₂, subst}
+use native.Mathlib.Decide.{decLt}
 use native.Mathlib.Omega.{arith}
 use lib.ListN.{getD, set, drop}
 use lib.Seq.{getD-take, getD-drop}
 use lib.Dec.{ltb, eqb}
-use borrow.Author.Tests.{ltb-true, ltb-false, eqb-true, eqb-false}
-use Rattle.folds.proofs.Folds.{clash}
+use borrow.Author.Tests.{lt-ltb, le-ltb, ltb-false, eqb-false, ne-eqb}
 use Rattle.model.specs.declared.Tree.{Tree}
 use Rattle.model.specs.declared.State.{State}
 use Rattle.model.specs.declared.Port.{Port}
@@ -18,45 +17,48 @@ use Rattle.model.specs.declared.Port.the-variants.{Empty, Acc, Int}
 use Rattle.folds.specs.Fold.{pick}
 use Rattle.model.specs.Tree.{portOf, granularityOf, waitingOf, lastOf, allowanceOf}
 use Rattle.model.specs.Beneath.{under, inside}
+use Rattle.folds.proofs.Folds.{picked, passed, clash}
+use Rattle.rules.specs.Rules.{keeps}
 use Rattle.rules.proofs.Sound.{Sound, Kept, sound-of, kept-of}
 use Rattle.rules.proofs.Beneath.{at-port, child-level, settled}
-use Rattle.turns.specs.Turns.{liveSet, nextPort, goesOn, turnPort, turnAllowance, reached, who, turned, after}
+use Rattle.turns.specs.declared.Turn.{Turn}
+use Rattle.turns.specs.Turns.{NextPorts, liveSet, nextPort, goesOn, turnPort, turnAllowance, reached, who, turned, after}
 use Rattle.turns.proofs.Next.{bits-bound}
-use Rattle.turns.proofs.Descent.{Turn, turn}
-use Rattle.turns.proofs.Steps.{who-none, after-none, who-step, after-step}
-use Rattle.counts.specs.Wiring.{portNumber, carriedNumber, grants}
+use Rattle.turns.proofs.Descent as Descent
+use Rattle.turns.proofs.Steps.{who-step, after-step}
+use Rattle.counts.specs.Table.{interconnects, empty, carriedNumber, granularities}
 use Rattle.counts.specs.Counts.{lasts, allowances, lives}
-use Rattle.counts.specs.Choice.{Board, Chosen, Chooses}
+use Rattle.counts.specs.Choice.{countAt, carriedAt, turnOn, turnAt, Choice, choice, takenOn, belowOn, chooseOn}
+use Rattle.counts.proofs.Steps.{turn-last, turn-allowance, turn-lives}
+use Rattle.counts.proofs.Table.{TableOf}
+use Rattle.counts.proofs.Counted.{Counted}
 
--- the port of a turn and its allowance, read from the arrays
-abbrev pub portFrom : (n v l o : List ℕ) (j : ℕ) → ℕ
-portFrom n v l o j = pick (ltb 0 (getD o j 0)) (getD l j 0) (getD n (getD v j 0 * 8 + getD l j 0 % 8) 0)
+-- the turn by the granularity g and the array r of last ports, allowances and live ports
+abbrev turnRead : (n u r : List ℕ) (j g : ℕ) → Turn
+turnRead n u r j g = turnOn n u j g (getD r (30 + j) 0) (getD r j 0) (getD r (15 + j) 0)
 
-abbrev pub allowanceFrom : (g u o : List ℕ) (j p : ℕ) → ℕ
-allowanceFrom g u o j p = pick (ltb 0 (getD o j 0)) (getD o j 0) (min (getD g j 0 % 256) (getD u (portNumber j p) 0))
+turn-parts : (n w u r : List ℕ) (j g : ℕ) → j < 15 → g ≡ min 255 (getD w (120 + j) 0)
+    → turnRead n u r j g ≡ turnAt n w u (lives r) (lasts r) (allowances r) j
+turn-parts n w u r j g h e =
+    ap₂ (λ (i v : ℕ). turnOn n u j i v (getD r j 0) (getD r (15 + j) 0)) (e ∙ ap (min 255) (sym (getD-drop 120 w j 0))) (sym (getD-drop 30 r j 0))
+    ∙ ap₂ (λ (l o : ℕ). turnOn n u j (min 255 (getD (granularities w) j 0)) (getD (lives r) j 0) l o)
+    (sym (getD-take 15 r j 0 h)) (sym (getD-take 15 (drop 15 r) j 0 h ∙ getD-drop 15 r j 0))
 
--- the same, read from the array of last ports, allowances and live ports, and from the table
-module _ (n w u r : List ℕ) (j : ℕ) (h : j < 15) where
-  last-at : getD r j 0 ≡ getD (lasts r) j 0
-  last-at = sym (getD-take 15 r j 0 h)
+-- a turn stored is taken
+turn-stored : (r r₀ : List ℕ) (j : ℕ) (x : Turn) (a : ℕ) → j < 15 → r ≡ set (set r₀ j (x .port)) (15 + j) (x .allowance - 1)
+    → choice a (lasts r) (allowances r) ≡ takenOn j x (choice a (lasts r₀) (allowances r₀))
+turn-stored r r₀ j x a h e = ap₂ (choice a) (ap lasts e ∙ turn-last r₀ _ _ _ h) (ap allowances e ∙ turn-allowance r₀ _ _ _ h)
 
-  allowance-at : getD r (15 + j) 0 ≡ getD (allowances r) j 0
-  allowance-at = sym (getD-take 15 (drop 15 r) j 0 h ∙ getD-drop 15 r j 0)
+-- what a port leads to
+module _ (f : ℕ → Choice) (x : ℕ) (l o : List ℕ) where
+  pub below-own : x < interconnects → choice x l o ≡ belowOn f x l o
+  below-own h = sym (picked _ _ _ (lt-ltb _ _ h))
 
-  pub port-parts : pick (ltb 0 (getD r (15 + j) 0)) (getD r j 0) (getD n (getD r (30 + j) 0 * 8 + getD r j 0 % 8) 0)
-      ≡ portFrom n (lives r) (lasts r) (allowances r) j
-  port-parts =
-      ap₂ (λ (a v : ℕ). pick (ltb 0 a) (getD r j 0) (getD n (v * 8 + getD r j 0 % 8) 0)) allowance-at (sym (getD-drop 30 r j 0))
-      ∙ ap (λ (l : ℕ). pick (ltb 0 (getD (allowances r) j 0)) l (getD n (getD (lives r) j 0 * 8 + l % 8) 0)) last-at
+  pub below-none : empty ≤ x → choice 255 l o ≡ belowOn f x l o
+  below-none h = sym (passed _ _ _ (le-ltb x interconnects (omega arith)) ∙ passed _ _ _ (le-ltb _ _ h))
 
-  pub allowance-parts : (p : ℕ) → pick (ltb 0 (getD r (15 + j) 0)) (getD r (15 + j) 0) (min (getD w (120 + j) 0 % 256) (getD u (portNumber j p) 0))
-      ≡ allowanceFrom (grants w) u (allowances r) j p
-  allowance-parts p =
-      ap₂ (λ (a g : ℕ). pick (ltb 0 a) a (min (g % 256) (getD u (portNumber j p) 0))) allowance-at (sym (getD-drop 120 w j 0))
-
-either : (a b : Bool) → (a || b) ≡ true → (a ≡ true) ⊎ (b ≡ true)
-either true b e = inl refl
-either false b e = inr e
+  pub below-int : interconnects ≤ x → x < empty → f (x - interconnects) ≡ belowOn f x l o
+  below-int h k = sym (passed _ _ _ (le-ltb x interconnects h) ∙ picked _ _ _ (lt-ltb _ _ k))
 
 neither : (a b : Bool) → (a || b) ≡ false → (a ≡ false) × (b ≡ false)
 neither true b e = clash cc
@@ -69,10 +71,72 @@ within m j e =
     let d = eqb-false m 0 (h .0) in
     (omega arith, omega (arith, ltb-false 14 j (h .1)))
 
--- port p, allowance a and number x are those of the turn of interconnect j and of what its port carries
-record Read (t : Tree) (s : State) (j p a x : ℕ) : Type 0 where
-  port : p ≡ turnPort t s j
-  allowance : a ≡ turnAllowance t s j
+-- the steps of the choice on any arrays
+module _ (n w u v l o : List ℕ) where
+  -- the choice over one level less
+  abbrev pub lowerChoice : ℕ → ℕ → Choice
+  lowerChoice m k = chooseOn (m - 1) n w u v k l o
+
+  pub on-none : (m j : ℕ) → (eqb m 0 || ltb 14 j) ≡ true → choice 255 l o ≡ chooseOn m n w u v j l o
+  unfolding chooseOn
+  on-none zero j e = refl
+  on-none (suc m) j e = sym (picked _ _ _ (sym (ap (λ (b : Bool). b || ltb 14 j) (ne-eqb (suc m) 0 (λ i. omega arith))) ∙ e))
+
+  -- a turn x of interconnect j, whose port carries y
+  onward : (m j : ℕ) → Turn → ℕ → Choice
+  onward m j x y = takenOn j x (belowOn (lowerChoice m) y l o)
+
+  on-step : (m j : ℕ) → 0 < m → j < 15
+      → onward m j (turnAt n w u v l o j) (carriedAt w j (turnAt n w u v l o j .port)) ≡ chooseOn m n w u v j l o
+  unfolding chooseOn onward
+  on-step zero j d h = absurd (omega arith)
+  on-step (suc m) j d h =
+      let x = turnAt n w u v l o j in
+      let e : suc m - 1 ≡ m = omega arith in
+      ap (λ (i : ℕ). takenOn j x (belowOn (λ k. chooseOn i n w u v k l o) (carriedAt w j (x .port)) l o)) e
+      ∙ sym (passed _ _ _ (le-ltb 14 j (omega arith)))
+
+  on-turn : (m j : ℕ) → 0 < m → j < 15 → (x : Turn) (y : ℕ) → x ≡ turnAt n w u v l o j → y ≡ carriedAt w j (x .port)
+      → (c : Choice) → c ≡ belowOn (lowerChoice m) y l o → takenOn j x c ≡ chooseOn m n w u v j l o
+  unfolding onward
+  on-turn m j d h x y e f c q =
+      ap (takenOn j x) q ∙ ap (onward m j x) f ∙ ap (λ (z : Turn). onward m j z (carriedAt w j (z .port))) e ∙ on-step m j d h
+
+-- the turn x of interconnect j is read from the array r, the choice goes on by what its port carries and leaves r₁, and the
+-- turn is stored there
+pub on-stored : (n w u r : List ℕ) (m j g : ℕ) → (0 < m) × (j < 15) → g ≡ min 255 (getD w (120 + j) 0) → (x : Turn) (y : ℕ)
+    → x ≡ turnRead n u r j g → y ≡ carriedAt w j (x .port)
+    → (r₁ r₂ : List ℕ) (a : ℕ)
+    → choice a (lasts r₁) (allowances r₁)
+    ≡ belowOn (lowerChoice n w u (lives r) (lasts r) (allowances r) m) y (lasts r) (allowances r)
+    → lives r₁ ≡ lives r → r₂ ≡ set (set r₁ j (x .port)) (15 + j) (x .allowance - 1)
+    → (choice a (lasts r₂) (allowances r₂) ≡ chooseOn m n w u (lives r) j (lasts r) (allowances r)) × (lives r₂ ≡ lives r)
+on-stored n w u r m j g h i x y e f r₁ r₂ a q k s = (
+  turn-stored r₂ r₁ j x a (h .1) s
+      ∙ on-turn n w u (lives r) (lasts r) (allowances r) m j (h .0) (h .1) x y (e ∙ turn-parts n w u r j g (h .1) i) f _ q,
+  ap lives s ∙ turn-lives r₁ j _ _ (h .1) ∙ k,
+)
+
+-- the arrays of a run at state s of configuration t, which keep their rules: the table n of next ports, the configuration's
+-- table w, what waits under each port u, the live ports v, the last ports l and the allowances o
+pub record Matches (t : Tree) (s : State) (n w u v l o : List ℕ) : Type 0 where
+  pub rules : keeps t s ≡ true
+  pub next : NextPorts n
+  pub table : TableOf t w
+  pub counts : Counted t (waitingOf s) u v
+  pub last : l ≡ s .last
+  pub allowance : o ≡ s .allowance
+
+-- from interconnect j, over at most n levels, the choice of the definitions comes to c
+pub record Chosen (t : Tree) (s : State) (n j : ℕ) (c : Choice) : Type 0 where
+  pub served : c .served ≡ who n t s j
+  pub last : c .last ≡ after n t s j .last
+  pub allowance : c .allowance ≡ after n t s j .allowance
+
+-- z and number x are the turn of interconnect j and of what its port carries
+record Read (t : Tree) (s : State) (j : ℕ) (z : Turn) (x : ℕ) : Type 0 where
+  port : z .port ≡ turnPort t s j
+  allowance : z .allowance ≡ turnAllowance t s j
   carried : x ≡ carriedNumber (portOf t j (turnPort t s j))
 
 -- a port carries an interconnect with something waiting inside, and its number tells which
@@ -81,136 +145,135 @@ record Lower (t : Tree) (s : State) (P : Port) : Type 0 where
   carries : P ≡ Int int
   used : int < t .ints
   waits : 0 < inside 4 t (waitingOf s) int
-  number : (carriedNumber P - 256) % 256 ≡ int
+  number : carriedNumber P ≡ int + interconnects
 
--- the number of an accelerator is below 256
-own : (n : ℕ) (t : Tree) (s : State) (P : Port) → carriedNumber P < 256
+-- the number of an accelerator is below those of the interconnects
+own : (n : ℕ) (t : Tree) (s : State) (P : Port) → carriedNumber P < interconnects
     → (carriedNumber P ≡ reached (who n t s) P) × (s ≡ turned s (after n t s) P)
 own n t s Empty h = absurd (omega arith)
 own n t s (Acc a) h = (refl, refl)
 own n t s (Int k) h = absurd (omega arith)
 
 -- the turn of interconnect j is taken in what the way down has left
-module _ {t : Tree} {s : State} {m j p a x r : ℕ} {l o l′ o′ : List ℕ} where
-  taken : 0 < m → Read t s j p a x
-      → r ≡ reached (who (m - 1) t s) (portOf t j (turnPort t s j))
-      → l ≡ turned s (after (m - 1) t s) (portOf t j (turnPort t s j)) .last
-      → o ≡ turned s (after (m - 1) t s) (portOf t j (turnPort t s j)) .allowance
-      → l′ ≡ set l j p → o′ ≡ set o j (a - 1) → Chosen t s m j r l′ o′
-  taken b R q x y z w =
-      let d : m ≡ 0 → ⊥ = λ i. omega arith in
-      record {
-        served = q ∙ who-step m t s j d;
-        last = z ∙ ap₂ (λ (k : List ℕ) (i : ℕ). set k j i) x (R .port)
-            ∙ ap (λ (k : State). k .last) (after-step m t s j d);
-        allowance = w ∙ ap₂ (λ (k : List ℕ) (i : ℕ). set k j (i - 1)) y (R .allowance)
-            ∙ ap (λ (k : State). k .allowance) (after-step m t s j d);
-      }
+taken : (t : Tree) (s : State) (m j : ℕ) (z : Turn) (x : ℕ) (c : Choice) → 0 < m → Read t s j z x
+    → c .served ≡ reached (who (m - 1) t s) (portOf t j (turnPort t s j))
+    → c .last ≡ turned s (after (m - 1) t s) (portOf t j (turnPort t s j)) .last
+    → c .allowance ≡ turned s (after (m - 1) t s) (portOf t j (turnPort t s j)) .allowance
+    → Chosen t s m j (takenOn j z c)
+taken t s m j z x c b R q e f =
+    let d : m ≡ 0 → ⊥ = λ i. omega arith in
+    record {
+      served = q ∙ who-step m t s j d;
+      last = ap₂ (λ (k : List ℕ) (i : ℕ). set k j i) e (R .port) ∙ ap (λ (k : State). k .last) (after-step m t s j d);
+      allowance = ap₂ (λ (k : List ℕ) (i : ℕ). set k j (i - 1)) f (R .allowance) ∙ ap (λ (k : State). k .allowance) (after-step m t s j d);
+    }
 
-module _ (t : Tree) (s : State) (n c g u v l o : List ℕ) (B : Board t s n c g u v l o) (j : ℕ) (h : j < t .ints)
-    (w : 0 < inside 4 t (waitingOf s) j) where
+module _ (t : Tree) (s : State) (n w u v l o : List ℕ) (M : Matches t s n w u v l o) where
   S : Sound t
-  S = sound-of t s (B .rules)
+  S = sound-of t s (M .rules)
 
   K : Kept t s
-  K = kept-of t s (B .rules)
+  K = kept-of t s (M .rules)
 
-  T : Turn t s j
-  T = turn t S s K j h w
+  module _ (j : ℕ) (h : j < t .ints) (i : 0 < inside 4 t (waitingOf s) j) where
+    T : Descent.Turn t s j
+    T = Descent.turn t S s K j h i
 
-  last-same : getD l j 0 ≡ lastOf s j
-  last-same = ap (λ (x : List ℕ). getD x j 0) (B .last)
+    lj : j < 15
+    lj = omega (arith, S .most-ints)
 
-  allowance-same : getD o j 0 ≡ allowanceOf s j
-  allowance-same = ap (λ (x : List ℕ). getD x j 0) (B .allowance)
+    last-same : getD l j 0 ≡ lastOf s j
+    last-same = ap (λ (x : List ℕ). getD x j 0) (M .last)
 
-  -- the table's entry is the next port
-  next-same : getD n (getD v j 0 * 8 + getD l j 0 % 8) 0 ≡ nextPort (liveSet t s j) (lastOf s j)
-  next-same =
-      let e : getD v j 0 ≡ liveSet t s j = B .counts .live j h in
-      let b = K .last j h in
-      ap (λ (i : ℕ). getD n i 0) {y = liveSet t s j * 8 + lastOf s j} (omega (arith, last-same, e))
-      ∙ B .table .entry (liveSet t s j) (lastOf s j) (bits-bound 8 _) b
+    allowance-same : getD o j 0 ≡ allowanceOf s j
+    allowance-same = ap (λ (x : List ℕ). getD x j 0) (M .allowance)
 
-  port-from : portFrom n v l o j ≡ turnPort t s j
-  unfolding turnPort
-  port-from =
-      ap (λ (a : ℕ). pick (ltb 0 a) (getD l j 0) (getD n (getD v j 0 * 8 + getD l j 0 % 8) 0)) allowance-same
-      ∙ ap₂ (λ (x y : ℕ). pick (goesOn s j) x y) last-same next-same
+    -- the entry in the table of next ports is the next port
+    next-same : getD n (getD v j 0 * 8 + getD l j 0 % 8) 0 ≡ nextPort (liveSet t s j) (lastOf s j)
+    next-same =
+        let e : getD v j 0 ≡ liveSet t s j = M .counts .live j h in
+        let b = K .last j h in
+        ap (λ (k : ℕ). getD n k 0) {y = liveSet t s j * 8 + lastOf s j} (omega (arith, last-same, e))
+        ∙ M .next .entry (liveSet t s j) (lastOf s j) (bits-bound 8 _) b
 
-  granted-same : getD g j 0 % 256 ≡ granularityOf t j
-  granted-same = omega (arith, B .ports .granted j (omega (arith, S .most-ints)), S .granularity j h .1)
+    port-from : turnAt n w u v l o j .port ≡ turnPort t s j
+    unfolding turnPort
+    port-from =
+        ap (λ (a : ℕ). pick (ltb 0 a) (getD l j 0) (getD n (getD v j 0 * 8 + getD l j 0 % 8) 0)) allowance-same
+        ∙ ap₂ (λ (x y : ℕ). pick (goesOn s j) x y) last-same next-same
 
-  allowance-from : allowanceFrom g u o j (turnPort t s j) ≡ turnAllowance t s j
-  unfolding turnAllowance
-  allowance-from =
-      ap (λ (a : ℕ). pick (ltb 0 a) a (min (getD g j 0 % 256) (getD u (portNumber j (turnPort t s j)) 0))) allowance-same
-      ∙ ap₂ (λ (x y : ℕ). pick (goesOn s j) (allowanceOf s j) (min x y)) granted-same
-      (B .counts .count j (turnPort t s j) h (T .port))
+    granularity-same : min 255 (getD (granularities w) j 0) ≡ granularityOf t j
+    granularity-same = omega (arith, M .table .granularity j lj, S .granularity j h .1)
 
-  read : {p a x : ℕ} → p ≡ portFrom n v l o j → (portNumber j p < 120 → a ≡ allowanceFrom g u o j p)
-      → (portNumber j p < 120 → x ≡ getD c (portNumber j p) 0) → Read t s j p a x
-  read {p} e f q =
-      let i = e ∙ port-from in
-      let b : portNumber j p < 120 = omega (arith, i, T .port, S .most-ints) in
-      record {
-        port = i;
-        allowance = f b ∙ ap (allowanceFrom g u o j) i ∙ allowance-from;
-        carried = q b ∙ ap (λ (k : ℕ). getD c (portNumber j k) 0) i
-            ∙ B .ports .carried j (turnPort t s j) (omega (arith, S .most-ints)) (T .port);
-      }
+    -- the allowance of the turn, were its port p
+    abbrev allowanceBy : ℕ → ℕ
+    allowanceBy p = pick (ltb 0 (getD o j 0)) (getD o j 0) (min (min 255 (getD (granularities w) j 0)) (countAt u j p))
 
-  lower : 256 ≤ carriedNumber (portOf t j (turnPort t s j)) → Lower t s (portOf t j (turnPort t s j))
-  lower f = at-port t S Q j (turnPort t s j) h (T .port)
-      (λ b d. absurd (omega arith))
-      (λ a la _ _ b d. absurd (omega (arith, S .most-accs)))
-      (λ k z lk e _ b d.
-      record {
-        int = k;
-        carries = refl;
-        used = lk;
-        waits = omega (arith, settled t S 3 (waitingOf s) k lk (omega (arith, child-level t S k j z lk e)));
-        number = omega (arith, S .most-ints);
-      })
-      (omega (arith, T .some, T .covered)) f
-    where
-      Q : Port → Type 0
-      Q P = 0 < under (waitingOf s) (inside 3 t (waitingOf s)) P → 256 ≤ carriedNumber P → Lower t s P
+    allowance-from : allowanceBy (turnPort t s j) ≡ turnAllowance t s j
+    unfolding turnAllowance
+    allowance-from =
+        ap (λ (a : ℕ). pick (ltb 0 a) a (min (min 255 (getD (granularities w) j 0)) (countAt u j (turnPort t s j)))) allowance-same
+        ∙ ap₂ (λ (x y : ℕ). pick (goesOn s j) (allowanceOf s j) (min x y)) granularity-same
+        (passed _ _ _ (le-ltb 7 (turnPort t s j) (omega (arith, T .port))) ∙ M .counts .count j (turnPort t s j) h (T .port))
 
-module _ {n c g u v l o : List ℕ} {m j : ℕ} where
-  -- over no level nobody is reached; there is no interconnect past the fifteenth
-  pub no-level : (eqb m 0 || ltb 14 j) ≡ true → Chooses n c g u v m j l o 255 l o
-  no-level f t s B h w = go (either _ _ f)
-    where
-      go : (eqb m 0 ≡ true) ⊎ (ltb 14 j ≡ true) → Chosen t s m j 255 l o
-      go (inl d) =
-          let e = eqb-true m 0 d in
-          record {
-            served = who-none m t s j e;
-            last = B .last ∙ ap (λ (x : State). x .last) (after-none m t s j e);
-            allowance = B .allowance ∙ ap (λ (x : State). x .allowance) (after-none m t s j e);
-          }
-      go (inr b) = absurd (omega (arith, ltb-true 14 j b, sound-of t s (B .rules) .most-ints))
+    read : Read t s j (turnAt n w u v l o j) (carriedAt w j (turnAt n w u v l o j .port))
+    read = record {
+      port = port-from;
+      allowance = ap allowanceBy port-from ∙ allowance-from;
+      carried = ap (carriedAt w j) port-from ∙ passed _ _ _ (le-ltb 7 (turnPort t s j) (omega (arith, T .port)))
+          ∙ M .table .carried j (turnPort t s j) lj (T .port);
+    }
 
-  module _ {p a x : ℕ} {l′ o′ : List ℕ} (d : 0 < m) (e : p ≡ portFrom n v l o j)
-      (f : portNumber j p < 120 → a ≡ allowanceFrom g u o j p) (q : portNumber j p < 120 → x ≡ getD c (portNumber j p) 0) where
-    -- the port carries an accelerator
-    pub ends : x < 256 → l′ ≡ set l j p → o′ ≡ set o j (a - 1) → Chooses n c g u v m j l o x l′ o′
-    ends b y z t s B h w =
-        let R = read t s n c g u v l o B j h w e f q in
-        let r = own (m - 1) t s (portOf t j (turnPort t s j)) (omega (arith, R .carried)) in
-        taken d R (R .carried ∙ r .0) (B .last ∙ ap (λ (k : State). k .last) (r .1))
-        (B .allowance ∙ ap (λ (k : State). k .allowance) (r .1)) y z
+    lower : interconnects ≤ carriedNumber (portOf t j (turnPort t s j)) → Lower t s (portOf t j (turnPort t s j))
+    lower f = at-port t S Q j (turnPort t s j) h (T .port)
+        (λ b d. absurd (omega arith))
+        (λ a la _ _ b d. absurd (omega (arith, S .most-accs)))
+        (λ k z lk e _ b d.
+        record {
+          int = k;
+          carries = refl;
+          used = lk;
+          waits = omega (arith, settled t S 3 (waitingOf s) k lk (omega (arith, child-level t S k j z lk e)));
+          number = refl;
+        })
+        (omega (arith, T .some, T .covered)) f
+      where
+        Q : Port → Type 0
+        Q P = 0 < under (waitingOf s) (inside 3 t (waitingOf s)) P → interconnects ≤ carriedNumber P → Lower t s P
 
-    -- the port carries an interconnect
-    pub goes-on : 256 ≤ x → {r : ℕ} {l″ o″ : List ℕ} → Chooses n c g u v (m - 1) ((x - 256) % 256) l o r l″ o″
-        → l′ ≡ set l″ j p → o′ ≡ set o″ j (a - 1) → Chooses n c g u v m j l o r l′ o′
-    goes-on b {r} {l″} {o″} below y z t s B h w =
-        let R = read t s n c g u v l o B j h w e f q in
-        let L = lower t s n c g u v l o B j h w (omega (arith, R .carried)) in
-        let i : (x - 256) % 256 ≡ L .int = ap (λ (k : ℕ). (k - 256) % 256) (R .carried) ∙ L .number in
-        let N = subst (λ (k : ℕ). k < t .ints → 0 < inside 4 t (waitingOf s) k → Chosen t s (m - 1) k r l″ o″) i
-        (below t s B) (L .used) (L .waits) in
-        let down = sym (ap (turned s (after (m - 1) t s)) (L .carries)) in
-        taken d R (N .served ∙ sym (ap (reached (who (m - 1) t s)) (L .carries)))
-        (N .last ∙ ap (λ (k : State). k .last) down) (N .allowance ∙ ap (λ (k : State). k .allowance) down) y z
+  -- the choice on a run's arrays is the choice of the definition, from any interconnect with something waiting inside
+  abbrev ChosenFrom : ℕ → ℕ → Type 0
+  ChosenFrom m j = j < t .ints → 0 < inside 4 t (waitingOf s) j → Chosen t s m j (chooseOn m n w u v j l o)
+
+  step : (m j : ℕ) → 0 < m → ((k : ℕ) → ChosenFrom (m - 1) k) → ChosenFrom m j
+  step m j d F h k =
+      let R = read j h k in
+      let turn = turnAt n w u v l o j in
+      let x = carriedAt w j (turn .port) in
+      let f = lowerChoice n w u v l o m in
+      let by : (c : Choice) → c ≡ belowOn f x l o → takenOn j turn c ≡ chooseOn m n w u v j l o =
+      on-turn n w u v l o m j d (lj j h k) turn x refl refl in
+      elim (decLt x interconnects) [
+        | yes b ↦
+            let r = own (m - 1) t s (portOf t j (turnPort t s j)) (omega (arith, R .carried)) in
+            subst (Chosen t s m j) (by (choice x l o) (below-own f x l o b))
+            (taken t s m j _ x (choice x l o) d R (R .carried ∙ r .0) (M .last ∙ ap (λ (i : State). i .last) (r .1))
+            (M .allowance ∙ ap (λ (i : State). i .allowance) (r .1)))
+        | no b ↦
+            let L = lower j h k (omega (arith, R .carried)) in
+            let e : x ≡ L .int + interconnects = R .carried ∙ L .number in
+            let i : x - interconnects ≡ L .int = omega arith in
+            let N = F (L .int) (L .used) (L .waits) in
+            let down = sym (ap (turned s (after (m - 1) t s)) (L .carries)) in
+            subst (Chosen t s m j)
+            (by (f (L .int)) (ap f (sym i) ∙ below-int f x l o (omega arith) (omega (arith, L .used, S .most-ints))))
+            (taken t s m j _ x (f (L .int)) d R (N .served ∙ sym (ap (reached (who (m - 1) t s)) (L .carries)))
+            (N .last ∙ ap (λ (y : State). y .last) down) (N .allowance ∙ ap (λ (y : State). y .allowance) down))
+      ]
+
+  pub chooses : (m j : ℕ) → ChosenFrom m j
+  unfolding chooseOn who after
+  chooses zero j h k = record { served = refl; last = M .last; allowance = M .allowance }
+  chooses (suc m) j h k =
+      let e : suc m - 1 ≡ m = omega arith in
+      step (suc m) j (omega arith) (subst (λ (i : ℕ). (k : ℕ) → ChosenFrom i k) (sym e) (chooses m)) h k

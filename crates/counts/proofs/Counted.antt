@@ -1,15 +1,15 @@
 -- The counts stay the counts when they are brought up to date along one path: a path crosses an interconnect at most once,
 -- so each entry is changed at most once, and where it is, the weight beneath that port changed by as much.
-use Prim.Native.Nat.{ℕ, zero, suc, _+_, _*_, _-_, _%_, _^_, _≤_, _<_}
+use Prim.Native.Nat.{ℕ, zero, suc, _+_, _*_, _-_, _%_, _^_, _≤_, _<_, min}
 use mathlib.Core.Bool.{Bool, true, false}
 use mathlib.Core.List.{List, [], _∷_}
 use mathlib.Core.Logic.{_↔_}
 use mathlib.Core.Path.{_≡_, refl, sym, _∙_, ap, ap₂, subst, subst₂, fun-ext}
 use native.Mathlib.Decide.{decLt, ℕ-discrete}
-use native.Mathlib.Nat.{zero-div, suc-mul}
+use native.Mathlib.Nat.{zero-div}
 use native.Mathlib.Omega.{arith}
 use lib.Dec.{ltb, eqb}
-use lib.ListN.{getD, replicate, length-replicate, getD-replicate}
+use lib.ListN.{getD, length, replicate, length-replicate, getD-replicate}
 use borrow.Author.Tests.{ltb-false, lt-ltb, le-ltb, ne-eqb}
 use Rattle.model.specs.declared.Tree.{Tree}
 use Rattle.folds.specs.Fold.{pick, sum}
@@ -21,10 +21,19 @@ use Rattle.rules.proofs.Beneath.{only, On, there, lane, at-port, port-le, insid
 use Rattle.turns.specs.Turns.{bitsBelow, hasPort}
 use Rattle.turns.proofs.Next.{bit-of}
 use Rattle.turns.proofs.Steps.{index-set}
-use Rattle.counts.specs.Wiring.{portNumber, Lanes}
-use Rattle.counts.specs.Counts.{Counted, up, withPort, raised, opened, lowered, closed}
+use Rattle.counts.specs.Table.{portNumber, parentPorts}
+use Rattle.counts.specs.Counts.{up, pathPorts, withPort, raised, opened, lowered, closed}
+use Rattle.counts.proofs.Table.{TableOf}
 use Rattle.counts.proofs.Steps.{up-root, up-next}
 use Rattle.counts.proofs.Changed.{numbers, changed, changed-size, Apart, changed-at, own, shuts, raised-changed, lowered-changed, Ported, opened-changed, closed-changed}
+
+-- u has the sum of the weight w beneath each port of t, and v the set of the ports of each interconnect beneath which it is
+-- above 0; with what waits for the weight: the number waiting under each port, and the live ports
+pub record Counted (t : Tree) (w : ℕ → ℕ) (u v : List ℕ) : Type 0 where
+  pub counts-size : length u ≡ 120
+  pub sets-size : length v ≡ 15
+  pub count : (j p : ℕ) → j < t .ints → p < 8 → getD u (portNumber j p) 0 ≡ weightUnder t w j p
+  pub live : (j : ℕ) → j < t .ints → getD v j 0 ≡ bitsBelow 8 (λ p. ltb 0 (weightUnder t w j p))
 
 bits-cong : (n : ℕ) (f g : ℕ → Bool) → ((p : ℕ) → p < n → f p ≡ g p) → bitsBelow n f ≡ bitsBelow n g
 unfolding bitsBelow
@@ -68,16 +77,16 @@ module _ (t : Tree) (S : Sound t) where
   lit w j p = ltb 0 (weightUnder t w j p)
 
   -- four levels are enough to come up to the root
-  up-lane : (u h : List ℕ) → Lanes t u h → (k q : ℕ) → k < t .ints → (n : ℕ) → q < 8 → levelOf t k ≤ n
-      → up n u (portNumber k q) ≡ numbers (lane t k q)
-  up-lane u h L = rising t S _ (λ k q l ih n b v. let m = S .most-ints in elim (decLt 0 k) [
+  up-lane : (g : List ℕ) → TableOf t g → (k q : ℕ) → k < t .ints → (n : ℕ) → q < 8 → levelOf t k ≤ n
+      → up n (parentPorts g) (portNumber k q) ≡ numbers (lane t k q)
+  up-lane g T = rising t S _ (λ k q l ih n b v. let m = S .most-ints in elim (decLt 0 k) [
     | yes z ↦
-        up-next n u (portNumber k q) _ (omega arith) (omega arith) (omega arith)
-        (sym (ap (λ i. getD u i 0) (index-set k q b) ∙ L .above k (omega arith)))
+        up-next n (parentPorts g) (portNumber k q) _ (omega arith) (omega arith) (omega arith)
+        (sym (ap (λ i. getD (parentPorts g) i 0) (index-set k q b) ∙ T .parent k (omega arith)))
         ∙ ap (λ r. portNumber k q ∷ r)
         (ih z (n - 1) (S .parent-port k z l) (omega (arith, level-step t S k z l)) ∙ sym (ap numbers (above-step t S k z l)))
     | no f ↦
-        up-root n u (portNumber k q) (omega arith) (omega arith) (omega arith)
+        up-root n (parentPorts g) (portNumber k q) (omega arith) (omega arith) (omega arith)
         ∙ ap (λ r. portNumber k q ∷ numbers r) (sym (ap (above 15 t) {y = 0} (omega arith) ∙ above-root t S))
   ])
 
@@ -93,10 +102,10 @@ module _ (t : Tree) (S : Sound t) where
   ))
 
   module _ (a : ℕ) (la : a < t .accs) where
-    up-path : (u h : List ℕ) → Lanes t u h → up 4 u (getD h a 0) ≡ numbers (path t a)
-    up-path u h L =
-        ap (up 4 u) (L .home a (omega (arith, S .most-accs)))
-        ∙ up-lane u h L (homeOf t a) (homePortOf t a) (S .home a la) 4 (S .home-port a la)
+    up-path : (g : List ℕ) → TableOf t g → pathPorts g a ≡ numbers (path t a)
+    up-path g T =
+        ap (up 4 (parentPorts g)) (T .own a (omega (arith, S .most-accs)))
+        ∙ up-lane g T (homeOf t a) (homePortOf t a) (S .home a la) 4 (S .home-port a la)
         (S .level (homeOf t a) (S .home a la))
 
     ported : Ported (path t a)
@@ -144,37 +153,27 @@ module _ (t : Tree) (S : Sound t) where
                 (ap (g i q) (C .live i (path-bounds t S a la i q o .0)) ∙ on-g i q o));
           }
 
-    -- n more at the accelerator are n times one more
-    more-weight : (j p x : ℕ) → ((w : ℕ → ℕ) → weightUnder t (λ b. w b + only a b) j p ≡ weightUnder t w j p + x)
-        → (n : ℕ) (w : ℕ → ℕ) → weightUnder t (λ b. w b + n * only a b) j p ≡ weightUnder t w j p + n * x
-    more-weight j p x h zero w = ap (λ f. weightUnder t f j p) {y = w} (fun-ext (λ b. omega arith)) ∙ omega arith
-    more-weight j p x h (suc n) w =
-        ap (λ f. weightUnder t f j p) {y = λ b. w b + n * only a b + only a b}
-        (fun-ext (λ b. omega (arith, suc-mul n (only a b))))
-        ∙ omega (arith, h (λ b. w b + n * only a b), more-weight j p x h n w, suc-mul n x)
-
-  -- n more at accelerator a: brought up to date along its path
-  pub counted-more : (u h : List ℕ) → Lanes t u h → (a : ℕ) → a < t .accs → (w w′ : ℕ → ℕ) (n : ℕ) → 0 < n
-      → ((b : ℕ) → w′ b ≡ w b + n * only a b)
+  -- one more at accelerator a: brought up to date along its path
+  pub counted-more : (g : List ℕ) → TableOf t g → (a : ℕ) → a < t .accs → (w w′ : ℕ → ℕ)
+      → ((b : ℕ) → w′ b ≡ w b + only a b)
       → ((j p : ℕ) → j < t .ints → p < 8 → weightUnder t w′ j p < 65536)
       → (c v : List ℕ) → Counted t w c v
-      → Counted t w′ (raised (up 4 u (getD h a 0)) n c) (opened (up 4 u (getD h a 0)) v)
-  counted-more u h L a la w w′ n z e small c v C =
-      subst (λ l. Counted t w′ (raised l n c) (opened l v)) (sym (up-path a la u h L))
-      (subst₂ (Counted t w′) (sym (raised-changed n (path t a) c)) (sym (opened-changed (path t a) (ported a la) v))
+      → Counted t w′ (raised (pathPorts g a) c) (opened (pathPorts g a) v)
+  counted-more g T a la w w′ e small c v C =
+      subst (λ l. Counted t w′ (raised l c) (opened l v)) (sym (up-path a la g T))
+      (subst₂ (Counted t w′) (sym (raised-changed (path t a) c)) (sym (opened-changed (path t a) (ported a la) v))
       (counted-along a la w w′ off _ _ count-on set-on c v C))
     where
-      same : (j p : ℕ) → weightUnder t w′ j p ≡ weightUnder t (λ b. w b + n * only a b) j p
+      same : (j p : ℕ) → weightUnder t w′ j p ≡ weightUnder t (λ b. w b + only a b) j p
       same j p = ap (λ f. weightUnder t f j p) (fun-ext e)
 
-      on : (j p : ℕ) → On j p (path t a) → weightUnder t w′ j p ≡ weightUnder t w j p + n
-      on j p o = omega (arith, same j p, more-weight a la j p 1 (λ x. omega (arith, weight-on t S a la x j p o)) n w)
+      on : (j p : ℕ) → On j p (path t a) → weightUnder t w′ j p ≡ suc (weightUnder t w j p)
+      on j p o = same j p ∙ weight-on t S a la w j p o
 
       off : OffPath a la w w′
-      off j p l b d =
-          omega (arith, same j p, more-weight a la j p 0 (λ x. omega (arith, weight-off t S a la x j p l b d)) n w)
+      off j p l b d = sym (same j p ∙ weight-off t S a la w j p l b d)
 
-      count-on : (j p : ℕ) → On j p (path t a) → (weightUnder t w j p + n) % 65536 ≡ weightUnder t w′ j p
+      count-on : (j p : ℕ) → On j p (path t a) → min 65535 (weightUnder t w j p + 1) ≡ weightUnder t w′ j p
       count-on j p o = let b = path-bounds t S a la j p o in omega (arith, on j p o, small j p (b .0) (b .1))
 
       set-on : (j p : ℕ) → On j p (path t a) → withPort (bitsBelow 8 (lit w j)) p ≡ bitsBelow 8 (lit w′ j)
@@ -185,12 +184,12 @@ module _ (t : Tree) (S : Sound t) where
           ∙ ap (λ k. s + pick k (2 ^ p) 0) (lt-ltb 0 (weightUnder t w′ j p) (omega (arith, on j p o))))
 
   -- one less at accelerator a
-  pub counted-less : (u h : List ℕ) → Lanes t u h → (a : ℕ) → a < t .accs → (w w′ : ℕ → ℕ)
+  pub counted-less : (g : List ℕ) → TableOf t g → (a : ℕ) → a < t .accs → (w w′ : ℕ → ℕ)
       → ((b : ℕ) → w b ≡ w′ b + only a b)
       → (c v : List ℕ) → Counted t w c v
-      → Counted t w′ (lowered (up 4 u (getD h a 0)) c) (closed (up 4 u (getD h a 0)) c v)
-  counted-less u h L a la w w′ e c v C =
-      subst (λ l. Counted t w′ (lowered l c) (closed l c v)) (sym (up-path a la u h L))
+      → Counted t w′ (lowered (pathPorts g a) c) (closed (pathPorts g a) c v)
+  counted-less g T a la w w′ e c v C =
+      subst (λ l. Counted t w′ (lowered l c) (closed l c v)) (sym (up-path a la g T))
       (subst₂ (Counted t w′) (sym (lowered-changed (path t a) c))
       (sym (closed-changed (weightUnder t w) (path t a) (ported a la) (ports-apart a la) c v
       (λ j p o. let b = path-bounds t S a la j p o in C .count j p (b .0) (b .1))))

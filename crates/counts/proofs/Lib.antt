@@ -1,4 +1,5 @@
 pub mod Steps
-pub mod Choosing
+pub mod Table
 pub mod Changed
 pub mod Counted
+pub mod Choosing

@@ -1,38 +1,64 @@
 -- The choice of a slot, from the kept counts.
 --
--- Board t s n c g u v l o   the arrays of a run at state s of configuration t, which keep their rules: the table n of next
---                       ports, what the ports carry c, the granularities g, what waits under each port u, the live ports
---                       v, the last ports l and the allowances o
--- Chosen t s n j r l o  from interconnect j, over at most n levels, the choice comes to r, and the last ports l and the
---                       allowances o are those after it
--- Chooses n c g u v m j l o r l′ o′   on whatever configuration and state these are the arrays of, where something waits
---                       inside interconnect j, the choice from j over at most m levels comes to r, l′ and o′
-use Prim.Native.Nat.{ℕ, _<_}
-use mathlib.Core.Bool.{true}
+-- countAt u j p         what waits under port p of interconnect j, by the counts u; nothing under a port past the eighth
+-- carriedAt w j p       what that port carries, by the table w; a port past the eighth is empty
+-- portOn n v l o        the port whose turn it is, of live ports v, last port l and allowance o, by the table n of next ports
+-- turnOn n u j g v l o  the turn of interconnect j of granularity g, live ports v, last port l and allowance o, its port
+--                       and its allowance
+-- turnAt n w u v l o j  the same, by the arrays of a run
+-- Choice                who is served, 255 for nobody, and the last ports and the allowances then; choice r l o: these three
+-- choiceIn a r          who is served is a, and the last ports and the allowances are those in the array r of turns
+-- takenOn j x c         c with the turn x taken at interconnect j
+-- belowOn f x l o       what a port leads to that carries x: an accelerator, by f an interconnect; an empty one leads nowhere
+-- chooseOn m n w u v j l o   the choice from interconnect j over at most m levels, on any arrays; chooseIn m n w u j r: the same,
+--                       where the live ports v, the last ports l and the allowances o are those in the array r of turns
+use Prim.Native.Nat.{ℕ, zero, suc, _+_, _*_, _-_, _%_, min}
 use mathlib.Core.List.{List}
-use mathlib.Core.Path.{_≡_}
-use Rattle.model.specs.declared.Tree.{Tree}
-use Rattle.model.specs.declared.State.{State}
-use Rattle.model.specs.Tree.{waitingOf}
-use Rattle.model.specs.Beneath.{inside}
-use Rattle.rules.specs.Rules.{keeps}
-use Rattle.turns.specs.Turns.{NextPorts, who, after}
-use Rattle.counts.specs.Wiring.{Ports}
-use Rattle.counts.specs.Counts.{Counted}
+use lib.Dec.{ltb}
+use lib.ListN.{getD, set}
+use Rattle.folds.specs.Fold.{pick}
+use Rattle.turns.specs.declared.Turn.{Turn}
+use Rattle.counts.specs.Table.{portNumber, interconnects, empty, granularities}
+use Rattle.counts.specs.Counts.{lasts, allowances, lives}
 
-pub record Board (t : Tree) (s : State) (n c g u v l o : List ℕ) : Type 0 where
-  pub rules : keeps t s ≡ true
-  pub table : NextPorts n
-  pub ports : Ports t c g
-  pub counts : Counted t (waitingOf s) u v
-  pub last : l ≡ s .last
-  pub allowance : o ≡ s .allowance
+abbrev pub countAt : List ℕ → ℕ → ℕ → ℕ
+countAt u j p = pick (ltb 7 p) 0 (getD u (portNumber j p) 0)
 
-pub record Chosen (t : Tree) (s : State) (n j r : ℕ) (l o : List ℕ) : Type 0 where
-  pub served : r ≡ who n t s j
-  pub last : l ≡ after n t s j .last
-  pub allowance : o ≡ after n t s j .allowance
+abbrev pub carriedAt : List ℕ → ℕ → ℕ → ℕ
+carriedAt w j p = pick (ltb 7 p) empty (getD w (portNumber j p) 0)
 
-abbrev pub Chooses : (n c g u v : List ℕ) (m j : ℕ) (l o : List ℕ) (r : ℕ) (l′ o′ : List ℕ) → Type 0
-Chooses n c g u v m j l o r l′ o′ =
-    (t : Tree) (s : State) → Board t s n c g u v l o → j < t .ints → 0 < inside 4 t (waitingOf s) j → Chosen t s m j r l′ o′
+abbrev pub portOn : (n : List ℕ) (v l o : ℕ) → ℕ
+portOn n v l o = pick (ltb 0 o) l (getD n (v * 8 + l % 8) 0)
+
+abbrev pub turnOn : (n u : List ℕ) (j g v l o : ℕ) → Turn
+turnOn n u j g v l o = record { port = portOn n v l o; allowance = pick (ltb 0 o) o (min g (countAt u j (portOn n v l o))) }
+
+abbrev pub turnAt : (n w u v l o : List ℕ) (j : ℕ) → Turn
+turnAt n w u v l o j = turnOn n u j (min 255 (getD (granularities w) j 0)) (getD v j 0) (getD l j 0) (getD o j 0)
+
+pub record Choice : Type 0 where
+  pub served : ℕ
+  pub last : List ℕ
+  pub allowance : List ℕ
+
+abbrev pub choice : ℕ → List ℕ → List ℕ → Choice
+choice r l o = record { served = r; last = l; allowance = o }
+
+abbrev pub choiceIn : ℕ → List ℕ → Choice
+choiceIn a r = choice a (lasts r) (allowances r)
+
+abbrev pub takenOn : ℕ → Turn → Choice → Choice
+takenOn j x c = choice (c .served) (set (c .last) j (x .port)) (set (c .allowance) j (x .allowance - 1))
+
+abbrev pub belowOn : (ℕ → Choice) → ℕ → (l o : List ℕ) → Choice
+belowOn f x l o = pick (ltb x interconnects) (choice x l o) (pick (ltb x empty) (f (x - interconnects)) (choice 255 l o))
+
+unfoldable pub chooseOn : ℕ → (n w u v : List ℕ) → ℕ → (l o : List ℕ) → Choice
+chooseOn zero n w u v j l o = choice 255 l o
+chooseOn (suc m) n w u v j l o =
+    pick (ltb 14 j) (choice 255 l o)
+    (takenOn j (turnAt n w u v l o j)
+    (belowOn (λ k. chooseOn m n w u v k l o) (carriedAt w j (turnAt n w u v l o j .port)) l o))
+
+abbrev pub chooseIn : ℕ → (n w u : List ℕ) → ℕ → List ℕ → Choice
+chooseIn m n w u j r = chooseOn m n w u (lives r) j (lasts r) (allowances r)

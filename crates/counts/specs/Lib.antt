@@ -1,3 +1,3 @@
-pub mod Wiring
+pub mod Table
 pub mod Counts
 pub mod Choice

@@ -1,12 +1,13 @@
 // The counts and the live ports brought up to date along a path, from a port up to the root.
-use crate::ABOVE;
 use crate::LIVE;
+use crate::PARENT_PORT;
+use rules::less_one;
 ghost use mathlib.Core.Path.{_≡_};
-ghost use Prim.Native.Nat.{_+_, _%_, _-_};
+ghost use Prim.Native.Nat.{_+_, _%_, _-_, min};
 ghost use lib.Dec.{eqb};
 ghost use Rattle.folds.specs.Fold.{pick};
 ghost use lib.ListN.{take};
-ghost use Rattle.counts.specs.Wiring.{aboves};
+ghost use Rattle.counts.specs.Table.{parentPorts};
 ghost use Rattle.counts.specs.Counts.{lives, up, withPort, withoutPort, raised, opened, lowered, closed};
 
 // The set with port p in it.
@@ -26,21 +27,21 @@ fn if_waiting(set: u8, p: u8, waiting: u16) -> u8
     set
 }
 
-// One less, 0 for 0.
-fn less_one(n: u16) -> u16
-    ensures { λ r. ⌜ r ≡ n - 1 ⌝ }
+// The count with one more, at most 65,535.
+fn one_more(waiting: u16) -> u16
+    ensures { λ r. ⌜ r ≡ min 65535 (waiting + 1) ⌝ }
 {
-    if n == 0 {
-        return 0;
+    if waiting == 65535 {
+        return waiting;
     }
-    n - 1
+    waiting + 1
 }
 
-// The count with n more, as 16 bits hold it.
-fn more(waiting: u16, n: u16) -> u16
-    ensures { λ r. ⌜ r ≡ (waiting + n) % 65536 ⌝ }
+// The count with one less, 0 for 0.
+fn one_less(waiting: u16) -> u16
+    ensures { λ r. ⌜ r ≡ waiting - 1 ⌝ }
 {
-    ((waiting as u32 + n as u32) % 65536) as u16
+    less_one(waiting as u32) as u16
 }
 
 // A port's number as an index.
@@ -50,16 +51,10 @@ fn wide(c: u16) -> usize
     c as usize
 }
 
-// n more wait under the ports from `place` up to the root.
-pub fn add_along(
-    wires: &[u16; 246],
-    place: u16,
-    n: u16,
-    under: &mut [u16; 120],
-    turns: &mut [u8; 45],
-)
-    ensures counts { λ _. ⌜ now (under .exit) ≡ raised (up 4 (aboves (now (wires .entry))) place) n (now (under .entry)) ⌝ }
-    ensures sets { λ _. ⌜ lives (now (turns .exit)) ≡ opened (up 4 (aboves (now (wires .entry))) place) (lives (now (turns .entry))) ⌝ }
+// One more waits under the ports from `place` up to the root.
+pub fn add_along(table: &[u16; 246], place: u16, under: &mut [u16; 120], turns: &mut [u8; 45])
+    ensures counts { λ _. ⌜ now (under .exit) ≡ raised (up 4 (parentPorts (now (table .entry))) place) (now (under .entry)) ⌝ }
+    ensures sets { λ _. ⌜ lives (now (turns .exit)) ≡ opened (up 4 (parentPorts (now (table .entry))) place) (lives (now (turns .entry))) ⌝ }
     ensures rest { λ _. ⌜ take 30 (now (turns .exit)) ≡ take 30 (now (turns .entry)) ⌝ }
 {
     let mut c = place as usize;
@@ -69,20 +64,21 @@ pub fn add_along(
             return;
         }
         let j = c / 8;
-        under[c] = more(under[c], n);
+        under[c] = one_more(under[c]);
         turns[LIVE + j] = with_port(turns[LIVE + j], (c % 8) as u8);
         if j == 0 {
             return;
         }
-        c = wide(wires[ABOVE + j]);
+        c = wide(table[PARENT_PORT + j]);
         left -= 1;
     }
 }
 
 // One less waits under the ports from `place` up to the root.
-pub fn take_along(wires: &[u16; 246], place: u16, under: &mut [u16; 120], turns: &mut [u8; 45])
-    ensures counts { λ _. ⌜ now (under .exit) ≡ lowered (up 4 (aboves (now (wires .entry))) place) (now (under .entry)) ⌝ }
-    ensures sets { λ _. ⌜ lives (now (turns .exit)) ≡ closed (up 4 (aboves (now (wires .entry))) place) (now (under .entry)) (lives (now (turns .entry))) ⌝ }
+pub fn take_along(table: &[u16; 246], place: u16, under: &mut [u16; 120], turns: &mut [u8; 45])
+    ensures counts { λ _. ⌜ now (under .exit) ≡ lowered (up 4 (parentPorts (now (table .entry))) place) (now (under .entry)) ⌝ }
+    ensures sets { λ _. ⌜ lives (now (turns .exit))
+        ≡ closed (up 4 (parentPorts (now (table .entry))) place) (now (under .entry)) (lives (now (turns .entry))) ⌝ }
     ensures rest { λ _. ⌜ take 30 (now (turns .exit)) ≡ take 30 (now (turns .entry)) ⌝ }
 {
     let mut c = place as usize;
@@ -92,13 +88,13 @@ pub fn take_along(wires: &[u16; 246], place: u16, under: &mut [u16; 120], turns:
             return;
         }
         let j = c / 8;
-        let waiting = less_one(under[c]);
+        let waiting = one_less(under[c]);
         under[c] = waiting;
         turns[LIVE + j] = if_waiting(turns[LIVE + j], (c % 8) as u8, waiting);
         if j == 0 {
             return;
         }
-        c = wide(wires[ABOVE + j]);
+        c = wide(table[PARENT_PORT + j]);
         left -= 1;
     }
 }

@@ -1,40 +1,49 @@
 // The choice of a slot from the kept counts: no sum is taken anew.
 use crate::ALLOWANCE;
+use crate::EMPTY;
 use crate::GRANULARITY;
+use crate::INTERCONNECTS;
 use crate::LIVE;
 use rules::less_one;
 use turns::Turn;
 use turns::grant;
 use turns::next_in;
 ghost use mathlib.Core.Path.{_≡_};
-ghost use Prim.Native.Nat.{_+_, _*_, _-_, _%_, _<_, min};
-ghost use lib.Dec.{ltb};
-ghost use lib.ListN.{getD, set};
-ghost use Rattle.folds.specs.Fold.{pick};
-ghost use Rattle.counts.specs.Wiring.{portNumber, grants};
-ghost use Rattle.counts.specs.Counts.{lasts, allowances, lives};
-ghost use Rattle.counts.specs.Choice.{Chooses};
+ghost use Prim.Native.Nat.{_+_, _-_, _<_, min};
+ghost use lib.ListN.{set};
+ghost use Rattle.counts.specs.Counts.{lives};
+ghost use Rattle.counts.specs.Choice.{countAt, carriedAt, turnOn, choiceIn, chooseIn};
 
-// What waits under port p of interconnect j; nothing is said of a port past the last one.
+// What waits under port p of interconnect j; nothing under a port past the eighth.
 fn count_at(under: &[u16; 120], j: u8, p: u8) -> u16
-    ensures { λ r. ⌜ (portNumber j p < 120 → r ≡ getD (now (under .entry)) (portNumber j p) 0) ⌝ }
+    requires { ⌜ j < 15 ⌝ }
+    ensures { λ r. ⌜ r ≡ countAt (now (under .entry)) j p ⌝ }
 {
-    let c = j as usize * 8 + p as usize;
-    if c < 120 {
-        return under[c];
+    if 7 < p {
+        return 0;
     }
-    0
+    under[j as usize * 8 + p as usize]
 }
 
-// What port p of interconnect j carries; nothing is said of a port past the last one.
-fn carried_at(wires: &[u16; 246], j: u8, p: u8) -> u16
-    ensures { λ r. ⌜ (portNumber j p < 120 → r ≡ getD (now (wires .entry)) (portNumber j p) 0) ⌝ }
+// What port p of interconnect j carries; a port past the eighth is empty.
+fn carried_at(table: &[u16; 246], j: u8, p: u8) -> u16
+    requires { ⌜ j < 15 ⌝ }
+    ensures { λ r. ⌜ r ≡ carriedAt (now (table .entry)) j p ⌝ }
 {
-    let c = j as usize * 8 + p as usize;
-    if c < 120 {
-        return wires[c];
+    if 7 < p {
+        return EMPTY;
     }
-    0
+    table[j as usize * 8 + p as usize]
+}
+
+// A granularity as a byte, at most 255.
+fn byte_of(granularity: u16) -> u8
+    ensures { λ r. ⌜ r ≡ min 255 granularity ⌝ }
+{
+    if 255 < granularity {
+        return 255;
+    }
+    granularity as u8
 }
 
 // The turn of interconnect j: its last port goes on where its allowance is above 0, else the next live port has it.
@@ -47,8 +56,8 @@ fn turn_of(
     last: u8,
     allowance: u8,
 ) -> Turn
-    ensures port { λ r. ⌜ r .port ≡ pick (ltb 0 allowance) last (getD (now (next .entry)) (set * 8 + last % 8) 0) ⌝ }
-    ensures allowance { λ r. ⌜ (portNumber j (r .port) < 120 → r .allowance ≡ pick (ltb 0 allowance) allowance (min granularity (getD (now (under .entry)) (portNumber j (r .port)) 0))) ⌝ }
+    requires { ⌜ j < 15 ⌝ }
+    ensures { λ r. ⌜ r ≡ turnOn (now (next .entry)) (now (under .entry)) j granularity set last allowance ⌝ }
 {
     if 0 < allowance {
         return Turn {
@@ -73,24 +82,24 @@ fn take_turn(turns: &mut [u8; 45], j: u8, port: u8, left: u8)
     turns[ALLOWANCE + i] = less_one(left as u32) as u8;
 }
 
-// The choice from interconnect j, over at most `levels` levels: the accelerator served, 255 for none. The last ports and
-// the allowances on the way down are brought up to date. Something waits under the port of a turn, so that it is not empty.
+// The choice from interconnect j, over at most `levels` levels: the accelerator served, 255 for none, where an empty port
+// leads. The last ports and the allowances on the way down are brought up to date.
 pub fn choose(
     next: &[u8; 2048],
-    wires: &[u16; 246],
+    table: &[u16; 246],
     under: &[u16; 120],
     levels: u8,
     j: u8,
     turns: &mut [u8; 45],
 ) -> u8
-    ensures chosen { λ r. ⌜ Chooses (now (next .entry)) (now (wires .entry)) (grants (now (wires .entry))) (now (under .entry)) (lives (now (turns .entry))) levels j (lasts (now (turns .entry))) (allowances (now (turns .entry))) r (lasts (now (turns .exit))) (allowances (now (turns .exit))) ⌝ }
+    ensures chosen { λ r. ⌜ choiceIn r (now (turns .exit)) ≡ chooseIn levels (now (next .entry)) (now (table .entry)) (now (under .entry)) j (now (turns .entry)) ⌝ }
     ensures sets { λ r. ⌜ lives (now (turns .exit)) ≡ lives (now (turns .entry)) ⌝ }
 {
     let i = j as usize;
     if (levels == 0) | (14 < i) {
         return 255;
     }
-    let granularity = (wires[GRANULARITY + i] % 256) as u8;
+    let granularity = byte_of(table[GRANULARITY + i]);
     let turn = turn_of(
         next,
         under,
@@ -100,13 +109,17 @@ pub fn choose(
         turns[i],
         turns[ALLOWANCE + i],
     );
-    let carried = carried_at(wires, j, turn.port);
-    if carried < 256 {
+    let carried = carried_at(table, j, turn.port);
+    if carried < INTERCONNECTS {
         take_turn(turns, j, turn.port, turn.allowance);
         return carried as u8;
     }
-    let below = ((carried - 256) % 256) as u8;
-    let served = choose(next, wires, under, levels - 1, below, turns);
+    if EMPTY <= carried {
+        take_turn(turns, j, turn.port, turn.allowance);
+        return 255;
+    }
+    let below = (carried - INTERCONNECTS) as u8;
+    let served = choose(next, table, under, levels - 1, below, turns);
     take_turn(turns, j, turn.port, turn.allowance);
     served
 }

@@ -6,12 +6,17 @@ pub mod along;
 pub mod choice;
 pub mod tables;
 
+// What a port carries, as a number: below this an accelerator,
+pub const INTERCONNECTS: u16 = 256;
+// from there on an interconnect, and nothing from here on.
+pub const EMPTY: u16 = 512;
+
 // In the table of a configuration, after what each port carries: the granularities.
 pub const GRANULARITY: usize = 120;
-// The port above each interconnect.
-pub const ABOVE: usize = 135;
-// The port of each accelerator.
-pub const HOME: usize = 150;
+// The port of its parent that carries each interconnect.
+pub const PARENT_PORT: usize = 135;
+// The port that carries each accelerator.
+pub const OWN_PORT: usize = 150;
 // The outstanding limits.
 pub const LIMIT: usize = 182;
 // The budgets.

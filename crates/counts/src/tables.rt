@@ -1,9 +1,11 @@
-// The wiring of a configuration.
-use crate::ABOVE;
+// The table of a configuration.
 use crate::BUDGET;
+use crate::EMPTY;
 use crate::GRANULARITY;
-use crate::HOME;
+use crate::INTERCONNECTS;
 use crate::LIMIT;
+use crate::OWN_PORT;
+use crate::PARENT_PORT;
 use model::Port;
 use model::Tree;
 use model::access::accelerator_at;
@@ -11,15 +13,15 @@ use model::access::interconnect_at;
 use model::access::port_at;
 ghost use mathlib.Core.Path.{_≡_};
 ghost use Prim.Native.Nat.{_<_};
-ghost use Rattle.counts.specs.Wiring.{portNumber, carriedNumber, wireOf, Wired};
+ghost use Rattle.counts.specs.Table.{portNumber, carriedNumber, entryOf, tableOf};
 
 fn carried_number(port: Port) -> u16
     ensures { λ r. ⌜ r ≡ carriedNumber port ⌝ }
 {
     match port {
-        Port::Empty => 512,
+        Port::Empty => EMPTY,
         Port::Acc(a) => a as u16,
-        Port::Int(k) => k as u16 + 256,
+        Port::Int(k) => k as u16 + INTERCONNECTS,
     }
 }
 
@@ -30,23 +32,23 @@ fn port_number(j: u8, p: u8) -> u16
 }
 
 // Entry n of the table.
-fn wire_at(t: Tree, n: usize) -> u16
+fn entry_at(t: Tree, n: usize) -> u16
     requires { ⌜ n < 246 ⌝ }
-    ensures { λ r. ⌜ r ≡ wireOf t n ⌝ }
+    ensures { λ r. ⌜ r ≡ entryOf t n ⌝ }
 {
     if n < GRANULARITY {
         return carried_number(port_at(t, (n / 8) as u8, (n % 8) as u8));
     }
-    if n < ABOVE {
+    if n < PARENT_PORT {
         let x = interconnect_at(t, (n - GRANULARITY) as u8);
         return x.granularity as u16;
     }
-    if n < HOME {
-        let x = interconnect_at(t, (n - ABOVE) as u8);
+    if n < OWN_PORT {
+        let x = interconnect_at(t, (n - PARENT_PORT) as u8);
         return port_number(x.parent, x.port);
     }
     if n < LIMIT {
-        let x = accelerator_at(t, (n - HOME) as u8);
+        let x = accelerator_at(t, (n - OWN_PORT) as u8);
         return port_number(x.interconnect, x.port);
     }
     if n < BUDGET {
@@ -57,16 +59,16 @@ fn wire_at(t: Tree, n: usize) -> u16
     x.budget
 }
 
-// What a slot reads of the configuration: what each port carries, the granularities, the port above each interconnect and
-// above each accelerator, the outstanding limits and the budgets.
-pub fn wires_of(t: Tree) -> [u16; 246]
-    ensures { λ r. ⌜ Wired t r ⌝ }
+// What a slot reads of the configuration: what each port carries, the granularities, the port that carries each interconnect
+// and each accelerator, the outstanding limits and the budgets.
+pub fn table_of(t: Tree) -> [u16; 246]
+    ensures { λ r. ⌜ r ≡ tableOf t ⌝ }
 {
-    let mut wires = [0u16; 246];
+    let mut table = [0u16; 246];
     let mut n: usize = 0;
     while n < 246 {
-        wires[n] = wire_at(t, n);
+        table[n] = entry_at(t, n);
         n += 1;
     }
-    wires
+    table
 }

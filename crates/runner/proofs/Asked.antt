@@ -15,8 +15,8 @@ use Rattle.trace.specs.declared.Request.{Request}
 use Rattle.trace.specs.TraceFile.{totalFor}
 use Rattle.runner.specs.Offers.{heldOf}
 use Rattle.runner.specs.Run.{hold, isDue, heldWith}
-use Rattle.runner.specs.Slots.{leftFrom, dueBefore}
-use Rattle.runner.proofs.Laws.{test, same-due}
+use Rattle.runner.specs.Slots.{dueBefore}
+use Rattle.runner.proofs.Laws.{test, same-due, leftFrom}
 
 hold-count : (h : List ℕ) (r : Request) (a : ℕ) → a < length h → heldOf (hold h r) a ≡ heldOf h a + pick (eqb a (r .accelerator)) (r .count) 0
 hold-count h r a l = elim (ℕ-discrete a (r .accelerator)) [

@@ -1,48 +1,34 @@
--- Laws of the offers of a run, each by the clauses of the definitions: one more offer of an accelerator, the ends of its
--- offers, that offers keep the rules of the state and take from the held counts alone.
-use Prim.Native.Nat.{ℕ, zero, suc, _+_, _-_, _≤_, _<_}
+-- Laws of the offers of a run, each by the clauses of the definitions: offers leave what they do not name, keep the rules of
+-- the state, and only take from the held counts.
+use Prim.Native.Nat.{ℕ, zero, suc, _-_, _≤_, _<_}
 use mathlib.Core.Bool.{true}
 use mathlib.Core.List.{List}
 use mathlib.Core.Path.{_≡_, refl, sym, _∙_, ap, subst}
 use native.Mathlib.Decide.{decLt, ℕ-discrete}
-use native.Mathlib.Numerals.{add-one}
 use native.Mathlib.Omega.{arith}
 use lib.ListN.{length}
 use lib.Seq.{getD-set-same, getD-set-other, set-out}
+use Rattle.folds.proofs.Folds.{clash}
 use Rattle.model.specs.declared.Tree.{Tree}
 use Rattle.model.specs.declared.State.{State}
 use Rattle.rules.specs.Rules.{keeps}
-use Rattle.machine.specs.Machine.{Answer, admitted, served, idle, refused, offered}
+use Rattle.machine.specs.Machine.{Answer, admitted, served, idle, refused, offered, onAdmitted}
 use Rattle.machine.proofs.Laws.{offer-keeps}
-use Rattle.runner.specs.Offers.{Offering, heldOf, release, onAdmitted, offering, offerHeld, offerAll, offerEach}
-
--- an admission, and a refusal, picks its case
-on-admitted : {A : Type 0} (x : Answer) (y z : A) → x ≡ admitted → onAdmitted x y z ≡ y
-on-admitted x y z e = rw e
-
-on-refused : {A : Type 0} (x : Answer) (n : ℕ) (y z : A) → x ≡ refused n → onAdmitted x y z ≡ z
-on-refused x n y z e = rw e
+use Rattle.runner.specs.Offers.{Offering, heldOf, release, offering, offerHeld, offerEach}
 
 pub release-own : (h : List ℕ) (a : ℕ) → a < length h → heldOf (release h a) a ≡ heldOf h a - 1
 release-own h a l = getD-set-same h a _ 0 l
 
-module _ (t : Tree) (s : State) (h : List ℕ) (a : ℕ) where
-  pub held-refused : (k n : ℕ) → offered t s a .answer ≡ refused n → offerHeld k t (offering s h) a ≡ offering s h
-  unfolding offerHeld
-  held-refused zero n e = refl
-  held-refused (suc k) n e = on-refused _ n _ _ e
+-- what holds of either way after an offer, by its answer
+pub by-answer : {A : Type 0} (Q : A → Type 0) (x : Answer) (y z : A) → (x ≡ admitted → Q y) → ((x ≡ admitted → ⊥) → Q z)
+    → Q (onAdmitted x y z)
+by-answer Q admitted y z p q = p refl
+by-answer Q (served a) y z p q = q (λ e. clash cc)
+by-answer Q idle y z p q = q (λ e. clash cc)
+by-answer Q (refused n) y z p q = q (λ e. clash cc)
 
-  pub held-more : (k : ℕ) → offered t s a .answer ≡ admitted
-      → offerHeld (suc k) t (offering s h) a ≡ offerHeld k t (offering (offered t s a .state) (release h a)) a
-  unfolding offerHeld
-  held-more k e = on-admitted _ _ _ e
-
--- what holds of either way after an offer
 pub either : {A : Type 0} (Q : A → Type 0) (x : Answer) (y z : A) → Q y → Q z → Q (onAdmitted x y z)
-either Q admitted y z p q = p
-either Q (served a) y z p q = q
-either Q idle y z p q = q
-either Q (refused n) y z p q = q
+either Q x y z p q = by-answer Q x y z (λ _. p) (λ _. q)
 
 -- offers leave what they do not name
 held-same : {A : Type 0} (f : State → A) (t : Tree) → ((s : State) (a : ℕ) → f (offered t s a .state) ≡ f s) → (k : ℕ) (o : Offering) (a : ℕ)
@@ -100,12 +86,3 @@ unfolding offerEach
 each-less zero t o b = omega arith
 each-less (suc n) t o b =
     omega (arith, held-less (heldOf (offerEach n t o .held) n) t (offerEach n t o) n b, each-less n t o b)
-
--- one more accelerator
-pub each-none : (t : Tree) (o : Offering) → o ≡ offerEach 0 t o
-unfolding offerEach
-each-none t o = refl
-
-pub each-turn : (n : ℕ) (t : Tree) (o p r : Offering) → p ≡ offerEach n t o → r ≡ offerAll t p n → r ≡ offerEach (n + 1) t o
-unfolding offerEach
-each-turn n t o p r e f = f ∙ ap (λ (x : Offering). offerAll t x n) e ∙ ap (λ m. offerEach m t o) (sym (add-one n))

@@ -20,12 +20,12 @@ use Rattle.machine.specs.Machine.{refused, offered, lastSlot, slotted}
 use Rattle.machine.proofs.Laws.{fresh-keeps, offer-others, slot-keeps, slot-only-last, slot-windows}
 use Rattle.runner.specs.Offers.{Offering, heldOf, release, offering, offerHeld, offerEach}
 use Rattle.runner.specs.Run.{Run, hold, isDue, heldWith, leftAfter, withDue, beforeSlot, lastByte, next, isDone, Trail, trail, start, done, stopped, endOf}
-use Rattle.runner.specs.Slots.{standing, bytesBefore, leftFrom}
+use Rattle.runner.specs.Slots.{standing, bytesBefore}
 use Rattle.runner.proofs.Held.{each-same, either, each-kept}
 use Rattle.runner.proofs.Slots.{trail-done, trail-none, trail-slot}
 
 -- one slot first, or last
-pub standing-next : (n : ℕ) (t : Tree) (r : Run) → standing n t (next t r) ≡ standing (suc n) t r
+standing-next : (n : ℕ) (t : Tree) (r : Run) → standing n t (next t r) ≡ standing (suc n) t r
 unfolding standing
 standing-next zero t r = refl
 standing-next (suc n) t r = ap (next t) (standing-next n t r)
@@ -35,11 +35,6 @@ unfolding bytesBefore standing
 bytes-next zero t r = refl
 bytes-next (suc n) t r =
     ap₂ (λ (bs : List ℕ) (x : Run). bs ++ lastByte t x ∷ []) (bytes-next n t r) (standing-next n t r)
-
-pub bytes-length : (n : ℕ) (t : Tree) (r : Run) → length (bytesBefore n t r) ≡ n
-unfolding bytesBefore
-bytes-length zero t r = refl
-bytes-length (suc n) t r = sym (ap length (bytes-next n t r)) ∙ ap suc (bytes-length n t (next t r))
 
 -- what the trail of a run over at most k slots is
 pub record Ran (k : ℕ) (t : Tree) (r : Run) (x : Trail) : Type 0 where
@@ -140,17 +135,17 @@ done-exactly k t r m = (
     R = ran k t r
 
 -- offers leave the slot count, and keep the held counts' number
-pub each-slot : (n : ℕ) (t : Tree) (o : Offering) → offerEach n t o .state .slot ≡ o .state .slot
+each-slot : (n : ℕ) (t : Tree) (o : Offering) → offerEach n t o .state .slot ≡ o .state .slot
 each-slot n t = each-same (λ (s : State). s .slot) t (λ s a. offer-others t s a .slot) n
 
-pub held-long : (k : ℕ) (t : Tree) (o : Offering) (a : ℕ) → length (offerHeld k t o a .held) ≡ length (o .held)
+held-long : (k : ℕ) (t : Tree) (o : Offering) (a : ℕ) → length (offerHeld k t o a .held) ≡ length (o .held)
 unfolding offerHeld
 held-long zero t o a = refl
 held-long (suc k) t o a =
     either (λ (p : Offering). length (p .held) ≡ length (o .held)) (offered t (o .state) a .answer) _ o
     (held-long k t (offering (offered t (o .state) a .state) (release (o .held) a)) a ∙ length-set (o .held) a (heldOf (o .held) a - 1)) refl
 
-pub each-long : (n : ℕ) (t : Tree) (o : Offering) → length (offerEach n t o .held) ≡ length (o .held)
+each-long : (n : ℕ) (t : Tree) (o : Offering) → length (offerEach n t o .held) ≡ length (o .held)
 unfolding offerEach
 each-long zero t o = refl
 each-long (suc n) t o = held-long (heldOf (offerEach n t o .held) n) t (offerEach n t o) n ∙ each-long n t o
@@ -163,6 +158,11 @@ due-long n h (r ∷ rs) =
     (λ e. ap length (picked _ (heldWith n (hold h r) rs) h e) ∙ due-long n (hold h r) rs
     ∙ length-set h (r .accelerator) (heldOf h (r .accelerator) + r .count))
     (λ e. ap length (passed _ (heldWith n (hold h r) rs) h e))
+
+-- the lines of rs from the first on that is not due before slot n
+unfoldable pub leftFrom : ℕ → List Request → List Request
+leftFrom n [] = []
+leftFrom n (r ∷ rs) = pick (ltb (r .slot) n) (leftFrom n rs) (r ∷ rs)
 
 -- the lines left, slot by slot
 left-start : (rs : List Request) → leftFrom 0 rs ≡ rs
@@ -181,7 +181,7 @@ unfolding leftAfter leftFrom
 left-once n [] = refl
 left-once n (r ∷ rs) = ap₂ (λ (b : Bool) (x : List Request). pick b x (r ∷ rs)) (same-due n r) (left-once n rs)
 
-pub left-more : (n : ℕ) (rs : List Request) → leftAfter n (leftFrom n rs) ≡ leftFrom (suc n) rs
+left-more : (n : ℕ) (rs : List Request) → leftAfter n (leftFrom n rs) ≡ leftFrom (suc n) rs
 unfolding leftFrom
 left-more n [] = left-once n []
 left-more n (r ∷ rs) = elim (decLt (r .slot) n) [

@@ -4,9 +4,8 @@ pub mod Slots
 pub mod Endings
 pub mod Laws
 pub mod Asked
-pub mod Together
 pub mod Parts
-pub mod Stored
 pub mod Settled
-pub mod Going
-pub mod Looping
+pub mod Service
+pub mod Stored
+pub mod Walk

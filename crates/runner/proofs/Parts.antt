@@ -1,13 +1,21 @@
 -- The parts of a run's arrays where one number is stored or a part is kept, by the laws of `take`, `drop` and `set`.
 use Prim.Native.Nat.{ℕ, zero, suc, _+_, _-_, _<_}
+use mathlib.Core.Bool.{Bool}
 use mathlib.Core.List.{List, [], _∷_, _++_}
 use mathlib.Core.Path.{_≡_, refl, sym, _∙_, ap, ap₂}
 use native.Mathlib.Numerals.{add-one}
 use native.Mathlib.Omega.{arith}
 use lib.ListN.{length, getD, take, drop, set, replicate, length-drop}
-use lib.Seq.{getD-take, getD-drop, take-set-le, take-set-lt, take-take, drop-set-lt, drop-set-add, take-suc-set, take-suc}
+use lib.Seq.{getD-take, getD-drop, take-set-le, take-set-lt, drop-set-lt, drop-set-add, take-suc-set, take-suc}
 use Rattle.trace.specs.declared.Request.{Request}
-use Rattle.admit.specs.Admitting.{waitings, helds}
+use Rattle.folds.specs.Fold.{pick}
+use Rattle.counts.specs.Table.{parentPorts}
+use Rattle.counts.specs.Counts.{lasts, allowances, lives, up, lowered, closed}
+use Rattle.counts.specs.Choice.{Choice, choice}
+use Rattle.admit.specs.Admitting.{arraysOf, waitings, admitteds, helds}
+use Rattle.admit.proofs.Kept.{first-kept, second-kept}
+use Rattle.admit.proofs.Offers.{arrays-same}
+use Rattle.runner.specs.Arrays.{turnedOn, takeOn, openOn, withHeld}
 use Rattle.runner.specs.Run.{hold}
 
 -- a list of equal numbers with one more at its end
@@ -39,26 +47,6 @@ module _ (r l : List ℕ) (j : ℕ) where
   pub copied-rest : j < 15 → drop 15 (set r j (getD l j 0)) ≡ drop 15 r
   copied-rest h = drop-set-lt 15 r j (getD l j 0) h
 
--- the part after n of the first n + k numbers
-none-taken : (n : ℕ) → take {A = ℕ} n [] ≡ []
-none-taken zero = refl
-none-taken (suc n) = refl
-
-drop-take : (n k : ℕ) (l : List ℕ) → drop n (take (n + k) l) ≡ take k (drop n l)
-drop-take zero k l = let e : 0 + k ≡ k = omega arith in ap (λ (i : ℕ). take i l) e
-drop-take (suc n) k [] = ap (drop (suc n)) (none-taken (suc n + k)) ∙ sym (none-taken k)
-drop-take (suc n) k (x ∷ l) =
-    let e : suc n + k ≡ suc (n + k) = omega arith in
-    ap (λ (i : ℕ). drop (suc n) (take i (x ∷ l))) e ∙ drop-take n k l
-
--- the first n + k numbers are kept: so are the first n, and the k after them
-module _ (n k : ℕ) (r′ r : List ℕ) (e : take (n + k) r′ ≡ take (n + k) r) where
-  pub first-kept : take n r′ ≡ take n r
-  first-kept = sym (take-take n (n + k) r′ (omega arith)) ∙ ap (take n) e ∙ take-take n (n + k) r (omega arith)
-
-  pub second-kept : take k (drop n r′) ≡ take k (drop n r)
-  second-kept = sym (drop-take n k r′) ∙ ap (drop n) e ∙ drop-take n k r
-
 -- the count of a request is added to what its accelerator holds
 module _ (b : List ℕ) (r : Request) where
   abbrev added : ℕ
@@ -74,8 +62,34 @@ module _ (b : List ℕ) (r : Request) where
 
 -- one transaction of accelerator a is served
 module _ (b : List ℕ) (a n : ℕ) (h : a < 32) (e : n ≡ getD b a 0 - 1) where
-  pub served-waiting : waitings (set b a n) ≡ set (waitings b) a (getD (waitings b) a 0 - 1)
+  served-waiting : waitings (set b a n) ≡ set (waitings b) a (getD (waitings b) a 0 - 1)
   served-waiting = take-set-lt 32 b a n h ∙ ap (set (waitings b) a) (e ∙ ap (λ (i : ℕ). i - 1) (sym (getD-take 32 b a 0 h)))
 
-  pub served-rest : drop 32 (set b a n) ≡ drop 32 b
+  served-rest : drop 32 (set b a n) ≡ drop 32 b
   served-rest = drop-set-lt 32 b a n h
+
+-- the lines due are held
+pub due-arrays : (b b₁ c r h : List ℕ) → helds b₁ ≡ h → take 64 b₁ ≡ take 64 b → arraysOf b₁ c r ≡ withHeld h (arraysOf b c r)
+due-arrays b b₁ c r h e k = arrays-same _ _ (first-kept 32 32 b₁ b k) (second-kept 32 32 b₁ b k) e refl refl refl refl
+
+-- a window opens, or goes on
+pub opened-arrays : (b b₁ c r : List ℕ) (q : Bool) → waitings b₁ ≡ waitings b
+    → admitteds b₁ ≡ pick q (replicate 32 0) (admitteds b) → helds b₁ ≡ helds b → arraysOf b₁ c r ≡ openOn q (arraysOf b c r)
+opened-arrays b b₁ c r q e f g = arrays-same _ _ e f g refl refl refl refl
+
+-- the choice is made, and its turns are stored
+pub turned-arrays : (b c r r₁ : List ℕ) (a : ℕ) (x : Choice) → choice a (lasts r₁) (allowances r₁) ≡ x → lives r₁ ≡ lives r
+    → arraysOf b c r₁ ≡ turnedOn x (arraysOf b c r)
+turned-arrays b c r r₁ a x e f =
+    arrays-same _ _ refl refl refl refl f (ap (λ (y : Choice). y .last) e) (ap (λ (y : Choice). y .allowance) e)
+
+-- one transaction of accelerator a is served, and its path brought up to date
+pub taken-arrays : (w b c c₁ r r₁ : List ℕ) (a n : ℕ) → a < 32 → n ≡ getD b a 0 - 1
+    → c₁ ≡ lowered (up 4 (parentPorts w) (getD w (150 + a) 0)) c
+    → lives r₁ ≡ closed (up 4 (parentPorts w) (getD w (150 + a) 0)) c (lives r) → take 30 r₁ ≡ take 30 r
+    → arraysOf (set b a n) c₁ r₁ ≡ takeOn w a (arraysOf b c r)
+taken-arrays w b c c₁ r r₁ a n h e f g k =
+    let port = sym (getD-drop 150 w a 0) in
+    arrays-same _ _ (served-waiting b a n h e) (ap (take 32) (served-rest b a n h e)) (drop-set-lt 64 b a n (omega arith))
+    (f ∙ ap (λ (i : ℕ). lowered (up 4 (parentPorts w) i) c) port) (g ∙ ap (λ (i : ℕ). closed (up 4 (parentPorts w) i) c (lives r)) port)
+    (first-kept 15 15 r₁ r k) (second-kept 15 15 r₁ r k)

@@ -1,93 +1,78 @@
--- Which accelerators would have a held transaction admitted. Each offers until there is room for none of what it holds, and its
--- offers change its own record and held count alone: so one that idles goes on idling while others offer, and offers nothing.
-use Prim.Native.Nat.{ℕ, zero, suc, _+_, _-_, _≤_, _<_, min}
+-- Which accelerators would have a held transaction admitted. Each offers until one is refused, and an offer's answer depends
+-- on its own accelerator's record alone: so one that idles goes on idling while others offer, and offers nothing.
+use Prim.Native.Nat.{ℕ, zero, suc, _-_, _≤_, _<_}
 use mathlib.Core.Bool.{true}
 use mathlib.Core.List.{List}
-use mathlib.Core.Path.{_≡_, refl, sym, _∙_, ap, ap₂, subst}
+use mathlib.Core.Path.{_≡_, refl, sym, _∙_, ap, subst}
 use native.Mathlib.Decide.{decLt, ℕ-discrete}
 use native.Mathlib.Omega.{arith}
-use lib.ListN.{length, set, List·getD-eq-default}
-use lib.Seq.{getD-set-same, getD-set-other, set-out}
-use Rattle.rules.proofs.Sound.{sound-of, kept-of}
+use lib.ListN.{getD, length, List·getD-eq-default}
+use lib.Seq.{getD-set-other}
 use Rattle.model.specs.declared.Tree.{Tree}
 use Rattle.model.specs.declared.State.{State}
-use Rattle.model.specs.Tree.{limitOf, budgetOf, waitingOf, admittedOf}
+use Rattle.model.specs.Tree.{outstandingBy, outstandingOf, admittedOf}
 use Rattle.rules.specs.Rules.{keeps}
-use Rattle.runner.specs.Offers.{Offering, heldOf, offering, offerAll, offerEach}
-use Rattle.runner.proofs.Held.{held-kept, each-kept}
-use Rattle.runner.proofs.Together.{room, after, none-admitted, together}
+use Rattle.machine.specs.Machine.{admitted, offered}
+use Rattle.machine.proofs.Laws.{offer-own, offer-others}
+use Rattle.runner.specs.Offers.{Offering, heldOf, release, offering, offerHeld, offerAll, offerEach}
+use Rattle.runner.proofs.Held.{release-own, by-answer, either, held-kept, each-kept}
 
 -- no transaction that accelerator a holds would be admitted
 abbrev pub Idles : Tree → State → List ℕ → ℕ → Type 0
-Idles t s h a = min (heldOf h a) (min (limitOf t a - waitingOf s a) (budgetOf t a - admittedOf s a)) ≡ 0
+Idles t s h a = 0 < heldOf h a → offered t s a .answer ≡ admitted → ⊥
 
 -- no accelerator but x would have a held transaction admitted
 abbrev pub Settled : Tree → State → List ℕ → ℕ → Type 0
 Settled t s h x = (a : ℕ) → a < t .accs → (a ≡ x → ⊥) → Idles t s h a
 
--- room with n admitted is room less n, and so with as many admitted as there is room for, there is room for none
-less-each : (x w n : ℕ) → x - (w + n) ≡ x - w - n
-less-each x w n = omega arith
+-- where a list has more than 0, it does not end before
+not-past : (l : List ℕ) (i : ℕ) → 0 < getD l i 0 → i < length l
+not-past l i h = elim (decLt i (length l)) [ yes b ↦ b | no d ↦ absurd (omega (arith, List·getD-eq-default l 0 {n = i} (omega arith))) ]
 
-less-min : (x y n : ℕ) → min (x - n) (y - n) ≡ min x y - n
-less-min x y n = omega arith
-
-less-all : (n : ℕ) → n - n ≡ 0
-less-all n = omega arith
-
-room-none : (k l w b m n : ℕ) → min k (min (l - w) (b - m)) ≡ n → min (k - n) (min (l - (w + n)) (b - (m + n))) ≡ 0
-room-none k l w b m n e =
-    ap (min (k - n)) (ap₂ min (less-each l w n) (less-each b m n) ∙ less-min (l - w) (b - m) n)
-    ∙ less-min k (min (l - w) (b - m)) n ∙ ap (λ x. x - n) e ∙ less-all n
-
--- a held count with some less, even one past the end of the list
-held-own : (h : List ℕ) (a n : ℕ) → heldOf (set h a (heldOf h a - n)) a ≡ heldOf h a - n
-held-own h a n = elim (decLt a (length h)) [
-  | yes l ↦ getD-set-same h a (heldOf h a - n) 0 l
-  | no d ↦
-      ap (λ (x : List ℕ). heldOf x a) (set-out h a (heldOf h a - n) (omega arith))
-      ∙ omega (arith, List·getD-eq-default h 0 {n = a} (omega arith))
-]
-
--- accelerator a has the same counts in p as in o
+-- accelerator a has the same record and held count in p as in o
 record Leaves (o p : Offering) (a : ℕ) : Type 0 where
-  waiting : waitingOf (p .state) a ≡ waitingOf (o .state) a
+  outstanding : outstandingOf (p .state) a ≡ outstandingOf (o .state) a
   admitted : admittedOf (p .state) a ≡ admittedOf (o .state) a
   held : heldOf (p .held) a ≡ heldOf (o .held) a
 
 module _ (t : Tree) where
-  idles-still : (o p : Offering) (a : ℕ) → Leaves o p a → Idles t (o .state) (o .held) a → Idles t (p .state) (p .held) a
-  idles-still o p a L e =
-      ap₂ min (L .held) (ap₂ (λ w m. min (limitOf t a - w) (budgetOf t a - m)) (L .waiting) (L .admitted)) ∙ e
+  idles-still : (o p : Offering) (a : ℕ) → keeps t (o .state) ≡ true → keeps t (p .state) ≡ true → Leaves o p a
+      → Idles t (o .state) (o .held) a → Idles t (p .state) (p .held) a
+  idles-still o p a k l L e h f =
+      e (omega (arith, L .held)) (offer-own t t (o .state) (p .state) a k l refl refl (sym (L .outstanding)) (sym (L .admitted)) ∙ f)
 
-  module _ (o : Offering) (k : keeps t (o .state) ≡ true) (a : ℕ) (la : a < t .accs) where
-    offers : offerAll t o a ≡ after t a la (o .state) (o .held) (room t a la (heldOf (o .held) a) (o .state))
-    offers = together t a la (heldOf (o .held) a) (o .state) (o .held) k refl
+  -- the offers of a leave the record of any other
+  for-others : (k : ℕ) (o : Offering) (a b : ℕ) → (b ≡ a → ⊥) → Leaves o (offerHeld k t o a) b
+  unfolding offerHeld
+  for-others zero o a b d = record { outstanding = refl; admitted = refl; held = refl }
+  for-others (suc k) o a b d =
+      let x = offered t (o .state) a in
+      let L = for-others k (offering (x .state) (release (o .held) a)) a b d in
+      let N = offer-others t (o .state) a in
+      either (λ p. Leaves o p b) (x .answer) _ o
+      (record {
+        outstanding = L .outstanding ∙ ap outstandingBy (N .waiting b d);
+        admitted = L .admitted ∙ N .admitted b d;
+        held = L .held ∙ getD-set-other (o .held) a b _ 0 d;
+      })
+      (record { outstanding = refl; admitted = refl; held = refl })
 
-    -- one that idles offers nothing
-    idle-offers : Idles t (o .state) (o .held) a → offerAll t o a ≡ o
-    idle-offers e = offers ∙ sym (none-admitted t a la (o .state) (o .held) _ e)
+  -- and after all of them it idles
+  for-idles : (k : ℕ) (o : Offering) (a : ℕ) → heldOf (o .held) a ≡ k → Idles t (offerHeld k t o a .state) (offerHeld k t o a .held) a
+  unfolding offerHeld
+  for-idles zero o a e = λ h. absurd (omega arith)
+  for-idles (suc k) o a e =
+      let x = offered t (o .state) a in
+      by-answer (λ (p : Offering). Idles t (p .state) (p .held) a) (x .answer) _ o
+      (λ _. for-idles k (offering (x .state) (release (o .held) a)) a (omega (arith, release-own (o .held) a (not-past (o .held) a (omega arith)))))
+      (λ d _. d)
 
-    -- its offers leave the counts of any other
-    others-left : (b : ℕ) → (b ≡ a → ⊥) → Leaves o (offerAll t o a) b
-    others-left b d = subst (λ (p : Offering). Leaves o p b) (sym offers) (record {
-      waiting = getD-set-other (o .state .waiting) a b _ 0 d;
-      admitted = getD-set-other (o .state .admitted) a b _ 0 d;
-      held = getD-set-other (o .held) a b _ 0 d;
-    })
-
-    -- and after them it idles
-    own-idles : Idles t (offerAll t o a .state) (offerAll t o a .held) a
-    own-idles =
-        let K = kept-of t (o .state) k in
-        let S = sound-of t (o .state) k in
-        let n = room t a la (heldOf (o .held) a) (o .state) in
-        subst (λ (p : Offering). Idles t (p .state) (p .held) a) (sym offers)
-        (ap₂ min (held-own (o .held) a n)
-        (ap₂ (λ w m. min (limitOf t a - w) (budgetOf t a - m))
-        (getD-set-same (o .state .waiting) a (waitingOf (o .state) a + n) 0 (omega (arith, K .waiting-size, S .most-accs)))
-        (getD-set-same (o .state .admitted) a (admittedOf (o .state) a + n) 0 (omega (arith, K .admitted-size, S .most-accs))))
-        ∙ room-none (heldOf (o .held) a) (limitOf t a) (waitingOf (o .state) a) (budgetOf t a) (admittedOf (o .state) a) n refl)
+  -- one that idles offers nothing
+  for-none : (k : ℕ) (o : Offering) (a : ℕ) → heldOf (o .held) a ≡ k → Idles t (o .state) (o .held) a → offerHeld k t o a ≡ o
+  unfolding offerHeld
+  for-none zero o a e i = refl
+  for-none (suc k) o a e i =
+      by-answer (λ (p : Offering). p ≡ o) (offered t (o .state) a .answer) _ o (λ q. absurd (i (omega arith) q)) (λ _. refl)
 
   module _ (s : State) (h : List ℕ) (k : keeps t s ≡ true) where
     each-idles : (n : ℕ) → n ≤ t .accs → (a : ℕ) → a < n
@@ -99,9 +84,10 @@ module _ (t : Tree) where
         let ko = each-kept n t (offering s h) k in
         elim (ℕ-discrete a n) [
           | yes e ↦
-              subst (λ b. Idles t (offerAll t o n .state) (offerAll t o n .held) b) (sym e) (own-idles o ko n (omega arith))
+              subst (λ b. Idles t (offerAll t o n .state) (offerAll t o n .held) b) (sym e) (for-idles (heldOf (o .held) n) o n refl)
           | no d ↦
-              idles-still o (offerAll t o n) a (others-left o ko n (omega arith) a d) (each-idles n (omega arith) a (omega arith))
+              idles-still o (offerAll t o n) a ko (held-kept (heldOf (o .held) n) t o n ko) (for-others (heldOf (o .held) n) o n a d)
+              (each-idles n (omega arith) a (omega arith))
         ]
 
     module _ (x : ℕ) (S : Settled t s h x) where
@@ -110,7 +96,7 @@ module _ (t : Tree) where
       each-before zero l b = refl
       each-before (suc n) l b =
           ap (λ (p : Offering). offerAll t p n) (each-before n (omega arith) (omega arith))
-          ∙ idle-offers (offering s h) k n (omega arith) (S n (omega arith) (λ e. omega arith))
+          ∙ for-none (heldOf h n) (offering s h) n refl (S n (omega arith) (λ e. omega arith))
 
       each-past : (n : ℕ) → n ≤ t .accs → x < n → offerEach n t (offering s h) ≡ offerAll t (offering s h) x
       unfolding offerEach
@@ -121,8 +107,9 @@ module _ (t : Tree) where
         | no d ↦
             let p = offerAll t (offering s h) x in
             ap (λ (q : Offering). offerAll t q n) (each-past n (omega arith) (omega arith))
-            ∙ idle-offers p (held-kept (heldOf h x) t (offering s h) x k) n (omega arith)
-            (idles-still (offering s h) p n (others-left (offering s h) k x (omega arith) n d) (S n (omega arith) d))
+            ∙ for-none (heldOf (p .held) n) p n refl
+            (idles-still (offering s h) p n k (held-kept (heldOf h x) t (offering s h) x k) (for-others (heldOf h x) (offering s h) x n d)
+            (S n (omega arith) d))
       ]
 
 -- all of x's offers are all the offers there are
@@ -136,9 +123,9 @@ pub settled-each : (t : Tree) (s : State) (h : List ℕ) → keeps t s ≡ true 
 settled-each t s h k = each-idles t s h k (t .accs) (omega arith)
 
 -- a service lets only the accelerator served offer more, and a slot count that rises none, unless it opens a window
-pub settled-served : (t : Tree) (s r : State) (h : List ℕ) (x : ℕ)
+pub settled-served : (t : Tree) (s r : State) (h : List ℕ) (x : ℕ) → keeps t s ≡ true → keeps t r ≡ true
     → ((a : ℕ) → a < t .accs → Idles t s h a)
-    → ((a : ℕ) → (a ≡ x → ⊥) → waitingOf r a ≡ waitingOf s a) → ((a : ℕ) → admittedOf r a ≡ admittedOf s a)
+    → ((a : ℕ) → (a ≡ x → ⊥) → outstandingOf r a ≡ outstandingOf s a) → ((a : ℕ) → admittedOf r a ≡ admittedOf s a)
     → Settled t r h x
-settled-served t s r h x I w m a l d =
-    idles-still t (offering s h) (offering r h) a (record { waiting = w a d; admitted = m a; held = refl }) (I a l)
+settled-served t s r h x k kr I w m a l d =
+    idles-still t (offering s h) (offering r h) a k kr (record { outstanding = w a d; admitted = m a; held = refl }) (I a l)

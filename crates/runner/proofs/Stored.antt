@@ -1,125 +1,142 @@
--- The arrays of a run are those of the state that the definitions give: after an accelerator's offers, by what is admitted
--- together and the laws of the kept counts; and after a slot, by the choice from these counts.
-use Prim.Native.Nat.{ℕ, zero, suc, _+_, _*_, _-_, _%_, _≤_, _<_, min}
-use mathlib.Core.Bool.{Bool, true, false, not, _&&_}
+-- The arrays of a run are those of the state that the definitions give: after an accelerator's offers, by one offer at a time
+-- and the laws of the kept counts; and after a slot, by the choice from these counts.
+use Prim.Native.Nat.{ℕ, zero, suc, _+_, _-_, _≤_, _<_}
+use mathlib.Core.Bool.{Bool, true, false}
 use mathlib.Core.List.{List}
-use mathlib.Core.Path.{_≡_, refl, sym, _∙_, ap, ap₂, subst}
+use mathlib.Core.Path.{_≡_, refl, sym, _∙_, ap, ap₂, subst, subst₂}
 use native.Mathlib.Decide.{decLt, ℕ-discrete}
 use native.Mathlib.Omega.{arith}
 use lib.Dec.{eqb}
 use lib.ListN.{getD, set}
-use borrow.Author.Tests.{eq-eqb, ne-eqb, eqb-true}
+use borrow.Author.Tests.{eq-eqb, ne-eqb, eqb-true, lt-ltb, le-ltb}
 use Rattle.model.specs.declared.Tree.{Tree}
 use Rattle.model.specs.declared.State.{State}
-use Rattle.model.specs.Tree.{waitingOf}
+use Rattle.model.specs.Tree.{limitOf, budgetOf, waitingOf, outstandingBy, admittedOf}
 use Rattle.model.specs.Beneath.{inside}
 use Rattle.rules.specs.Rules.{keeps}
-use Rattle.folds.proofs.Folds.{picked, passed, at-all, all-at}
+use Rattle.folds.proofs.Folds.{picked, passed, at-all, all-at, clash}
 use Rattle.rules.proofs.Sound.{Sound, Kept, sound-of, kept-of}
 use Rattle.rules.proofs.Beneath.{root-zero}
-use Rattle.turns.specs.Turns.{who, after}
-use Rattle.machine.specs.Machine.{noneWaits, serve}
-use Rattle.machine.proofs.Cases.{zero-all}
-use Rattle.turns.proofs.Descent.{Choice, choice}
-use Rattle.machine.proofs.Keeps.{stored, take-waiting}
-use Rattle.counts.specs.Wiring.{Lanes, Limits}
-use Rattle.counts.specs.Counts.{Counted, up, lowered, closed}
-use Rattle.counts.specs.Choice.{Chosen}
-use Rattle.counts.proofs.Counted.{counted-more, counted-less, none-live, weight-small}
-use Rattle.runner.specs.Offers.{Offering, heldOf, offering, offerAll, offerEach}
-use Rattle.admit.specs.Admitting.{Arrays, arrays, admitted, offersOf, offersBelow, offersBefore}
-use Rattle.admit.proofs.Offers.{offers-none, offers-some}
-use Rattle.runner.specs.Arrays.{begins, servedFrom, Served}
-use Rattle.runner.proofs.Held.{held-kept}
+use Rattle.turns.specs.Turns.{NextPorts, who, after}
+use Rattle.machine.specs.Machine.{Answer, Outcome, admitted, served, idle, refused, admit, limitsAnswer, onAdmitted, offered, noneWaits, serve}
+use Rattle.machine.proofs.Cases.{zero-all, Offered, refuses, admits, offer-cases}
+use Rattle.machine.proofs.Laws.{offer-keeps, offer-verdict}
+use Rattle.machine.proofs.Steps.{verdict-known}
+use Rattle.turns.proofs.Descent.{Choice as Choice-of, choice}
+use Rattle.machine.proofs.Keeps.{admit-waiting, take-waiting}
+use Rattle.counts.specs.Counts.{pathPorts, lowered, closed}
+use Rattle.counts.specs.Choice.{Choice}
+use Rattle.counts.proofs.Table.{TableOf}
+use Rattle.counts.proofs.Choosing.{Chosen, chooses}
+use Rattle.counts.proofs.Counted.{Counted, counted-more, counted-less, none-live, weight-small}
+use Rattle.runner.specs.Offers.{Offering, heldOf, release, offering, offerHeld, offerAll, offerEach}
+use Rattle.admit.specs.Admitting.{Arrays, answerOn, offeredOn, offersFor, offersOf, offersBelow, offersBefore}
+use Rattle.admit.proofs.Offers.{on-admitted, offers-known}
+use Rattle.runner.specs.Arrays.{Slot, slotOn, chosenOn, turnedOn, takeOn, serveOn}
 use Rattle.runner.proofs.Settled.{Settled, settled-one}
-use Rattle.runner.proofs.Together.{admitMany, room, none-admitted, together}
+use Rattle.runner.proofs.Service.{servedFrom, byteFrom}
 
--- w and m are the waiting and the admitted counts of state s, which keeps its rules, and c and v what waits under each port
--- there and the live ports
-pub record Stored (t : Tree) (s : State) (w m c v : List ℕ) : Type 0 where
+-- d are the arrays of state s, which keeps its rules, and has what waits under each port there and the live ports
+pub record Stored (t : Tree) (s : State) (d : Arrays) : Type 0 where
   pub rules : keeps t s ≡ true
-  pub waiting : w ≡ s .waiting
-  pub admitted : m ≡ s .admitted
-  pub counts : Counted t (waitingOf s) c v
+  pub waiting : d .waiting ≡ s .waiting
+  pub admitted : d .admitted ≡ s .admitted
+  pub last : d .last ≡ s .last
+  pub allowance : d .allowance ≡ s .allowance
+  pub counts : Counted t (waitingOf s) (d .under) (d .live)
 
 -- d are the arrays of the state and the held counts of x
-pub record Offered (t : Tree) (x : Offering) (d : Arrays) : Type 0 where
-  pub stored : Stored t (x .state) (d .waiting) (d .admitted) (d .under) (d .live)
+pub record StoredOffering (t : Tree) (x : Offering) (d : Arrays) : Type 0 where
+  pub stored : Stored t (x .state) d
   pub held : d .held ≡ x .held
 
-module _ (t : Tree) (s : State) (l b y u w m h c v : List ℕ) (L : Limits t l b) (N : Lanes t u y) (a : ℕ) (la : a < t .accs) (R : Stored t s w m c v) where
-  S : Sound t
-  S = sound-of t s (R .rules)
+-- both ways after an offer that answers the same
+both : {A B : Type 0} (Q : A → B → Type 0) (x y : Answer) (p o : A) (q d : B) → y ≡ x → (y ≡ admitted → Q p q) → Q o d
+    → Q (onAdmitted x p o) (onAdmitted y q d)
+both Q admitted y p o q d e f g = subst (λ (z : Answer). Q p (onAdmitted z q d)) (sym e) (f e)
+both Q (served a) y p o q d e f g = subst (λ (z : Answer). Q o (onAdmitted z q d)) (sym e) g
+both Q idle y p o q d e f g = subst (λ (z : Answer). Q o (onAdmitted z q d)) (sym e) g
+both Q (refused n) y p o q d e f g = subst (λ (z : Answer). Q o (onAdmitted z q d)) (sym e) g
 
-  K : Kept t s
-  K = kept-of t s (R .rules)
+-- the arrays' offers are those of the machine
+module _ (t : Tree) (g : List ℕ) (W : TableOf t g) where
+  module _ (a : ℕ) (la : a < t .accs) where
+    module _ (x : Offering) (d : Arrays) (O : StoredOffering t x d) where
+      S : Sound t
+      S = sound-of t (x .state) (O .stored .rules)
 
-  known : a < 32
-  known = omega (arith, S .most-accs)
+      K : Kept t (x .state)
+      K = kept-of t (x .state) (O .stored .rules)
 
-  -- how many are admitted, by the arrays
-  abbrev pub count : ℕ
-  count = min (getD h a 0) (min (getD l a 0 - getD w a 0) (getD b a 0 - getD m a 0))
+      known : a < 32
+      known = omega (arith, S .most-accs)
 
-  same-count : count ≡ room t a la (heldOf h a) s
-  same-count =
-      ap₂ (λ (x z : ℕ). min (getD h a 0) (min x z))
-      (ap₂ (λ (x z : ℕ). x - z) (L .limit a known) (ap (λ (x : List ℕ). getD x a 0) (R .waiting)))
-      (ap₂ (λ (x z : ℕ). x - z) (L .budget a known) (ap (λ (x : List ℕ). getD x a 0) (R .admitted)))
+      waits : getD (d .waiting) a 0 ≡ waitingOf (x .state) a
+      waits = ap (λ (l : List ℕ). getD l a 0) (O .stored .waiting)
 
-  all-offered : offerAll t (offering s h) a ≡ offering (admitMany s a count) (set h a (heldOf h a - count))
-  all-offered = together t a la (heldOf h a) s h (R .rules) refl
-      ∙ ap (λ (n : ℕ). offering (admitMany s a n) (set h a (heldOf h a - n))) (sym same-count)
+      counts : getD (d .admitted) a 0 ≡ admittedOf (x .state) a
+      counts = ap (λ (l : List ℕ). getD l a 0) (O .stored .admitted)
 
-  kept-after : keeps t (admitMany s a count) ≡ true
-  kept-after = subst (λ (x : Offering). keeps t (x .state) ≡ true) all-offered (held-kept (heldOf h a) t (offering s h) a (R .rules))
+      same-answer : answerOn g a d ≡ offered t (x .state) a .answer
+      same-answer =
+          ap₂ (λ (l m : ℕ). limitsAnswer l (outstandingBy (getD (d .waiting) a 0)) m (getD (d .admitted) a 0)) (W .limit a known) (W .budget a known)
+          ∙ ap₂ (λ (w m : ℕ). limitsAnswer (limitOf t a) (outstandingBy w) (budgetOf t a) m) waits counts
+          ∙ verdict-known t (x .state) a la ∙ sym (offer-verdict t (x .state) a (O .stored .rules))
 
-  offered-none : count ≡ 0 → Offered t (offerAll t (offering s h) a) (arrays w m h c v)
-  offered-none e =
-      subst (λ (x : Offering). Offered t x (arrays w m h c v)) (none-admitted t a la s h count e ∙ sym all-offered) (record { stored = R; held = refl })
+      admits-one : offered t (x .state) a .answer ≡ admitted → offered t (x .state) a .state ≡ admit (x .state) a
+      admits-one = go (offered t (x .state) a) (offer-cases t (x .state) a)
+        where
+          go : (o : Outcome) → Offered t (x .state) a o → o .answer ≡ admitted → o .state ≡ admit (x .state) a
+          go o (refuses w) e = clash cc
+          go o (admits l h m) e = refl
 
-  offered-many : 0 < count → Offered t (offerAll t (offering s h) a) (admitted count a y u (arrays w m h c v))
-  offered-many z =
-      subst (λ (x : Offering). Offered t x (admitted count a y u (arrays w m h c v))) (sym all-offered)
-      (record {
-        stored = record {
-          rules = kept-after;
-          waiting = ap (λ (x : List ℕ). set x a (getD x a 0 + count)) (R .waiting);
-          admitted = ap (λ (x : List ℕ). set x a (getD x a 0 + count)) (R .admitted);
-          counts = counted-more t S u y N a la (waitingOf s) (waitingOf (admitMany s a count)) count z
-              (stored (λ new old k. new ≡ old + count * k) (s .waiting) a _ (omega (arith, K .waiting-size, known)) (omega arith) (λ i. omega arith))
-              (weight-small t S (waitingOf (admitMany s a count)) (λ i li. omega (arith, kept-of t (admitMany s a count) kept-after .waiting i li, S .limit i li)))
-              c v (R .counts);
-        };
-        held = refl;
-      })
+      next-offered : answerOn g a d ≡ admitted → StoredOffering t (offering (offered t (x .state) a .state) (release (x .held) a)) (offeredOn g a d)
+      next-offered e =
+          let f = admits-one (sym same-answer ∙ e) in
+          let k : keeps t (admit (x .state) a) ≡ true = subst (λ (s : State). keeps t s ≡ true) f (offer-keeps t (x .state) a (O .stored .rules)) in
+          subst₂ (λ (s : State) (b : Arrays). StoredOffering t (offering s (release (x .held) a)) b) (sym f) (sym (on-admitted g a d e))
+          (record {
+            stored = record {
+              rules = k;
+              waiting = ap (λ (l : List ℕ). set l a (getD l a 0 + 1)) (O .stored .waiting);
+              admitted = ap (λ (l : List ℕ). set l a (getD l a 0 + 1)) (O .stored .admitted);
+              last = O .stored .last;
+              allowance = O .stored .allowance;
+              counts = counted-more t S g W a la (waitingOf (x .state)) (waitingOf (admit (x .state) a))
+                  (admit-waiting t S (x .state) K a la)
+                  (weight-small t S (waitingOf (admit (x .state) a)) (λ i li. omega (arith, kept-of t (admit (x .state) a) k .waiting i li, S .limit i li)))
+                  (d .under) (d .live) (O .stored .counts);
+            };
+            held = ap (λ (l : List ℕ). set l a (getD l a 0 - 1)) (O .held);
+          })
 
-  -- accelerator a has offered
-  pub one-offered : Offered t (offerAll t (offering s h) a) (offersOf l b y u a (arrays w m h c v))
-  one-offered = elim (ℕ-discrete count 0) [
-    | yes e ↦ subst (Offered t (offerAll t (offering s h) a)) (sym (offers-none l b y u a (arrays w m h c v) known e)) (offered-none e)
-    | no d ↦ subst (Offered t (offerAll t (offering s h) a)) (sym (offers-some l b y u a (arrays w m h c v) known d)) (offered-many (omega arith))
-  ]
+    for-offered : (k : ℕ) (x : Offering) (d : Arrays) → StoredOffering t x d → StoredOffering t (offerHeld k t x a) (offersFor k g a d)
+    unfolding offerHeld offersFor
+    for-offered zero x d O = O
+    for-offered (suc k) x d O =
+        both (StoredOffering t) (offered t (x .state) a .answer) (answerOn g a d) _ x _ d (same-answer x d O)
+        (λ e. for-offered k (offering (offered t (x .state) a .state) (release (x .held) a)) (offeredOn g a d) (next-offered x d O e)) O
 
--- the accelerators below n have offered
-module _ (t : Tree) (s : State) (l b y u w m h c v : List ℕ) (L : Limits t l b) (N : Lanes t u y) (R : Stored t s w m c v) where
-  below-offered : (n : ℕ) → n ≤ t .accs → Offered t (offerEach n t (offering s h)) (offersBelow l b y u n (arrays w m h c v))
-  unfolding offerEach offersBelow
-  below-offered zero z = record { stored = R; held = refl }
-  below-offered (suc n) z =
-      let O = below-offered n (omega arith) in
-      let d = offersBelow l b y u n (arrays w m h c v) in
-      let x = offerEach n t (offering s h) in
-      subst (λ (i : List ℕ). Offered t (offerAll t (offering (x .state) i) n) (offersOf l b y u n d)) (O .held)
-      (one-offered t (x .state) l b y u (d .waiting) (d .admitted) (d .held) (d .under) (d .live) L N n (omega arith) (O .stored))
+    -- accelerator a has offered
+    one-offered : (x : Offering) (d : Arrays) → StoredOffering t x d → StoredOffering t (offerAll t x a) (offersOf g a d)
+    one-offered x d O =
+        subst (StoredOffering t (offerAll t x a)) (sym (offers-known g a d (known x d O)))
+        (subst (λ (h : List ℕ). StoredOffering t (offerAll t x a) (offersFor (getD h a 0) g a d)) (sym (O .held)) (for-offered (heldOf (x .held) a) x d O))
 
-  -- the offers before a slot: where only accelerator x may have more admitted, its offers are all offers
-  pub before-offered : (e : Bool) (x : ℕ) → (e ≡ false → (x < t .accs) × Settled t s h x)
-      → Offered t (offerEach (t .accs) t (offering s h)) (offersBefore l b y u e x (t .accs) (arrays w m h c v))
-  before-offered true x f = below-offered (t .accs) (omega arith)
-  before-offered false x f =
-      subst (λ (o : Offering). Offered t o (offersOf l b y u x (arrays w m h c v))) (sym (settled-one t s h x (R .rules) (f refl .1) (f refl .0)))
-      (one-offered t s l b y u w m h c v L N x (f refl .0) R)
+  module _ (x : Offering) (d : Arrays) (O : StoredOffering t x d) where
+    -- the accelerators below n have offered
+    below-offered : (n : ℕ) → n ≤ t .accs → StoredOffering t (offerEach n t x) (offersBelow g n d)
+    unfolding offerEach offersBelow
+    below-offered zero z = O
+    below-offered (suc n) z = one-offered n (omega arith) (offerEach n t x) (offersBelow g n d) (below-offered n (omega arith))
+
+    -- the offers before a slot: where only accelerator y may have more admitted, its offers are all offers
+    pub before-offered : (e : Bool) (y : ℕ) → (e ≡ false → (y < t .accs) × Settled t (x .state) (x .held) y)
+        → StoredOffering t (offerEach (t .accs) t x) (offersBefore g e y (t .accs) d)
+    before-offered true y f = below-offered (t .accs) (omega arith)
+    before-offered false y f =
+        subst (λ (o : Offering). StoredOffering t o (offersOf g y d)) (sym (settled-one t (x .state) (x .held) y (O .stored .rules) (f refl .1) (f refl .0)))
+        (one-offered y (f refl .0) x d O)
 
 -- nothing waits exactly if no port of the root is live
 module _ (t : Tree) (s : State) (k : keeps t s ≡ true) (c v : List ℕ) (C : Counted t (waitingOf s) c v) where
@@ -144,59 +161,94 @@ module _ (t : Tree) (s : State) (k : keeps t s ≡ true) (c v : List ℕ) (C : C
     | no d ↦ ne-eqb _ _ d ∙ sym (some-live d)
   ]
 
-  module _ (y u w l o : List ℕ) (N : Lanes t u y) (ew : w ≡ s .waiting) (el : l ≡ s .last) (eo : o ≡ s .allowance) where
-    pub served-none : getD v 0 0 ≡ 0 → Served t s 255 w l o c v
-    served-none e =
-        let same : servedFrom t s ≡ s = picked _ _ _ (live-root .0 e) in
+  some-inside : (getD v 0 0 ≡ 0 → ⊥) → 0 < inside 4 t (waitingOf s) 0
+  some-inside d = elim (decLt 0 (inside 4 t (waitingOf s) 0)) [
+    | yes h ↦ h
+    | no f ↦ absurd (d (none-live t S (waitingOf s) c v C .1 (root-zero t S (waitingOf s) .0 (omega arith))))
+  ]
+    where
+      S : Sound t
+      S = sound-of t s k
+
+-- the service on any arrays, by its tests
+module _ (n w : List ℕ) (d : Arrays) where
+  pub serve-none : getD (d .live) 0 0 ≡ 0 → slotOn 255 d ≡ serveOn n w d
+  unfolding serveOn
+  serve-none e = sym (picked _ _ _ (eq-eqb _ _ e))
+
+  module _ (e : getD (d .live) 0 0 ≡ 0 → ⊥) where
+    pub serve-unknown : (x : Choice) → x ≡ chosenOn n w d → 31 < x .served → slotOn 255 (turnedOn x d) ≡ serveOn n w d
+    unfolding serveOn
+    serve-unknown x f h =
+        ap (λ (z : Choice). slotOn 255 (turnedOn z d)) f
+        ∙ sym (passed _ _ _ (ne-eqb _ _ e) ∙ picked _ _ _ (lt-ltb _ _ (subst (λ (z : Choice). 31 < z .served) f h)))
+
+    pub serve-known : (x : Choice) → x ≡ chosenOn n w d → x .served < 32 → slotOn (x .served) (takeOn w (x .served) (turnedOn x d)) ≡ serveOn n w d
+    unfolding serveOn
+    serve-known x f h =
+        let g : chosenOn n w d .served < 32 = subst (λ (z : Choice). z .served < 32) f h in
+        ap (λ (z : Choice). slotOn (z .served) (takeOn w (z .served) (turnedOn z d))) f
+        ∙ sym (passed _ _ _ (ne-eqb _ _ e) ∙ passed _ _ _ (le-ltb 31 (chosenOn n w d .served) (omega arith)))
+
+-- x is what the slot comes to from state s and its arrays d
+pub record StoredSlot (t : Tree) (s : State) (d : Arrays) (x : Slot) : Type 0 where
+  pub byte : x .byte ≡ byteFrom t s
+  pub waiting : x .arrays .waiting ≡ servedFrom t s .waiting
+  pub admitted : x .arrays .admitted ≡ d .admitted
+  pub held : x .arrays .held ≡ d .held
+  pub last : x .arrays .last ≡ servedFrom t s .last
+  pub allowance : x .arrays .allowance ≡ servedFrom t s .allowance
+  pub counts : Counted t (waitingOf (servedFrom t s)) (x .arrays .under) (x .arrays .live)
+
+module _ (t : Tree) (g n : List ℕ) (W : TableOf t g) (N : NextPorts n) (s : State) (d : Arrays) (R : Stored t s d) where
+  served-none : getD (d .live) 0 0 ≡ 0 → StoredSlot t s d (slotOn 255 d)
+  served-none e =
+      let z = live-root t s (R .rules) (d .under) (d .live) (R .counts) .0 e in
+      let same : servedFrom t s ≡ s = picked _ _ _ z in
+      record {
+        byte = sym (picked _ _ _ z);
+        waiting = R .waiting ∙ sym (ap (λ (x : State). x .waiting) same);
+        admitted = refl;
+        held = refl;
+        last = R .last ∙ sym (ap (λ (x : State). x .last) same);
+        allowance = R .allowance ∙ sym (ap (λ (x : State). x .allowance) same);
+        counts = subst (λ (x : State). Counted t (waitingOf x) (d .under) (d .live)) (sym same) (R .counts);
+      }
+
+  module _ (e : getD (d .live) 0 0 ≡ 0 → ⊥) where
+    inner : 0 < inside 4 t (waitingOf s) 0
+    inner = some-inside t s (R .rules) (d .under) (d .live) (R .counts) e
+
+    turn : Choice-of t s (who 4 t s 0) (after 4 t s 0)
+    turn = choice t (sound-of t s (R .rules)) s (kept-of t s (R .rules)) inner
+
+    chosen : Chosen t s 4 0 (chosenOn n g d)
+    chosen = chooses t s n g (d .under) (d .live) (d .last) (d .allowance)
+        (record { rules = R .rules; next = N; table = W; counts = R .counts; last = R .last; allowance = R .allowance }) 4 0 (sound-of t s (R .rules) .some-ints) inner
+
+    chosen-known : chosenOn n g d .served < 32
+    chosen-known = omega (arith, chosen .served, turn .acc, sound-of t s (R .rules) .most-accs)
+
+    served-one : StoredSlot t s d (slotOn (chosenOn n g d .served) (takeOn g (chosenOn n g d .served) (turnedOn (chosenOn n g d) d)))
+    served-one =
+        let z = some-live t s (R .rules) (d .under) (d .live) (R .counts) e in
+        let same : servedFrom t s ≡ serve t s = passed _ _ _ z in
         record {
-          byte = sym (picked _ _ _ (live-root .0 e));
-          waiting = ew ∙ sym (ap (λ (x : State). x .waiting) same);
-          last = el ∙ sym (ap (λ (x : State). x .last) same);
-          allowance = eo ∙ sym (ap (λ (x : State). x .allowance) same);
-          counts = subst (λ (x : State). Counted t (waitingOf x) c v) (sym same) C;
+          byte = chosen .served ∙ sym (passed _ _ _ z);
+          waiting = ap₂ (λ (x : List ℕ) (a : ℕ). set x a (getD x a 0 - 1)) (R .waiting ∙ sym (turn .frame .waiting)) (chosen .served)
+              ∙ sym (ap (λ (x : State). x .waiting) same);
+          admitted = refl;
+          held = refl;
+          last = chosen .last ∙ sym (ap (λ (x : State). x .last) same);
+          allowance = chosen .allowance ∙ sym (ap (λ (x : State). x .allowance) same);
+          counts = subst₂ (λ (x : State) (a : ℕ). Counted t (waitingOf x) (lowered (pathPorts g a) (d .under)) (closed (pathPorts g a) (d .under) (d .live))) (sym same) (sym (chosen .served))
+              (counted-less t (sound-of t s (R .rules)) g W (who 4 t s 0) (turn .acc) (waitingOf s) (waitingOf (serve t s))
+              (take-waiting t (sound-of t s (R .rules)) s (kept-of t s (R .rules)) (who 4 t s 0) (after 4 t s 0) turn) (d .under) (d .live) (R .counts));
         }
 
-    module _ (d : getD v 0 0 ≡ 0 → ⊥) where
-      pub some-inside : 0 < inside 4 t (waitingOf s) 0
-      some-inside = elim (decLt 0 (inside 4 t (waitingOf s) 0)) [
-        | yes h ↦ h
-        | no f ↦ absurd (d (none-live t S (waitingOf s) c v C .1 (root-zero t S (waitingOf s) .0 (omega arith))))
-      ]
-        where
-          S : Sound t
-          S = sound-of t s k
-
-      turn : Choice t s (who 4 t s 0) (after 4 t s 0)
-      turn = choice t (sound-of t s k) s (kept-of t s k) some-inside
-
-      module _ (r : ℕ) (l′ o′ : List ℕ) (X : Chosen t s 4 0 r l′ o′) where
-        pub chosen-known : r < 32
-        chosen-known = omega (arith, X .served, turn .acc, sound-of t s k .most-accs)
-
-        pub served-one : Served t s r (set w r (getD w r 0 - 1)) l′ o′ (lowered (up 4 u (getD y r 0)) c) (closed (up 4 u (getD y r 0)) c v)
-        served-one =
-            let same : servedFrom t s ≡ serve t s = passed _ _ _ (some-live d) in
-            record {
-              byte = X .served ∙ sym (passed _ _ _ (some-live d));
-              waiting = ap₂ (λ (x : List ℕ) (a : ℕ). set x a (getD x a 0 - 1)) (ew ∙ sym (turn .frame .waiting)) (X .served)
-                  ∙ sym (ap (λ (x : State). x .waiting) same);
-              last = X .last ∙ sym (ap (λ (x : State). x .last) same);
-              allowance = X .allowance ∙ sym (ap (λ (x : State). x .allowance) same);
-              counts = subst (λ (x : State). Counted t (waitingOf x) (lowered (up 4 u (getD y r 0)) c) (closed (up 4 u (getD y r 0)) c v)) (sym same)
-                  (subst (λ (a : ℕ). Counted t (waitingOf (serve t s)) (lowered (up 4 u (getD y a 0)) c) (closed (up 4 u (getD y a 0)) c v)) (sym (X .served))
-                  (counted-less t (sound-of t s k) u y N (who 4 t s 0) (turn .acc) (waitingOf s) (waitingOf (serve t s))
-                  (take-waiting t (sound-of t s k) s (kept-of t s k) (who 4 t s 0) (after 4 t s 0) turn) c v C));
-            }
-
-pub window-none : (w n : ℕ) → w ≡ 0 → begins w n ≡ false
-window-none w n e = ap (λ (c : Bool). not c && eqb (n % w) 0) (eq-eqb w 0 e)
-
-pub window-begins : (w n : ℕ) → (w ≡ 0 → ⊥) → n % w ≡ 0 → begins w n ≡ true
-window-begins w n d e = ap₂ (λ (c b : Bool). not c && b) (ne-eqb w 0 d) (eq-eqb (n % w) 0 e)
-
-both-false : (c : Bool) → (c && false) ≡ false
-both-false true = refl
-both-false false = refl
-
-pub window-goes-on : (w n : ℕ) → (n % w ≡ 0 → ⊥) → begins w n ≡ false
-window-goes-on w n d = ap (λ (b : Bool). not (eqb w 0) && b) (ne-eqb (n % w) 0 d) ∙ both-false (not (eqb w 0))
+  -- the service on the arrays of a state is that of the definition
+  pub serves : StoredSlot t s d (serveOn n g d)
+  serves = elim (ℕ-discrete (getD (d .live) 0 0) 0) [
+    | yes e ↦ subst (StoredSlot t s d) (serve-none n g d e) (served-none e)
+    | no e ↦ subst (StoredSlot t s d) (serve-known n g d e (chosenOn n g d) refl (chosen-known e)) (served-one e)
+  ]

@@ -13,6 +13,7 @@ use Rattle.model.specs.declared.Tree.{Tree}
 use Rattle.folds.proofs.Folds.{picked, passed, clash}
 use Rattle.rules.proofs.Sound.{sound}
 use Rattle.trace.specs.declared.Request.{Request}
+use Rattle.machine.specs.Machine.{lastSlot}
 use Rattle.trace.specs.declared.NextRequest.the-variants.{Done, Due}
 use Rattle.lines.specs.declared.FileAnswer.the-variants.{Accepted}
 use Rattle.trace.specs.TraceFile.{added, noTotals, readTrace, requestAt}
@@ -21,7 +22,7 @@ use Rattle.trace.proofs.Requests.{accepted-trace, Step, walk-step, walk-end}
 use Rattle.runner.specs.Offers.{heldOf}
 use Rattle.runner.specs.Run.{hold, heldWith, leftAfter}
 use Rattle.runner.specs.declared.NextLine.{NextLine}
-use Rattle.runner.specs.Places.{leftAt, dueOf, Accepts, Room, Taken}
+use Rattle.runner.specs.Places.{leftAt, dueOf, Accepts, Room, AtLine, NextOf}
 
 -- the request r stands at a place of an accepted trace, and its line ends before the place p
 pub record Next (s : List ℕ) (at : ℕ) (r : Request) (p : ℕ) : Type 0 where
@@ -108,7 +109,7 @@ module _ (n : ℕ) (h : List ℕ) where
       (picked _ _ _ (le-leb _ _ l), picked _ _ _ (le-leb _ _ l))
 
 -- a line's count fits beside what is held
-pub hold-room : (h : List ℕ) (at p : ℕ) (r : Request) → Room h at → r .count < 256 → at < p → Room (hold h r) p
+hold-room : (h : List ℕ) (at p : ℕ) (r : Request) → Room h at → r .count < 256 → at < p → Room (hold h r) p
 hold-room h at p r R c m a = elim (ℕ-discrete a (r .accelerator)) [
   | yes e ↦ elim (decLt (r .accelerator) (length h)) [
     | yes l ↦
@@ -118,6 +119,14 @@ hold-room h at p r R c m a = elim (ℕ-discrete a (r .accelerator)) [
   ]
   | no d ↦ omega (arith, getD-set-other h (r .accelerator) a (heldOf h (r .accelerator) + r .count) 0 d, R a)
 ]
+
+-- the held counts h′ have the lines due in slot n, from the place `at` on, added to h, and r is the next line then
+abbrev Taken : (n : ℕ) (s h : List ℕ) (at : ℕ) (h′ : List ℕ) (r : NextLine) → Type 0
+Taken n s h at h′ r = (h′ ≡ heldWith n h (leftAt s at)) × NextOf n s h at r
+
+taken : (n : ℕ) (s h : List ℕ) (at : ℕ) (h′ : List ℕ) (r : NextLine) → h′ ≡ heldWith n h (leftAt s at)
+    → leftAt s (r .at) ≡ leftAfter n (leftAt s at) → AtLine s h′ r → Taken n s h at h′ r
+taken n s h at h′ r e l A = (e, record { left = l; line = subst (λ (x : List ℕ). AtLine s x r) e A })
 
 -- the lines due, between two of them: what is left to add from here is what was left at the start
 pub record Taking (n : ℕ) (s h₀ : List ℕ) (at₀ : ℕ) (h : List ℕ) (at : ℕ) : Type 0 where
@@ -132,18 +141,12 @@ taking-start n s h at A R = record { accepts = A; room = R; held = refl; left = 
 module _ (n : ℕ) (s h₀ : List ℕ) (at₀ : ℕ) (h : List ℕ) (at : ℕ) (T : Taking n s h₀ at₀ h at) where
   ends : (n′ : ℕ) → n′ ≤ dueOf (leftAt s at) → (heldWith n h (leftAt s at) ≡ h) × (leftAfter n (leftAt s at) ≡ leftAt s at)
       → Taken n s h₀ at₀ h (record { at = at; due = n′ })
-  ends n′ d e = record {
-    held = sym (T .held ∙ e .0);
-    left = sym (T .left ∙ e .1);
-    accepts = T .accepts;
-    room = T .room;
-    due = d;
-  }
+  ends n′ d e = taken n s h₀ at₀ h _ (sym (T .held ∙ e .0)) (sym (T .left ∙ e .1)) (record { accepts = T .accepts; room = T .room; due = d })
 
-  pub taking-all : length s ≤ at → Taken n s h₀ at₀ h (record { at = at; due = 4294967295 })
+  pub taking-all : length s ≤ at → Taken n s h₀ at₀ h (record { at = at; due = lastSlot })
   taking-all l =
       let e = walk-end s at l .1 in
-      ends 4294967295 (subst (λ (rs : List Request). 4294967295 ≤ dueOf rs) (sym e) (omega arith)) (none-due n h (leftAt s at) e)
+      ends lastSlot (subst (λ (rs : List Request). lastSlot ≤ dueOf rs) (sym e) (omega arith)) (none-due n h (leftAt s at) e)
 
   module _ (l : at < length s) (r : Request) (p : ℕ) (e : requestAt s at ≡ Due r p) where
     pub taking-next : Next s at r p
@@ -170,8 +173,7 @@ unfolding heldWith leftAfter
 not-due n h [] l = (refl, refl)
 not-due n h (r ∷ rs) l = later-due n h (r ∷ rs) rs r refl l
 
-pub taken-none : (n : ℕ) (s h : List ℕ) (d : NextLine) → Accepts s (d .at) → Room h (d .at) → d .due ≤ dueOf (leftAt s (d .at)) → n < d .due
-    → Taken n s h (d .at) h d
-taken-none n s h d A R m l =
-    let e = not-due n h (leftAt s (d .at)) (omega arith) in
-    record { held = sym (e .0); left = sym (e .1); accepts = A; room = R; due = m }
+pub taken-none : (n : ℕ) (s h : List ℕ) (d : NextLine) → AtLine s h d → n < d .due → Taken n s h (d .at) h d
+taken-none n s h d A l =
+    let e = not-due n h (leftAt s (d .at)) (omega (arith, A .due)) in
+    taken n s h (d .at) h d (sym (e .0)) (sym (e .1)) A

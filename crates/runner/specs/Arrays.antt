@@ -1,42 +1,111 @@
--- The arrays that a run holds in place of a state, for the contracts of the inner functions. Each says what the code does on
--- whatever configuration and state its arrays are those of.
+-- One slot of a run on the arrays that it holds in place of a state: what the inner functions come to on any arrays.
 --
 -- begins w n            slot n begins a window of w slots
--- servedFrom t s        the state once a slot has served, before the slot count rises; byteFrom t s: its byte
--- Served t s r w l o c v  r is the byte of the slot, and w, l, o, c and v are the arrays once it has served
--- Serves                one slot serves, or is idle: from w l o c v to r and w′ l′ o′ c′ v′
-use Prim.Native.Nat.{ℕ, _%_}
-use mathlib.Core.Bool.{Bool, true, not, _&&_}
+-- Slot                  a slot's byte and the arrays after it; slotOn b d: these two
+-- chosenOn n w d        the choice from the root, by the table n of next ports and the table w of the configuration
+-- turnedOn x d          the arrays d with the last ports and the allowances of the choice x
+-- takeOn w a d          one transaction of accelerator a is served: it counts no longer under each port from its own up to the root
+-- serveOn n w d         the slot serves, or is idle
+-- openOn b d            the arrays d where a window opens if b: the admitted counts return to 0
+-- endOn x b             how a slot ends, by its byte x and whether a window opens then
+-- slotEndOn n w p m d   how the slot m ends that is run on d, in windows of p slots
+-- afterOn n w p m d     the slot m is run: service, and the end of a window of p slots
+-- everyOn e x n         every accelerator may have a transaction admitted in slot n, and not only the one served last
+-- withHeld h d          the arrays d with the held counts h
+-- beforeOn s n x e k w d  what comes before slot n: the lines due from the place of x in the trace s are held, and the k
+--                       accelerators offer, by the end e of the slot before
+use Prim.Native.Nat.{ℕ, _+_, _-_, _%_}
+use mathlib.Core.Bool.{Bool, not, _&&_, _||_}
 use mathlib.Core.List.{List}
-use mathlib.Core.Path.{_≡_}
-use lib.Dec.{eqb}
-use Rattle.model.specs.declared.Tree.{Tree}
-use Rattle.model.specs.declared.State.{State}
+use lib.Dec.{eqb, ltb, leb}
+use lib.ListN.{getD, set, replicate}
 use Rattle.folds.specs.Fold.{pick}
-use Rattle.model.specs.Tree.{waitingOf}
-use Rattle.rules.specs.Rules.{keeps}
-use Rattle.turns.specs.Turns.{NextPorts}
-use Rattle.machine.specs.Machine.{noneWaits, chosen, serve}
-use Rattle.counts.specs.Wiring.{Ports, Lanes}
-use Rattle.counts.specs.Counts.{Counted}
+use Rattle.counts.specs.Counts.{pathPorts, lowered, closed}
+use Rattle.counts.specs.Choice.{Choice, chooseOn}
+use Rattle.admit.specs.Admitting.{Arrays, offersBefore}
+use Rattle.runner.specs.declared.NextLine.{NextLine}
+use Rattle.runner.specs.declared.SlotEnd.{SlotEnd}
+use Rattle.runner.specs.Run.{heldWith}
+use Rattle.runner.specs.Places.{leftAt}
 
 abbrev pub begins : ℕ → ℕ → Bool
 begins w n = not (eqb w 0) && eqb (n % w) 0
 
-abbrev pub servedFrom : Tree → State → State
-servedFrom t s = pick (noneWaits s) s (serve t s)
+pub record Slot : Type 0 where
+  pub byte : ℕ
+  pub arrays : Arrays
 
-abbrev pub byteFrom : Tree → State → ℕ
-byteFrom t s = pick (noneWaits s) 255 (chosen t s)
+abbrev pub slotOn : ℕ → Arrays → Slot
+slotOn b d = record { byte = b; arrays = d }
 
-pub record Served (t : Tree) (s : State) (r : ℕ) (w l o c v : List ℕ) : Type 0 where
-  pub byte : r ≡ byteFrom t s
-  pub waiting : w ≡ servedFrom t s .waiting
-  pub last : l ≡ servedFrom t s .last
-  pub allowance : o ≡ servedFrom t s .allowance
-  pub counts : Counted t (waitingOf (servedFrom t s)) c v
+abbrev pub chosenOn : (n w : List ℕ) → Arrays → Choice
+chosenOn n w d = chooseOn 4 n w (d .under) (d .live) 0 (d .last) (d .allowance)
 
-abbrev pub Serves : (n p g u y w l o c v : List ℕ) (r : ℕ) (w′ l′ o′ c′ v′ : List ℕ) → Type 0
-Serves n p g u y w l o c v r w′ l′ o′ c′ v′ =
-    (t : Tree) (s : State) → NextPorts n → Ports t p g → Lanes t u y → keeps t s ≡ true → w ≡ s .waiting → l ≡ s .last
-    → o ≡ s .allowance → Counted t (waitingOf s) c v → Served t s r w′ l′ o′ c′ v′
+abbrev pub turnedOn : Choice → Arrays → Arrays
+turnedOn x d =
+    record {
+      waiting = d .waiting;
+      admitted = d .admitted;
+      held = d .held;
+      under = d .under;
+      live = d .live;
+      last = x .last;
+      allowance = x .allowance;
+    }
+
+abbrev pub takeOn : List ℕ → ℕ → Arrays → Arrays
+takeOn w a d =
+    record {
+      waiting = set (d .waiting) a (getD (d .waiting) a 0 - 1);
+      admitted = d .admitted;
+      held = d .held;
+      under = lowered (pathPorts w a) (d .under);
+      live = closed (pathPorts w a) (d .under) (d .live);
+      last = d .last;
+      allowance = d .allowance;
+    }
+
+unfoldable pub serveOn : (n w : List ℕ) → Arrays → Slot
+serveOn n w d =
+    pick (eqb (getD (d .live) 0 0) 0) (slotOn 255 d)
+    (pick (ltb 31 (chosenOn n w d .served)) (slotOn 255 (turnedOn (chosenOn n w d) d))
+    (slotOn (chosenOn n w d .served) (takeOn w (chosenOn n w d .served) (turnedOn (chosenOn n w d) d))))
+
+abbrev pub openOn : Bool → Arrays → Arrays
+openOn b d =
+    record {
+      waiting = d .waiting;
+      admitted = pick b (replicate 32 0) (d .admitted);
+      held = d .held;
+      under = d .under;
+      live = d .live;
+      last = d .last;
+      allowance = d .allowance;
+    }
+
+abbrev pub endOn : ℕ → Bool → SlotEnd
+endOn x b = record { served = x; opened = b }
+
+abbrev pub slotEndOn : (n w : List ℕ) (p m : ℕ) → Arrays → SlotEnd
+slotEndOn n w p m d = endOn (serveOn n w d .byte) (begins p (m + 1))
+
+abbrev pub afterOn : (n w : List ℕ) (p m : ℕ) → Arrays → Arrays
+afterOn n w p m d = openOn (begins p (m + 1)) (serveOn n w d .arrays)
+
+abbrev pub everyOn : SlotEnd → NextLine → ℕ → Bool
+everyOn e x n = e .opened || leb (x .due) n || eqb (e .served) 255
+
+abbrev pub withHeld : List ℕ → Arrays → Arrays
+withHeld h d =
+    record {
+      waiting = d .waiting;
+      admitted = d .admitted;
+      held = h;
+      under = d .under;
+      live = d .live;
+      last = d .last;
+      allowance = d .allowance;
+    }
+
+abbrev pub beforeOn : (s : List ℕ) (n : ℕ) → NextLine → SlotEnd → ℕ → List ℕ → Arrays → Arrays
+beforeOn s n x e k w d = offersBefore w (everyOn e x n) (e .served) k (withHeld (heldWith n (d .held) (leftAt s (x .at))) d)

@@ -3,7 +3,6 @@
 -- heldOf h a            the held transactions of accelerator a
 -- release h a           the held counts with one transaction of accelerator a less
 -- Offering              the state and the held counts between two offers; offering s h: the state s and the held counts h
--- onAdmitted x y z      y if the answer x is an admission, else z
 -- offerHeld k t o a     accelerator a offers held transactions, at most k of them, "until one is refused or none is left, and
 --                       an offer that is refused leaves the held request first in line"
 -- offerAll t o a        the same with all that accelerator a holds
@@ -13,7 +12,7 @@ use mathlib.Core.List.{List}
 use lib.ListN.{getD, set}
 use Rattle.model.specs.declared.Tree.{Tree}
 use Rattle.model.specs.declared.State.{State}
-use Rattle.machine.specs.Machine.{Answer, admitted, served, idle, refused, offered}
+use Rattle.machine.specs.Machine.{onAdmitted, offered}
 
 pub record Offering : Type 0 where
   pub state : State
@@ -24,12 +23,6 @@ heldOf h a = getD h a 0
 
 abbrev pub release : List ℕ → ℕ → List ℕ
 release h a = set h a (heldOf h a - 1)
-
-abbrev pub onAdmitted : {A : Type 0} → Answer → A → A → A
-onAdmitted admitted y z = y
-onAdmitted (served a) y z = z
-onAdmitted idle y z = z
-onAdmitted (refused n) y z = z
 
 abbrev pub offering : State → List ℕ → Offering
 offering s h = record { state = s; held = h }

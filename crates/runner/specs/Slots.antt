@@ -2,8 +2,8 @@
 --
 -- standing n t r        where the run from r stands after n slots
 -- bytesBefore n t r     the bytes of these n slots
--- leftFrom n rs         the lines of rs from the first on that is not due before slot n
--- dueBefore n rs        the lines of rs before that one: in a trace, whose slots do not fall, all that are due before slot n
+-- dueBefore n rs        the lines of rs before the first that is not due before slot n: in a trace, whose slots do not fall, all
+--                       that are due before it
 use Prim.Native.Nat.{ℕ, zero, suc}
 use mathlib.Core.List.{List, [], _∷_, _++_}
 use lib.Dec.{ltb}
@@ -19,10 +19,6 @@ standing (suc n) t r = next t (standing n t r)
 unfoldable pub bytesBefore : ℕ → Tree → Run → List ℕ
 bytesBefore zero t r = []
 bytesBefore (suc n) t r = bytesBefore n t r ++ lastByte t (standing n t r) ∷ []
-
-unfoldable pub leftFrom : ℕ → List Request → List Request
-leftFrom n [] = []
-leftFrom n (r ∷ rs) = pick (ltb (r .slot) n) (leftFrom n rs) (r ∷ rs)
 
 unfoldable pub dueBefore : ℕ → List Request → List Request
 dueBefore n [] = []

@@ -2,18 +2,16 @@
 // is written as one byte.
 mod steps;
 
-use admit::offer_before_slot;
-use counts::tables::wires_of;
+use counts::tables::table_of;
 use lines::FileAnswer;
 use machine::FreshAnswer;
 use machine::fresh;
 use model::Refusal;
 use model::State;
 use model::Tree;
+use steps::after_slot;
+use steps::before_slot;
 use steps::is_done;
-use steps::open_window;
-use steps::serve;
-use steps::take_due;
 use steps::turns_of;
 use trace::read_requests;
 use turns::next_ports;
@@ -45,6 +43,12 @@ pub struct NextLine {
     pub due: u32,
 }
 
+// How a slot ends: its byte, and whether a window opens then.
+pub struct SlotEnd {
+    pub served: u8,
+    pub opened: bool,
+}
+
 // How a run that used so many slots ended.
 fn ended(done: bool, used: u32) -> RunAnswer
     ensures { λ r. ⌜ runMeans r ≡ endAfter done used ⌝ }
@@ -62,32 +66,41 @@ fn run_slots(t: Tree, fresh: State, trace: &[u8], out: &mut [u8]) -> RunAnswer
     ensures answer { λ r. ⌜ runMeans r ≡ endOf (runFor t (leftAt (now (trace .entry)) 0) (length (now (out .entry)))) ⌝ }
     ensures bytes { λ r. ⌜ now (out .exit) ≡ over (runFor t (leftAt (now (trace .entry)) 0) (length (now (out .entry)))) (now (out .entry)) ⌝ }
 {
-    let wires = wires_of(t);
+    let table = table_of(t);
     let next = next_ports();
     let last = fresh.last;
     let mut blocks = [0u32; 96];
     let mut under = [0u16; 120];
     let mut turns = turns_of(last);
     let mut line = NextLine { at: 0, due: 0 };
-    let mut served = IDLE;
-    let mut opened = true;
+    let mut past = SlotEnd {
+        served: IDLE,
+        opened: true,
+    };
     let mut used: usize = 0;
     while used < out.len() && !is_done(trace, line.at, &blocks, &turns) {
-        let every = opened | (line.due <= used as u32) | (served == IDLE);
-        line = take_due(trace, used as u32, line, &mut blocks);
-        offer_before_slot(
-            every,
-            served,
+        line = before_slot(
+            trace,
+            used as u32,
+            line,
+            past,
             t.accs,
-            &wires,
+            &table,
             &mut blocks,
             &mut under,
             &mut turns,
         );
-        served = serve(&next, &wires, &mut blocks, &mut under, &mut turns);
-        out[used] = served;
+        past = after_slot(
+            &next,
+            &table,
+            t.bus.window as u32,
+            used as u32,
+            &mut blocks,
+            &mut under,
+            &mut turns,
+        );
+        out[used] = past.served;
         used += 1;
-        opened = open_window(t.bus.window as u32, used as u32, &mut blocks);
     }
     ended(is_done(trace, line.at, &blocks, &turns), used as u32)
 }

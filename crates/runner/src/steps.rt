@@ -1,31 +1,34 @@
 // What a run does in one slot beside the offers: the lines due, the service, and the window's end.
 use crate::IDLE;
 use crate::NextLine;
+use crate::SlotEnd;
 use admit::ADMITTED;
 use admit::HELD;
-use counts::HOME;
+use admit::offer_before_slot;
 use counts::LIVE;
+use counts::OWN_PORT;
 use counts::along::take_along;
 use counts::choice::choose;
+use rules::less_one;
 use trace::NextRequest;
 use trace::request_at;
 ghost use mathlib.Core.Path.{_≡_};
 ghost use mathlib.Core.Bool.{_&&_};
-ghost use Prim.Native.Nat.{_≤_, _-_};
+ghost use Prim.Native.Nat.{_<_, _+_, _-_};
 ghost use lib.Dec.{eqb};
-ghost use lib.ListN.{length, getD, take, drop, replicate};
-ghost use Rattle.counts.specs.Wiring.{grants, aboves, homes};
+ghost use lib.ListN.{length, getD, take, replicate};
 ghost use Rattle.counts.specs.Counts.{lasts, allowances, lives};
-ghost use Rattle.admit.specs.Admitting.{waitings, admitteds, helds};
+ghost use Rattle.admit.specs.Admitting.{waitings, admitteds, helds, arraysOf};
 ghost use Rattle.folds.specs.Fold.{pick};
-ghost use Rattle.runner.specs.Run.{noneHeld};
-ghost use Rattle.runner.specs.Places.{leftAt, dueOf, Accepts, Room, Taken};
-ghost use Rattle.runner.specs.Arrays.{begins, Serves};
+ghost use Rattle.runner.specs.Run.{noneHeld, heldWith};
+ghost use Rattle.runner.specs.Places.{leftAt, AtLine, NextOf};
+ghost use Rattle.runner.specs.Arrays.{begins, slotOn, serveOn, slotEndOn, afterOn, beforeOn};
 
 // Adds the lines due in this slot to the held counts.
-pub fn take_due(trace: &[u8], slot: u32, line: NextLine, blocks: &mut [u32; 96]) -> NextLine
-    requires { ⌜ Accepts (now trace) (line .at) × Room (helds (now blocks)) (line .at) × (line .due ≤ dueOf (leftAt (now trace) (line .at))) ⌝ }
-    ensures due { λ r. ⌜ Taken slot (now (trace .entry)) (helds (now (blocks .entry))) (line .at) (helds (now (blocks .exit))) r ⌝ }
+fn take_due(trace: &[u8], slot: u32, line: NextLine, blocks: &mut [u32; 96]) -> NextLine
+    requires { ⌜ AtLine (now trace) (helds (now blocks)) line ⌝ }
+    ensures held { λ _. ⌜ helds (now (blocks .exit)) ≡ heldWith slot (helds (now (blocks .entry))) (leftAt (now (trace .entry)) (line .at)) ⌝ }
+    ensures line { λ r. ⌜ NextOf slot (now (trace .entry)) (helds (now (blocks .entry))) (line .at) r ⌝ }
     ensures rest { λ _. ⌜ take 64 (now (blocks .exit)) ≡ take 64 (now (blocks .entry)) ⌝ }
 {
     if slot < line.due {
@@ -71,37 +74,27 @@ pub fn is_done(trace: &[u8], at: usize, blocks: &[u32; 96], turns: &[u8; 45]) ->
     (at == trace.len()) & none_held(blocks) & (turns[LIVE] == 0)
 }
 
-// What is left of a waiting count once one is served.
-fn one_less(n: u32) -> u32
-    ensures { λ r. ⌜ r ≡ n - 1 ⌝ }
-{
-    if n == 0 {
-        return 0;
-    }
-    n - 1
-}
-
 // Serves the transaction whose turn it is, and answers its accelerator, or that the slot is idle.
-pub fn serve(
+fn serve(
     next: &[u8; 2048],
-    wires: &[u16; 246],
+    table: &[u16; 246],
     blocks: &mut [u32; 96],
     under: &mut [u16; 120],
     turns: &mut [u8; 45],
 ) -> u8
-    ensures served { λ r. ⌜ Serves (now (next .entry)) (now (wires .entry)) (grants (now (wires .entry))) (aboves (now (wires .entry))) (homes (now (wires .entry))) (waitings (now (blocks .entry))) (lasts (now (turns .entry))) (allowances (now (turns .entry))) (now (under .entry)) (lives (now (turns .entry))) r (waitings (now (blocks .exit))) (lasts (now (turns .exit))) (allowances (now (turns .exit))) (now (under .exit)) (lives (now (turns .exit))) ⌝ }
-    ensures rest { λ _. ⌜ drop 32 (now (blocks .exit)) ≡ drop 32 (now (blocks .entry)) ⌝ }
+    ensures { λ r. ⌜ slotOn r (arraysOf (now (blocks .exit)) (now (under .exit)) (now (turns .exit)))
+        ≡ serveOn (now (next .entry)) (now (table .entry)) (arraysOf (now (blocks .entry)) (now (under .entry)) (now (turns .entry))) ⌝ }
 {
     if turns[LIVE] == 0 {
         return IDLE;
     }
-    let a = choose(next, wires, under, 4, 0, turns);
+    let a = choose(next, table, under, 4, 0, turns);
     let i = a as usize;
     if 31 < i {
         return IDLE;
     }
-    blocks[i] = one_less(blocks[i]);
-    take_along(wires, wires[HOME + i], under, turns);
+    blocks[i] = less_one(blocks[i]);
+    take_along(table, table[OWN_PORT + i], under, turns);
     a
 }
 
@@ -121,7 +114,7 @@ fn without_admitted(b: [u32; 96]) -> [u32; 96]
 }
 
 // Where slot n begins a window the admitted counts return to 0. Answers whether it does.
-pub fn open_window(window: u32, n: u32, blocks: &mut [u32; 96]) -> bool
+fn open_window(window: u32, n: u32, blocks: &mut [u32; 96]) -> bool
     ensures opens { λ r. ⌜ r ≡ begins window n ⌝ }
     ensures waiting { λ r. ⌜ waitings (now (blocks .exit)) ≡ waitings (now (blocks .entry)) ⌝ }
     ensures admitted { λ r. ⌜ admitteds (now (blocks .exit)) ≡ pick (begins window n) (replicate 32 0) (admitteds (now (blocks .entry))) ⌝ }
@@ -135,6 +128,53 @@ pub fn open_window(window: u32, n: u32, blocks: &mut [u32; 96]) -> bool
         return true;
     }
     false
+}
+
+// What comes before a slot: the lines due are held, and the accelerators offer. After a slot that served, opened no window and
+// had no line due, only the accelerator served may have more admitted.
+pub fn before_slot(
+    trace: &[u8],
+    slot: u32,
+    line: NextLine,
+    past: SlotEnd,
+    accs: u8,
+    table: &[u16; 246],
+    blocks: &mut [u32; 96],
+    under: &mut [u16; 120],
+    turns: &mut [u8; 45],
+) -> NextLine
+    requires { ⌜ AtLine (now trace) (helds (now blocks)) line ⌝ }
+    ensures arrays { λ r. ⌜ arraysOf (now (blocks .exit)) (now (under .exit)) (now (turns .exit))
+        ≡ beforeOn (now (trace .entry)) slot line past accs (now (table .entry)) (arraysOf (now (blocks .entry)) (now (under .entry)) (now (turns .entry))) ⌝ }
+    ensures line { λ r. ⌜ NextOf slot (now (trace .entry)) (helds (now (blocks .entry))) (line .at) r ⌝ }
+{
+    let every = past.opened | (line.due <= slot) | (past.served == IDLE);
+    let next = take_due(trace, slot, line, blocks);
+    offer_before_slot(every, past.served, accs, table, blocks, under, turns);
+    next
+}
+
+// One slot is run once the offers are made: the service, and the end of a window.
+pub fn after_slot(
+    next: &[u8; 2048],
+    table: &[u16; 246],
+    window: u32,
+    slot: u32,
+    blocks: &mut [u32; 96],
+    under: &mut [u16; 120],
+    turns: &mut [u8; 45],
+) -> SlotEnd
+    requires { ⌜ slot < 4294967295 ⌝ }
+    ensures end { λ r. ⌜ r ≡ slotEndOn (now (next .entry)) (now (table .entry)) window slot (arraysOf (now (blocks .entry)) (now (under .entry)) (now (turns .entry))) ⌝ }
+    ensures arrays { λ r. ⌜ arraysOf (now (blocks .exit)) (now (under .exit)) (now (turns .exit))
+        ≡ afterOn (now (next .entry)) (now (table .entry)) window slot (arraysOf (now (blocks .entry)) (now (under .entry)) (now (turns .entry))) ⌝ }
+{
+    let served = serve(next, table, blocks, under, turns);
+    let opened = open_window(window, slot + 1, blocks);
+    SlotEnd {
+        served: served,
+        opened: opened,
+    }
 }
 
 // The turns with these last ports, no allowance and no live port.

@@ -14,12 +14,12 @@ use Rattle.model.specs.declared.State.{State}
 use Rattle.folds.specs.Fold.{pick}
 use Rattle.folds.proofs.Folds.{picked, passed}
 use Rattle.model.proofs.Lists.{beyond}
-use Rattle.machine.specs.Machine.{Outcome, offered}
+use Rattle.machine.specs.Machine.{Outcome, offered, onAdmitted}
 use Rattle.machine.specs.Calls.{Call, offer, stateAfter}
 use Rattle.machine.proofs.Cases.{Offered, refuses, admits, offer-cases}
 use Rattle.guarantee.specs.Guarantee.{Event, event, eventsOf, slotsIn}
 use Rattle.runner.specs.Offers.{Offering}
-use Rattle.runner.specs.Offers.{heldOf, release, onAdmitted, offering, offerHeld, offerEach}
+use Rattle.runner.specs.Offers.{heldOf, release, offering, offerHeld, offerEach}
 use Rattle.runner.proofs.Held.{release-own}
 use Rattle.runs.specs.Calls.{offersHeld, offersEach, bytesIn, admissionsBy}
 use Rattle.guarantee.proofs.Events.{state-append, events-append, slots-append}

@@ -29,8 +29,8 @@ use Rattle.guarantee.specs.Guarantee.{event, eventsOf, unrefused, slotsIn}
 use Rattle.guarantee.proofs.Theorem.{guarantee}
 use Rattle.runner.specs.Offers.{heldOf}
 use Rattle.runner.specs.Run.{Run, Trail, withDue, beforeSlot, lastByte, next, start, runFor, Ending, refusedAt, broken, endOf, answered, over, overwritten, ranOf, bufferAfter}
-use Rattle.runner.specs.Slots.{standing, bytesBefore, leftFrom, dueBefore}
-use Rattle.runner.proofs.Laws.{ran, ending-done, ending-stopped, Stood, stood, stood-unrefused, due-long}
+use Rattle.runner.specs.Slots.{standing, bytesBefore, dueBefore}
+use Rattle.runner.proofs.Laws.{ran, ending-done, ending-stopped, leftFrom, Stood, stood, stood-unrefused, due-long}
 use Rattle.runner.proofs.Asked.{held-asked, asked-more, asked-start}
 use Rattle.runs.specs.Calls.{offersEach, slotCalls, callsBefore, bytesIn, admissionsBy, Reports, RunIsCalls}
 use Rattle.guarantee.proofs.Events.{state-append, events-append, slots-append}

@@ -24,10 +24,10 @@ use Rattle.model.specs.declared.Tree.{Tree}
 use Rattle.text.specs.Text.{lines}
 use Rattle.trace.specs.declared.Request.{Request}
 use Rattle.trace.specs.TraceFile.{requests, totalFor}
-use Rattle.machine.specs.Machine.{Answer, freshState, offered}
+use Rattle.machine.specs.Machine.{Answer, freshState, offered, onAdmitted}
 use Rattle.machine.specs.Calls.{Call, offer, slot, stateAfter}
 use Rattle.guarantee.specs.Guarantee.{Event, eventsOf, slotsIn, admitsOne, Guarantee}
-use Rattle.runner.specs.Offers.{Offering, heldOf, release, onAdmitted, offering, offerEach}
+use Rattle.runner.specs.Offers.{Offering, heldOf, release, offering, offerEach}
 use Rattle.runner.specs.Run.{Run, withDue, byteOf, start, Ending, done, stopped, bufferAfter}
 use Rattle.runner.specs.Slots.{standing, dueBefore}
 

@@ -1,6 +1,6 @@
 -- `run_slots` meets its contract: what was written so far, with what is left of the run, is the run from the start.
-use mathlib.Core.Path.{_≡_, refl, sym, _∙_}
-use Prim.Native.Nat.{ℕ, _≤_, _-_}
+use mathlib.Core.Path.{_≡_, sym, _∙_}
+use Prim.Native.Nat.{_≤_, _-_, _+_}
 use mathlib.Core.Bool.{true, false}
 use native.Mathlib.Omega.{arith}
 use lib.ListN.{length}
@@ -8,116 +8,105 @@ use borrow.Author.Needs.{needs}
 use borrow.Author.Tests.{not-true, not-false}
 use mathlib.Core.Logic.{inl, inr}
 use Rattle.folds.proofs.Folds.{clash}
-use Rattle.runner.proofs.Slots.{running-ended}
-use Rattle.runner.proofs.Going.{fewer, Fixed, going-start}
-use Rattle.runner.proofs.Looping.{Lent, lentPlace, lent-done, turned}
+use Rattle.counts.proofs.Table.{table-is}
+use Rattle.admit.specs.Admitting.{arraysOf}
+use Rattle.runner.specs.Run.{runFor}
+use Rattle.runner.specs.Places.{leftAt}
+use Rattle.runner.proofs.Slots.{Running, running-start, running-turn, running-ended}
+use Rattle.runner.proofs.Walk.{fewer, Fixed, Walk, walk-start, walk-done, walk-next}
 use Rattle.runner.proofs.run_slots.Statement.{statement}
 use Rattle.runner.proofs.run_slots.Tie as tie
 
 abbrev Inv-loop : tie.InvT-loop
-Inv-loop t trace out₀ wires next blocks₀ under₀ turns₀ line₀ served₀ opened₀ used₀ out blocks under turns line served opened used =
-    Fixed t wires next × Lent t trace out₀ out blocks under turns line served opened used × (length out₀ ≤ 65536)
+Inv-loop t trace out₀ table next blocks₀ under₀ turns₀ line₀ past₀ used₀ out blocks under turns line past used =
+    Fixed t table next
+    × Walk t trace (Running t (runFor t (leftAt trace 0) (length out₀)) out₀ out used) (arraysOf blocks under turns) line past used
+    × (length out₀ ≤ 65536)
 
 abbrev μ-loop : tie.MeasureT-loop
-μ-loop t trace out₀ wires next blocks₀ under₀ turns₀ line₀ served₀ opened₀ used₀ out blocks under turns line served opened used = length out - used
+μ-loop t trace out₀ table next blocks₀ under₀ turns₀ line₀ past₀ used₀ out blocks under turns line past used = length out - used
 
 loop-holds : tie.Need-loop-holds Inv-loop μ-loop
 loop-holds c =
     let x = c .before .before .before .before .before .before .args in
     let q = c .before .before .before .before .before .before .pre in
     let y = c .turns-of .ensures in (
-      record { rules = q .0; wired = c .before .before .before .wires-of .ensures; table = c .before .before .next-ports .ensures },
-      going-start (x .t) (x .trace .now) (x .out .now) _ _ _ (x .fresh) (q .0) (q .1) (q .3) (y .0) (y .1 .0) (y .1 .1),
+      record { rules = q .0; table = table-is (x .t) _ (c .before .before .before .table-of .ensures); next = c .before .before .next-ports .ensures },
+      walk-start (x .t) (x .trace .now) _ _ _ (x .fresh) _ (q .0) (q .1) (q .3) (y .0) (y .1 .0) (y .1 .1)
+          (running-start (x .t) (x .out .now) _),
       q .2,
     )
 
-cast-every : tie.Need-cast-every Inv-loop μ-loop
-cast-every c = let l = c .before .before .before .before .before .loop in omega (arith, l .inv .1 .running .small)
+before-slot-requires : tie.Need-before-slot-requires Inv-loop μ-loop
+before-slot-requires c κs = c .before .before .before .before .before .before .before .before .before .loop .inv .1 .shows .line
 
-cast-take-due : tie.Need-cast-take-due Inv-loop μ-loop
-cast-take-due c = let l = c .before .before .before .before .before .before .loop in omega (arith, l .inv .1 .running .small)
+cast-before-slot : tie.Need-cast-before-slot Inv-loop μ-loop
+cast-before-slot c = let l = c .before .before .before .before .before .loop in omega (arith, l .inv .1 .holds .small)
 
-take-due-requires : tie.Need-take-due-requires Inv-loop μ-loop
-take-due-requires c κs = let g = c .before .before .before .before .before .before .before .loop .inv .1 in (g .running .stands .accepts, g .running .stands .room, g .due)
+cast-after-slot : tie.Need-cast-after-slot-2 Inv-loop μ-loop
+cast-after-slot c = let l = c .before .before .before .before .before .before .before .before .before .before .before .before .before .loop in omega (arith, l .inv .1 .holds .small)
+
+after-slot-requires : tie.Need-after-slot-requires Inv-loop μ-loop
+after-slot-requires c κs = let l = c .before .before .before .before .before .before .before .before .before .before .before .before .before .before .before .before .loop in omega (arith, l .inv .1 .holds .small)
 
 slice-write-out : tie.Need-slice-write-out Inv-loop μ-loop
-slice-write-out c = c .before .before .before .before .before .before .before .before .before .before .before .before .before .before .before .before .before .before .loop-test .taken
+slice-write-out c = c .before .before .before .before .before .before .before .before .before .before .before .before .before .before .before .before .loop-test .taken
 
 add-used : tie.Need-add-used Inv-loop μ-loop
-add-used c = let l = c .before .before .before .before .before .before .before .before .before .before .before .before .before .before .before .before .before .before .before .loop in omega (arith, l .inv .1 .running .small)
-
-cast-open-window-2 : tie.Need-cast-open-window-2 Inv-loop μ-loop
-cast-open-window-2 c = let l = c .before .before .before .before .before .before .before .before .before .before .before .before .before .before .before .before .before .before .before .before .loop in omega (arith, l .inv .1 .running .small, l .inv .1 .running .long)
+add-used c = let l = c .before .before .before .before .before .before .before .before .before .before .before .before .before .before .before .before .before .loop in omega (arith, l .inv .1 .holds .small)
 
 loop-less : tie.Need-loop-less Inv-loop μ-loop
-loop-less c = let l = c .before .before .before .before .before .before .before .before .before .before .before .before .before .before .before .before .before .before .before .before .before .before .loop in fewer (l .out) (l .used) _ _ (c .before .before .before .before .before .before .before .before .before .before .before .before .before .before .before .before .before .before .before .before .before .loop-test .taken) (omega arith)
+loop-less c =
+    let k = c .before .before .before .before .before .before .before .before .before .before .before .before .before .before .before .before in
+    let l = k .before .loop in
+    fewer (l .out) (l .used) _ _ (k .loop-test .taken) (omega arith)
 
 loop-again : tie.Need-loop-again Inv-loop μ-loop
 loop-again c =
-    let x = c .before .before .before .before .before .before .before .before .before .before .before .before .before .before .before .before .before .before .before .before .before .before .before .before .before .before .before .before .before .args in
-    let l = c .before .before .before .before .before .before .before .before .before .before .before .before .before .before .before .before .before .before .before .before .before .before .loop in
-    let due = c .before .before .before .before .before .before .before .before .before .before .before .before .before .before .take-due in
-    let offers = c .before .before .before .before .before .before .before .before .before .offer-before-slot in
-    let service = c .before .before .before .serve in
-    let window = c .open-window in
-    let F = l .inv .0 in
-    let G = l .inv .1 in (
-      F,
-      turned (x .t) _ _ (x .trace .now) (x .out .now) (l .out) (l .blocks) (l .under) (l .turns) (l .line) (l .served) (l .opened) (l .used) F G
-          (due .last .1 .1 .1 .0) (due .result) (due .ensures .0) (due .ensures .1)
-          (offers .last .1 .1 .1 .1 .0) (offers .last .1 .1 .1 .1 .1 .0) (offers .last .1 .1 .1 .1 .1 .1 .0) (offers .ensures .0) (offers .ensures .1)
-          (service .result) (service .last .1 .1 .0) (service .last .1 .1 .1 .0) (service .last .1 .1 .1 .1 .0) (service .ensures .0) (service .ensures .1)
-          _ refl (window .last .1 .1 .0) (window .result) (window .ensures .0) (window .ensures .1 .0) (window .ensures .1 .1 .0) (window .ensures .1 .1 .1)
-          (c .before .before .before .before .before .before .before .before .before .before .before .before .before .before .before .before .before .before .before .before .before .loop-test .taken) (l .inv .2)
-          (sym (lent-done (x .t) (x .trace .now) (x .out .now) (l .out) (l .blocks) (l .under) (l .turns) (l .line) (l .served) (l .opened) (l .used) G _ (c .before .before .before .before .before .before .before .before .before .before .before .before .before .before .before .before .before .before .is-done .ensures)) ∙ not-true _ (c .before .before .before .before .before .before .before .before .before .before .before .before .before .before .before .before .before .if1 .taken)),
+    let k = c .before .before .before .before .before .before .before .before .before .before .before .before in
+    let x = k .before .before .before .before .before .before .before .before .before .before .before .before .args in
+    let l = k .before .before .before .before .before .loop in
+    let G = l .inv .1 in
+    let d = arraysOf (l .blocks) (l .under) (l .turns) in
+    let first = c .before .before .before .before .before .before .before .before-slot in
+    let then = c .after-slot in
+    let R = Running (x .t) (runFor (x .t) (leftAt (x .trace .now) 0) (length (x .out .now))) (x .out .now) in
+    let more = k .before .before .before .before .loop-test .taken in
+    let done = walk-done (x .t) _ _ (x .trace .now) (l .inv .0) _ d (l .line) (l .past) (l .used) G _ (k .before .is-done .ensures) in
+    let going = sym done ∙ not-true _ (k .if1 .taken) in (
+      l .inv .0,
+      walk-next (x .t) _ _ (x .trace .now) (l .inv .0) _ d (l .line) (l .past) (l .used) G
+          (first .result) (first .ensures .1) _ (first .ensures .0) (then .result) (then .ensures .0) _ (then .ensures .1)
+          (omega (arith, G .holds .long)) (R _ (l .used + 1))
+          (running-turn (x .t) _ (x .out .now) (l .out) (l .used) _ (G .holds) more going (then .result .served)),
       l .inv .2,
     )
 
 cast-ended : tie.Need-cast-ended Inv-loop μ-loop
-cast-ended c = let l = c .before .before .before .before .loop in omega (arith, l .inv .1 .running .small)
+cast-ended c = let l = c .before .before .before .before .loop in omega (arith, l .inv .1 .holds .small)
 
 same-length : tie.Need-same-length Inv-loop μ-loop
-same-length c = c .before .before .before .before .before .loop .inv .1 .running .long
+same-length c = c .before .before .before .before .before .loop .inv .1 .holds .long
 
 returns : tie.Need-returns Inv-loop μ-loop
 returns c =
     let x = c .before .before .before .before .before .before .before .before .before .before .before .before .args in
     let l = c .before .before .before .before .before .loop in
-    let e = lent-done (x .t) (x .trace .now) (x .out .now) (l .out) (l .blocks) (l .under) (l .turns) (l .line) (l .served) (l .opened) (l .used) (l .inv .1) _ (c .before .is-done2 .ensures) in
+    let G = l .inv .1 in
+    let d = arraysOf (l .blocks) (l .under) (l .turns) in
+    let e = walk-done (x .t) _ _ (x .trace .now) (l .inv .0) _ d (l .line) (l .past) (l .used) G _ (c .before .is-done2 .ensures) in
     let full : c .before .is-done2 .result ≡ false → length (l .out) ≤ l .used = λ z. elim (c .before .before .before .before .loop-test .came) [
       | inl p ↦
           let q : true ≡ false = sym (not-false _ (p .4 .left)) ∙ p .3 .ensures ∙ sym (c .before .is-done2 .ensures) ∙ z in
           clash cc
       | inr q ↦ q .left
     ] in
-    let r = running-ended (x .t) (x .trace .now) (x .out .now) (l .out) (lentPlace (l .blocks) (l .turns) (l .line) (l .used)) (l .used) (l .inv .1 .running) _ full (sym e) in
+    let r = running-ended (x .t) _ (x .out .now) (l .out) (l .used) _ (G .holds) _ full (sym e) in
     (c .ended .ensures ∙ r .0, r .1)
 
 pub run-slots-spec : {M : Type 1} → statement M
 run-slots-spec =
     tie.close
-    (tie.spec
-    Inv-loop
-    μ-loop
-    (λ c κs. search needs)
-    (λ c κs. search needs)
-    (λ c κs. search needs)
-    loop-holds
-    (λ c κs. search needs)
-    cast-every
-    cast-take-due
-    take-due-requires
-    (λ c κs. search needs)
-    (λ c κs. search needs)
-    slice-write-out
-    add-used
-    (λ c. search needs)
-    cast-open-window-2
-    (λ c κs. search needs)
-    loop-less
-    loop-again
-    (λ c κs. search needs)
-    cast-ended
-    (λ c κs. search needs)
-    same-length
-    returns)
+    (tie.spec Inv-loop μ-loop (λ c κs. search needs) (λ c κs. search needs) (λ c κs. search needs) loop-holds (λ c κs. search needs)
+    cast-before-slot before-slot-requires (λ c. search needs) cast-after-slot after-slot-requires slice-write-out add-used
+    loop-less loop-again (λ c κs. search needs) cast-ended (λ c κs. search needs) same-length returns)

@@ -1,7 +1,7 @@
 -- `carried_number` meets its contract: in each arm the port is the one that the arm names.
 use mathlib.Core.Path.{ap, sym}
 use borrow.Author.Needs.{needs}
-use Rattle.counts.specs.Wiring.{carriedNumber}
+use Rattle.counts.specs.Table.{carriedNumber}
 use Rattle.counts.proofs.tables.carried_number.Statement.{statement}
 use Rattle.counts.proofs.tables.carried_number.Tie as tie
 

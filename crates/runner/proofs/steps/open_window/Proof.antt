@@ -2,7 +2,7 @@
 use mathlib.Core.Path.{refl, sym, _∙_}
 use borrow.Author.Needs.{needs}
 use Rattle.folds.proofs.Folds.{picked, passed}
-use Rattle.runner.proofs.Stored.{window-none, window-begins, window-goes-on}
+use Rattle.runner.proofs.Service.{window-none, window-begins, window-goes-on}
 use Rattle.runner.proofs.steps.open_window.Statement.{statement}
 use Rattle.runner.proofs.steps.open_window.Tie as tie
 

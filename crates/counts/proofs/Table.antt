@@ -1,0 +1,105 @@
+-- The table of a configuration by its parts: each test of `entryOf` picks one, and entry i of the list of entries is that of i.
+use Prim.Native.Nat.{ℕ, zero, suc, _+_, _-_, _/_, _%_, _≤_, _<_}
+use mathlib.Core.List.{List, [], _∷_, _++_}
+use mathlib.Core.Path.{_≡_, refl, sym, _∙_, ap, ap₂, subst}
+use native.Mathlib.Decide.{decLt}
+use native.Mathlib.Omega.{arith}
+use native.Mathlib.Numerals.{add-one}
+use lib.Dec.{ltb}
+use lib.ListN.{getD, set, take, drop, length, length-append, List·getD-append}
+use lib.Seq.{getD-drop, getD-at, take-suc-set}
+use borrow.Author.Tests.{le-ltb, lt-ltb}
+use Rattle.folds.specs.Fold.{pick}
+use Rattle.folds.proofs.Folds.{picked, passed}
+use Rattle.model.specs.declared.Tree.{Tree}
+use Rattle.model.specs.Tree.{portOf, granularityOf, parentOf, parentPortOf, homeOf, homePortOf, limitOf, budgetOf}
+use Rattle.turns.proofs.Steps.{index-set, index-last}
+use Rattle.counts.specs.Table.{portNumber, carriedNumber, entryOf, entries, tableOf, granularities, parentPorts, ownPorts, limits, budgets}
+
+-- entry n of the table, by the part that it lies in
+module _ (t : Tree) (n : ℕ) where
+  past : (k x y : ℕ) → k ≤ n → pick (ltb n k) x y ≡ y
+  past k x y h = passed _ x y (le-ltb n k h)
+
+  pub entry-port : n < 120 → entryOf t n ≡ carriedNumber (portOf t (n / 8) (n % 8))
+  unfolding entryOf
+  entry-port h = picked _ _ _ (lt-ltb _ _ h)
+
+  pub entry-granularity : 120 ≤ n → n < 135 → entryOf t n ≡ granularityOf t (n - 120)
+  unfolding entryOf
+  entry-granularity a h = past 120 _ _ a ∙ picked _ _ _ (lt-ltb _ _ h)
+
+  pub entry-parent : 135 ≤ n → n < 150 → entryOf t n ≡ portNumber (parentOf t (n - 135)) (parentPortOf t (n - 135))
+  unfolding entryOf
+  entry-parent a h = past 120 _ _ (omega arith) ∙ past 135 _ _ a ∙ picked _ _ _ (lt-ltb _ _ h)
+
+  pub entry-own : 150 ≤ n → n < 182 → entryOf t n ≡ portNumber (homeOf t (n - 150)) (homePortOf t (n - 150))
+  unfolding entryOf
+  entry-own a h = past 120 _ _ (omega arith) ∙ past 135 _ _ (omega arith) ∙ past 150 _ _ a ∙ picked _ _ _ (lt-ltb _ _ h)
+
+  pub entry-limit : 182 ≤ n → n < 214 → entryOf t n ≡ limitOf t (n - 182)
+  unfolding entryOf
+  entry-limit a h = past 120 _ _ (omega arith) ∙ past 135 _ _ (omega arith) ∙ past 150 _ _ (omega arith) ∙ past 182 _ _ a ∙ picked _ _ _ (lt-ltb _ _ h)
+
+  pub entry-budget : 214 ≤ n → entryOf t n ≡ budgetOf t (n - 214)
+  unfolding entryOf
+  entry-budget a = past 120 _ _ (omega arith) ∙ past 135 _ _ (omega arith) ∙ past 150 _ _ (omega arith) ∙ past 182 _ _ (omega arith) ∙ past 214 _ _ a
+
+-- a list of entries, by its places
+entries-size : (n : ℕ) (f : ℕ → ℕ) → length (entries n f) ≡ n
+unfolding entries
+entries-size zero f = refl
+entries-size (suc n) f = length-append (entries n f) (f n ∷ []) ∙ omega (arith, entries-size n f)
+
+entries-at : (n : ℕ) (f : ℕ → ℕ) (i : ℕ) → i < n → getD (entries n f) i 0 ≡ f i
+unfolding entries
+entries-at zero f i h = absurd (omega arith)
+entries-at (suc n) f i h = elim (decLt i n) [
+  | yes l ↦ List·getD-append (entries n f) (f n ∷ []) 0 i (omega (arith, entries-size n f)) ∙ entries-at n f i l
+  | no d ↦
+      let e : i ≡ n = omega arith in
+      getD-at (entries n f) (f n) [] 0 i (entries-size n f ∙ sym e) ∙ ap f (sym e)
+]
+
+-- an array that is filled in order: of none, and of one more
+pub entries-none : (f : ℕ → ℕ) → [] ≡ entries 0 f
+unfolding entries
+entries-none f = refl
+
+pub entries-more : (f : ℕ → ℕ) (l : List ℕ) (n x : ℕ) → n < length l → x ≡ f n → take n l ≡ entries n f → take (n + 1) (set l n x) ≡ entries (n + 1) f
+unfolding entries
+entries-more f l n x h e d =
+    ap (λ (i : ℕ). take i (set l n x)) (add-one n) ∙ take-suc-set l n x h ∙ ap₂ (λ (k : List ℕ) (i : ℕ). k ++ i ∷ []) d e
+    ∙ ap (λ (i : ℕ). entries i f) (sym (add-one n))
+
+-- w has what each port of t carries, each interconnect's granularity and the parent's port that carries it, the port that
+-- carries each accelerator, its outstanding limit and its budget
+pub record TableOf (t : Tree) (w : List ℕ) : Type 0 where
+  pub carried : (j p : ℕ) → j < 15 → p < 8 → getD w (portNumber j p) 0 ≡ carriedNumber (portOf t j p)
+  pub granularity : (j : ℕ) → j < 15 → getD (granularities w) j 0 ≡ granularityOf t j
+  pub parent : (j : ℕ) → j < 15 → getD (parentPorts w) j 0 ≡ portNumber (parentOf t j) (parentPortOf t j)
+  pub own : (a : ℕ) → a < 32 → getD (ownPorts w) a 0 ≡ portNumber (homeOf t a) (homePortOf t a)
+  pub limit : (a : ℕ) → a < 32 → getD (limits w) a 0 ≡ limitOf t a
+  pub budget : (a : ℕ) → a < 32 → getD (budgets w) a 0 ≡ budgetOf t a
+
+table-parts : (t : Tree) → TableOf t (tableOf t)
+table-parts t = record {
+  carried = λ j p h k. entries-at 246 (entryOf t) (portNumber j p) (omega arith) ∙ entry-port t (portNumber j p) (omega arith)
+      ∙ ap₂ (λ (i q : ℕ). carriedNumber (portOf t i q)) (index-set j p k) (index-last j p k);
+  granularity = λ j h. at 120 j (omega arith) ∙ entry-granularity t (120 + j) (omega arith) (omega arith) ∙ ap (granularityOf t) (less 120 j);
+  parent = λ j h. at 135 j (omega arith) ∙ entry-parent t (135 + j) (omega arith) (omega arith)
+      ∙ ap (λ (i : ℕ). portNumber (parentOf t i) (parentPortOf t i)) (less 135 j);
+  own = λ a h. at 150 a (omega arith) ∙ entry-own t (150 + a) (omega arith) (omega arith)
+      ∙ ap (λ (i : ℕ). portNumber (homeOf t i) (homePortOf t i)) (less 150 a);
+  limit = λ a h. at 182 a (omega arith) ∙ entry-limit t (182 + a) (omega arith) (omega arith) ∙ ap (limitOf t) (less 182 a);
+  budget = λ a h. at 214 a (omega arith) ∙ entry-budget t (214 + a) (omega arith) ∙ ap (budgetOf t) (less 214 a);
+}
+  where
+    at : (k i : ℕ) → k + i < 246 → getD (drop k (tableOf t)) i 0 ≡ entryOf t (k + i)
+    at k i h = getD-drop k (tableOf t) i 0 ∙ entries-at 246 (entryOf t) (k + i) h
+
+    less : (k i : ℕ) → k + i - k ≡ i
+    less k i = omega arith
+
+pub table-is : (t : Tree) (w : List ℕ) → w ≡ tableOf t → TableOf t w
+table-is t w e = subst (TableOf t) (sym e) (table-parts t)
