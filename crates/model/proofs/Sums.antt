@@ -1,4 +1,4 @@
--- One more turn of a loop that adds up, and the bound of what waits beneath a port: eight ports a level, 255 at most at
+-- One more turn of a loop that adds up, and the bound of a weight beneath a port: eight ports a level, 255 at most at
 -- each accelerator. By the clauses of the definitions, and by linear arithmetic over products taken as atoms.
 use Prim.Native.Nat.{ℕ, zero, suc, _+_, _-_, _*_, _^_, _≤_, _<_}
 use mathlib.Core.Path.{_≡_, refl, ap, sym, _∙_}
