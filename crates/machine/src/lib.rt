@@ -154,10 +154,10 @@ fn offer_within(t: Tree, s: State, a: u8) -> OfferReply
     let answer = offer_answer(t, s, a);
     match answer {
         OfferAnswer::Admitted => {
-            let next = admitting(s, a);
+            let state = admitting(s, a);
             OfferReply {
                 answer: OfferAnswer::Admitted,
-                state: next,
+                state: state,
             }
         }
         OfferAnswer::Refused(refusal) => OfferReply {
