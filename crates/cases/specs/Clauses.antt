@@ -10,12 +10,14 @@
 -- unconnected n        n ports that carry nothing
 -- blocksOn j p n       n accelerators on the ports p, p + 1 and on of interconnect j, each of phi 4 and budget 2
 -- four                 four levels, each of another granularity
+-- branched             two branches of four levels, seven interconnects of seven granularities
 -- wide                 15 interconnects and 32 accelerators, P 4: accelerator 31 at port 7 of interconnect 14, which is at port
 --                      7 of interconnect 7, which is at port 7 of the root
 -- jobs T U             the tree of the worked listing with the periods T and U
 -- broken               a configuration that breaks its rules: granularity 0
 -- stateOf w a l o n    the state with waiting counts w, admitted counts a, last ports l, allowances o, 0 for all others, and slot
 --                      count n
+-- sharesFrom t a n     the shares of the n accelerators a, a + 1 and on
 -- clauses              the figures, each headed by what it is for
 -- clauses-hold         the claim: every one holds
 use Prim.Native.Nat.{ℕ, zero, suc, _+_, _-_}
@@ -91,6 +93,31 @@ four =
     ∷ [])
     (block 0 0 2 8 ∷ block 1 0 3 8 ∷ block 2 0 1 8 ∷ block 3 0 6 8 ∷ block 3 1 4 8 ∷ [])
 
+abbrev pub branched : Tree
+branched =
+    tree 16
+    (interconnect 0 0 12 (acc 0 ∷ unconnected 2 ++ int 1 ∷ unconnected 2 ++ int 4 ∷ acc 1 ∷ [])
+    ∷ interconnect 0 3 7 (emptyCell ∷ acc 2 ∷ unconnected 3 ++ int 2 ∷ emptyCell ∷ acc 3 ∷ [])
+    ∷ interconnect 1 5 8 (acc 4 ∷ emptyCell ∷ int 3 ∷ emptyCell ∷ acc 5 ∷ unconnected 3)
+    ∷ interconnect 2 2 3 (emptyCell ∷ acc 6 ∷ unconnected 4 ++ acc 7 ∷ unconnected 1)
+    ∷ interconnect 0 6 4 (unconnected 2 ++ acc 8 ∷ emptyCell ∷ int 5 ∷ unconnected 3)
+    ∷ interconnect 4 4 2 (int 6 ∷ unconnected 4 ++ acc 9 ∷ unconnected 2)
+    ∷ interconnect 5 0 6 (unconnected 3 ++ acc 10 ∷ unconnected 3 ++ acc 11 ∷ [])
+    ∷ [])
+    (block 0 0 5 8
+    ∷ block 0 7 11 8
+    ∷ block 1 1 6 8
+    ∷ block 1 7 2 8
+    ∷ block 2 0 5 8
+    ∷ block 2 4 3 8
+    ∷ block 3 1 8 8
+    ∷ block 3 6 2 8
+    ∷ block 4 2 2 8
+    ∷ block 5 5 1 8
+    ∷ block 6 3 3 8
+    ∷ block 6 7 4 8
+    ∷ [])
+
 abbrev pub wide : Tree
 wide =
     tree 4
@@ -132,6 +159,10 @@ abbrev pub stateOf : List ℕ → List ℕ → List ℕ → List ℕ → ℕ →
 stateOf w a l o n =
     record { waiting = padded 32 w; admitted = padded 32 a; last = padded 15 l; allowance = padded 15 o; slot = n }
 
+abbrev sharesFrom : Tree → ℕ → ℕ → List ℕ
+sharesFrom t a zero = []
+sharesFrom t a (suc n) = shareOf t a ∷ sharesFrom t (suc a) n
+
 abbrev pub clauses : List Figure
 clauses =
     -- "the sum over everything beneath it", not the smaller of a lower g: nested minima would give 2 for the first share
@@ -140,8 +171,20 @@ clauses =
     ∷ numbers (capacityOf four 0 1 ∷ capacityOf four 1 1 ∷ capacityOf four 2 1 ∷ capacityOf four 3 1 ∷ []) (14 ∷ 11 ∷ 10 ∷ 4 ∷ [])
     -- shares on four levels: 15; 12 × 3; 5 × 4 × 3; 5 × 2 × 4 × 3; 6 × 2 × 4 × 3
     ∷ numbers
-    (shareOf four 0 ∷ shareOf four 1 ∷ shareOf four 2 ∷ shareOf four 3 ∷ shareOf four 4 ∷ [])
+    (sharesFrom four 0 5)
     (15 ∷ 36 ∷ 60 ∷ 120 ∷ 144 ∷ [])
+    -- capacities at the root of the branched tree: 5; 6 + 2 + 5 + 3 + 8 + 2; 2 + 1 + 3 + 4; 11
+    ∷ numbers
+    (capacityOf branched 0 0 ∷ capacityOf branched 0 3 ∷ capacityOf branched 0 6 ∷ capacityOf branched 0 7 ∷ [])
+    (5 ∷ 26 ∷ 10 ∷ 11 ∷ [])
+    -- its shares: 34; 28; 10 × 27; 14 × 27; 12 × 9 × 27; 14 × 9 × 27; 3 × 9 × 9 × 27; 4 × 9 × 9 × 27
+    ∷ numbers
+    (sharesFrom branched 0 8)
+    (34 ∷ 28 ∷ 270 ∷ 378 ∷ 2916 ∷ 3402 ∷ 6561 ∷ 8748 ∷ [])
+    -- and of its other branch: 5 × 29; 3 × 3 × 29; 5 × 2 × 3 × 29; 4 × 2 × 3 × 29
+    ∷ numbers
+    (sharesFrom branched 8 4)
+    (145 ∷ 261 ∷ 870 ∷ 696 ∷ [])
     -- at level 4: 71 + 143 × 47 for the read, 67 + 143 × 43 for the write
     ∷ bounded four 4
     (given (record { level = 4; share = 144; reads = 143; writes = 143; response = 13008; period = 1; meets = false }))
@@ -171,6 +214,12 @@ clauses =
     ∷ ran wide (bytes "o\t0\t0\t1\no\t0\t31\t1\n") 2 (done 2) (0 ∷ 31 ∷ [])
     -- lines left are waited for, and a line is due in its own slot
     ∷ ran (pair 1 16 4 4 8) (bytes "o\t3\t1\t1\n") 16 (done 4) (255 ∷ 255 ∷ 255 ∷ 1 ∷ [])
+    -- lines of two slots, and an offer while another accelerator's waits
+    ∷ ran (pair 1 16 4 4 8) (bytes "o\t0\t0\t1\no\t1\t1\t1\no\t1\t0\t1\n") 16 (done 3) (0 ∷ 1 ∷ 0 ∷ [])
+    -- phi 1: a held transaction alone keeps the run from being done
+    ∷ ran (pair 1 16 1 1 8) (bytes "o\t0\t0\t2\n") 16 (done 2) (0 ∷ 0 ∷ [])
+    -- a refused trace: number, line and every byte
+    ∷ ran (pair 2 16 3 1 8) (bytes "o\t0\t0\t1\no\t0\t2\t1\n") 4 (refusedAt 7 2) []
     -- "Stopped is reported exactly if the buffer is full and this is not so": a line left, one held, one waiting; then none
     ∷ ran (pair 1 16 4 4 8) (bytes "o\t2\t1\t1\n") 2 (stopped 2) (255 ∷ 255 ∷ [])
     ∷ ran (pair 1 4 4 4 1) (bytes "o\t0\t0\t2\n") 1 (stopped 1) (0 ∷ [])
@@ -194,6 +243,9 @@ clauses =
     ∷ ends broken (bytes "x\n") 16 (refusedRun 11)
     ∷ ends (pair 1 16 4 4 8) (bytes "x\n") 65537 (refusedAt 2 0)
     ∷ ends (pair 1 16 4 4 8) (bytes "o\t0\t0\t1\nx\n") 16 (refusedAt 1 2)
+    -- "output buffer over 65,536 bytes"
+    ∷ ends (pair 1 16 4 4 8) [] 65536 (done 0)
+    ∷ ends (pair 1 16 4 4 8) [] 65537 (refusedAt 2 0)
     -- "each waiting count is at most phi": 4 of phi 4
     ∷ keeping (pair 1 16 4 4 8) (stateOf (4 ∷ 4 ∷ []) [] (7 ∷ []) [] 0) true
     ∷ keeping (pair 1 16 4 4 8) (stateOf (4 ∷ 5 ∷ []) [] (7 ∷ []) [] 0) false
@@ -233,4 +285,4 @@ clauses =
 
 pub clauses-hold : every clauses
 unfolding answersOf parts butLast final same allDigits decimal fieldOf kindOf pushed lineOf shaped offerLine readOffers readTrace requests ranOf bufferAfter heldWith leftAfter offerHeld offerEach next trail freshened offered slotted tick who after turnPort turnAllowance seek bitsBelow treeKeeps stateKeeps sized recordKeeps turnKeeps busKeeps carries rootPlaced childPlaced usedInterconnect unusedInterconnect usedAccelerator unusedAccelerator inside above sum all shareAlong othersAt boundOf reportText rowText allLine refusalText joined decimalText digits
-clauses-hold = (refl, (refl, (refl, (refl, (refl, (refl, (refl, (refl, ((refl, refl), (refl, ((refl, refl), ((refl, refl), ((refl, refl), ((refl, refl), ((refl, refl), ((refl, refl), ((refl, refl), ((refl, refl), (refl, (refl, (refl, (refl, (refl, (refl, (refl, (refl, (refl, (refl, (refl, (refl, (refl, (refl, (refl, (refl, (refl, (refl, (refl, (refl, (refl, (refl, (refl, (refl, (refl, (refl, (refl, (refl, (refl, (refl, (refl, tt)))))))))))))))))))))))))))))))))))))))))))))))))
+clauses-hold = (refl, (refl, (refl, (refl, (refl, (refl, (refl, (refl, (refl, (refl, (refl, ((refl, refl), (refl, ((refl, refl), ((refl, refl), ((refl, refl), ((refl, refl), ((refl, refl), ((refl, refl), ((refl, refl), ((refl, refl), ((refl, refl), ((refl, refl), ((refl, refl), (refl, (refl, (refl, (refl, (refl, (refl, (refl, (refl, (refl, (refl, (refl, (refl, (refl, (refl, (refl, (refl, (refl, (refl, (refl, (refl, (refl, (refl, (refl, (refl, (refl, (refl, (refl, (refl, (refl, (refl, (refl, (refl, (refl, tt)))))))))))))))))))))))))))))))))))))))))))))))))))))))))
