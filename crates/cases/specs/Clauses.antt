@@ -36,7 +36,7 @@ use Rattle.model.specs.Tree.{emptyCell, noAccelerator, above}
 use Rattle.model.specs.Trees.{ports, interconnect, block, tree, withJob, pair, chain, timed, nested, worked}
 use Rattle.model.specs.Beneath.{inside}
 use Rattle.rules.specs.Rules.{treeKeeps, stateKeeps, sized, recordKeeps, turnKeeps, busKeeps, carries, rootPlaced, childPlaced, usedInterconnect, unusedInterconnect, usedAccelerator, unusedAccelerator}
-use Rattle.turns.specs.Turns.{who, after, turnPort, turnAllowance, seek, bitsBelow}
+use Rattle.turns.specs.Turns.{who, after, turnPort, turnAllowance, seek, nextPort, bitsBelow}
 use Rattle.machine.specs.Machine.{admitted, served, idle, refused, notStarted, beginning, zeroState, freshened, freshState, offered, slotted, tick}
 use Rattle.machine.specs.Calls.{offer, slot, answersOf}
 use Rattle.text.specs.Text.{parts, butLast, final, same, allDigits, decimal, fieldOf}
@@ -238,6 +238,24 @@ clauses =
     -- "a slot 11, 10": both, then 10 alone
     ∷ answersFrom (pair 1 16 4 4 8) (stateOf (5 ∷ []) [] (7 ∷ []) [] 4294967295) (slot ∷ []) (refused 11 ∷ [])
     ∷ answersFrom (pair 1 16 4 4 8) (stateOf [] [] (7 ∷ []) [] 4294967295) (slot ∷ []) (refused 10 ∷ [])
+    -- the last slot there is, with nothing waiting
+    ∷ answersFrom (pair 1 16 4 4 8) (stateOf [] [] (7 ∷ []) [] 4294967294) (slot ∷ slot ∷ []) (idle ∷ refused 10 ∷ [])
+    -- phi 16 and budget 1,024, each used alone
+    ∷ answersFrom (pair 1 16 16 16 1024) (stateOf (16 ∷ []) (1023 ∷ []) (7 ∷ []) [] 0) (offer 0 ∷ []) (refused 8 ∷ [])
+    ∷ answersFrom (pair 1 16 16 16 1024) (stateOf (15 ∷ []) (1024 ∷ []) (7 ∷ []) [] 0) (offer 0 ∷ []) (refused 9 ∷ [])
+    ∷ keeping (pair 1 16 16 16 1024) (stateOf (17 ∷ []) [] (7 ∷ []) [] 0) false
+    ∷ keeping (pair 1 16 16 16 1024) (stateOf [] (1025 ∷ []) (7 ∷ []) [] 0) false
+    -- an offer raises waiting and admitted by one, so that both limits are met together
+    ∷ answersFrom (pair 1 16 4 4 8) (stateOf (2 ∷ []) (6 ∷ []) (7 ∷ []) [] 0)
+    (times 3 (offer 0) ++ slot ∷ offer 0 ∷ [])
+    (admitted ∷ admitted ∷ refused 8 ∷ served 0 ∷ refused 9 ∷ [])
+    -- "the first live port .. after the last one, circling 7 to 0 and ending with the last one itself": sets {0, 7}, {7}, {3};
+    -- "the empty set gives 8"
+    ∷ numbers
+    (nextPort 129 7 ∷ nextPort 129 0 ∷ nextPort 128 7 ∷ nextPort 8 4 ∷ nextPort 0 0 ∷ nextPort 0 7 ∷ [])
+    (0 ∷ 7 ∷ 7 ∷ 3 ∷ 8 ∷ 8 ∷ [])
+    -- the choice goes down four levels, each interconnect with a turn of its own
+    ∷ ran four (bytes "o\t0\t3\t2\no\t0\t4\t1\no\t0\t0\t1\n") 16 (done 4) (0 ∷ 3 ∷ 3 ∷ 4 ∷ [])
     -- "the runner 11, buffer size, trace": all three, the last two, the last
     ∷ ends broken (bytes "x\n") 65537 (refusedRun 11)
     ∷ ends broken (bytes "x\n") 16 (refusedRun 11)
@@ -285,4 +303,4 @@ clauses =
 
 pub clauses-hold : every clauses
 unfolding answersOf parts butLast final same allDigits decimal fieldOf kindOf pushed lineOf shaped offerLine readOffers readTrace requests ranOf bufferAfter heldWith leftAfter offerHeld offerEach next trail freshened offered slotted tick who after turnPort turnAllowance seek bitsBelow treeKeeps stateKeeps sized recordKeeps turnKeeps busKeeps carries rootPlaced childPlaced usedInterconnect unusedInterconnect usedAccelerator unusedAccelerator inside above sum all shareAlong othersAt boundOf reportText rowText allLine refusalText joined decimalText digits
-clauses-hold = (refl, (refl, (refl, (refl, (refl, (refl, (refl, (refl, (refl, (refl, (refl, ((refl, refl), (refl, ((refl, refl), ((refl, refl), ((refl, refl), ((refl, refl), ((refl, refl), ((refl, refl), ((refl, refl), ((refl, refl), ((refl, refl), ((refl, refl), ((refl, refl), (refl, (refl, (refl, (refl, (refl, (refl, (refl, (refl, (refl, (refl, (refl, (refl, (refl, (refl, (refl, (refl, (refl, (refl, (refl, (refl, (refl, (refl, (refl, (refl, (refl, (refl, (refl, (refl, (refl, (refl, (refl, (refl, (refl, tt)))))))))))))))))))))))))))))))))))))))))))))))))))))))))
+clauses-hold = (refl, (refl, (refl, (refl, (refl, (refl, (refl, (refl, (refl, (refl, (refl, ((refl, refl), (refl, ((refl, refl), ((refl, refl), ((refl, refl), ((refl, refl), ((refl, refl), ((refl, refl), ((refl, refl), ((refl, refl), ((refl, refl), ((refl, refl), ((refl, refl), (refl, (refl, (refl, (refl, (refl, (refl, (refl, (refl, (refl, (refl, (refl, (refl, (refl, (refl, (refl, (refl, ((refl, refl), (refl, (refl, (refl, (refl, (refl, (refl, (refl, (refl, (refl, (refl, (refl, (refl, (refl, (refl, (refl, (refl, (refl, (refl, (refl, (refl, (refl, (refl, (refl, (refl, tt)))))))))))))))))))))))))))))))))))))))))))))))))))))))))))))))))
