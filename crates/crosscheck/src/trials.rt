@@ -50,6 +50,7 @@ use store::add;
 use store::note;
 use trace::read_trace;
 use treecheck::alter::altered;
+use treecheck::is_empty;
 use treecheck::judge;
 use treecheck::same_tree;
 
@@ -88,6 +89,9 @@ pub fn try_tree(s: &[u8], d: &mut [usize; 16384]) -> TreeRead {
     add(d, TREES, said.number, 1);
     if said.number == 0 {
         try_content(r.tree, d);
+    } else {
+        let empty = is_empty(r.tree, d);
+        note(d, DIFFERENCES, 0, empty);
     }
     r
 }

@@ -176,6 +176,12 @@ fn put_accs(t: Tree, d: &mut [usize; 16384]) -> bool {
     fit
 }
 
+// Is the tree the empty one, as beside a refusal? The rows are left empty.
+pub fn is_empty(t: Tree, d: &mut [usize; 16384]) -> bool {
+    begin(d);
+    same_tree(t, d)
+}
+
 // Could a tree file have given the tree: do its lines fit, is there an accelerator, and is each of its entries what they say? The
 // rows are left with them.
 pub fn judge(t: Tree, d: &mut [usize; 16384]) -> bool {
