@@ -1,5 +1,5 @@
-// The library's start, offers and slots, one by one, beside those of the second machine, on states that calls lead to and on
-// altered ones; and their refusal of a configuration that breaks its rules.
+// The library's start, offers and slots, one by one, beside those of the second machine, on states that calls lead to, on altered
+// ones, and on another configuration, which may break its rules.
 //
 // Test code, without contracts: it is proved that each function is safe and ends.
 use generator::number_below;
@@ -11,15 +11,15 @@ use machine::offer;
 use machine::slot;
 use model::State;
 use model::Tree;
-use model::access::accelerator_at;
 use model::access::admitted_of;
 use model::access::allowance_of;
-use model::access::interconnect_at;
 use model::access::last_of;
 use model::access::waiting_of;
 use model::number;
 use second::BUDGET_FIRST;
+use second::LAST_FIRST;
 use second::NO_WRONG_RULE;
+use second::UNKNOWN_FIRST;
 use second::calls::LEFT;
 use second::calls::PORT;
 use second::calls::SPENT;
@@ -31,7 +31,8 @@ use second::calls::part;
 use second::calls::set_slot_count;
 use second::calls::slot_count;
 use second::calls::slot_one;
-use second::queues::start;
+use second::calls::slot_refusal;
+use second::calls::start_one;
 use store::DIFFERENCES;
 use store::WRONG;
 use store::add;
@@ -43,8 +44,11 @@ pub const OFFERS: usize = 3200;
 // Slots: 0 served, 1 idle, else by the number of their refusal.
 pub const SLOTS: usize = 3216;
 
-// Configurations that break their rules.
-pub const BROKEN: usize = 3232;
+// Starts, by the number of their answer.
+pub const STARTS: usize = 3232;
+
+// The slot count at which no slot is left.
+const LAST_SLOT: u32 = 4294967295;
 
 fn same_record(s: State, a: u8, d: &[usize; 16384]) -> bool {
     let i = a as usize;
@@ -100,12 +104,18 @@ fn slot_kind(code: usize) -> usize {
     if code == 255 { 1 } else { code - 256 }
 }
 
+// On an offer that answers this, is a wrong rule seen?
+fn note_offer(a: usize, answer: usize, wrong: usize, d: &mut [usize; 16384]) {
+    let wrongly = offer_answer(d, a, wrong);
+    note(d, WRONG, wrong, answer == wrongly);
+}
+
 fn try_offer(t: Tree, s: State, a: u8, d: &mut [usize; 16384]) -> State {
     let r = offer(t, s, a);
     let said = r.answer;
     let answer = offer_number(said);
-    let wrongly = offer_answer(d, a as usize, BUDGET_FIRST);
-    note(d, WRONG, BUDGET_FIRST, answer == wrongly);
+    note_offer(a as usize, answer, BUDGET_FIRST, d);
+    note_offer(a as usize, answer, UNKNOWN_FIRST, d);
     let ours = offer_one(d, a as usize, NO_WRONG_RULE);
     let next = r.state;
     note(d, DIFFERENCES, 0, (answer == ours) & same_state(next, d));
@@ -113,10 +123,17 @@ fn try_offer(t: Tree, s: State, a: u8, d: &mut [usize; 16384]) -> State {
     next
 }
 
+// The number of a refused slot, else 0.
+fn slot_number(code: usize) -> usize {
+    if code < 256 { 0 } else { code - 256 }
+}
+
 fn try_slot(t: Tree, s: State, d: &mut [usize; 16384]) -> State {
     let r = slot(t, s);
     let said = r.answer;
     let code = slot_code(said);
+    let wrongly = slot_refusal(d, LAST_FIRST);
+    note(d, WRONG, LAST_FIRST, slot_number(code) == wrongly);
     let ours = slot_one(d, NO_WRONG_RULE);
     let next = r.state;
     note(d, DIFFERENCES, 0, (code == ours) & same_state(next, d));
@@ -159,21 +176,27 @@ fn altered(s: State, which: usize, i: usize, n: u8) -> State {
     next
 }
 
-// Calls where one entry is altered at random.
-fn try_altered(t: Tree, s: State, d: &mut [usize; 16384]) {
-    let which = number_below(d, 4);
-    let i = number_below(d, 32);
-    let n = (number_below(d, 10) % 256) as u8;
-    alter(d, which, i, n as usize);
-    try_calls(t, altered(s, which, i, n), 8, d);
-}
-
 // The state at slot n.
 fn at_slot(s: State, n: u32, d: &mut [usize; 16384]) -> State {
     set_slot_count(d, n as usize);
     let mut next = s;
     next.slot = n;
     next
+}
+
+// A slot where none is left, then calls at slot 0.
+fn try_late_and_early(t: Tree, s: State, n: usize, d: &mut [usize; 16384]) {
+    let late = try_slot(t, at_slot(s, LAST_SLOT, d), d);
+    try_calls(t, at_slot(late, 0, d), n, d);
+}
+
+// Calls where one entry is altered at random.
+fn try_altered(t: Tree, s: State, d: &mut [usize; 16384]) {
+    let which = number_below(d, 4);
+    let i = number_below(d, 32);
+    let n = (number_below(d, 10) % 256) as u8;
+    alter(d, which, i, n as usize);
+    try_late_and_early(t, altered(s, which, i, n), 8, d);
 }
 
 // Calls where the slot count is at its end, or one or two before it.
@@ -186,72 +209,35 @@ fn try_last_slots(t: Tree, s: State, d: &mut [usize; 16384]) -> State {
     next
 }
 
+// The start.
+pub fn try_start(t: Tree, d: &mut [usize; 16384]) -> State {
+    let r = fresh(t);
+    let said = r.answer;
+    let answer = started(said);
+    let state = r.state;
+    let ours = start_one(d);
+    note(d, DIFFERENCES, 0, (answer == ours) & same_state(state, d));
+    add(d, STARTS, ours, 1);
+    state
+}
+
 // Each call from the fresh state on.
 pub fn try_machine(t: Tree, d: &mut [usize; 16384]) {
-    let r = fresh(t);
-    start(d);
-    let answer = r.answer;
-    let state = r.state;
-    note(
-        d,
-        DIFFERENCES,
-        0,
-        (started(answer) == 0) & same_state(state, d),
-    );
+    let state = try_start(t, d);
     let busy = try_calls(t, state, 60, d);
     let late = try_last_slots(t, busy, d);
     try_altered(t, at_slot(late, 0, d), d);
 }
 
-// The tree with one number outside its limits.
-fn spoiled(t: Tree, which: usize) -> Tree {
-    let mut next = t;
-    let mut ints = t.interconnects;
-    let mut accs = t.accelerators;
-    let mut x = accelerator_at(t, 0);
-    let mut y = interconnect_at(t, 0);
-    if which == 0 {
-        next.ints = 16;
-    }
-    if which == 1 {
-        next.accs = 33;
-    }
-    if which == 2 {
-        y.granularity = 0;
-    }
-    if which == 3 {
-        x.phi = 17;
-    }
-    if which == 4 {
-        x.port = 8;
-    }
-    ints[0] = y;
-    accs[0] = x;
-    next.interconnects = ints;
-    next.accelerators = accs;
-    next
+// A state that some calls lead to.
+pub fn busy_state(t: Tree, d: &mut [usize; 16384]) -> State {
+    let state = try_start(t, d);
+    try_calls(t, state, 6, d)
 }
 
-// Are an offer and a slot refused by 11, and the state returned that is in the store?
-fn calls_refused(t: Tree, s: State, d: &[usize; 16384]) -> bool {
-    let x = offer(t, s, 0);
-    let offered = x.answer;
-    let y = slot(t, s);
-    let slotted = y.answer;
-    let refused = (offer_number(offered) == 11) & (slot_code(slotted) == 267);
-    refused & same_state(x.state, d) & same_state(y.state, d)
-}
-
-// The tree with one number outside its limits: the start, an offer and a slot refuse it. Answers that tree.
-pub fn try_broken(t: Tree, d: &mut [usize; 16384]) -> Tree {
-    let r = fresh(t);
-    let s = r.state;
-    start(d);
-    let broken = spoiled(t, number_below(d, 5));
-    let x = fresh(broken);
-    let answer = x.answer;
-    let refused = (started(answer) == 11) & calls_refused(broken, s, d);
-    note(d, DIFFERENCES, 0, refused);
-    add(d, BROKEN, 0, 1);
-    broken
+// Calls on a configuration, from a state that may belong to another: an offer of an accelerator that no tree has among them.
+pub fn try_other(t: Tree, s: State, d: &mut [usize; 16384]) {
+    let next = try_offer(t, s, 32, d);
+    try_late_and_early(t, next, 4, d);
+    try_start(t, d);
 }

@@ -1,20 +1,24 @@
 -- The starred cases and the worked listing of document 01, "Figures to check by", and a figure for the trap that no case
--- tells: one table under one claim.
+-- tells: one table under one claim. Figures for further clauses: `Clauses.antt`.
 --
 -- Figure               one figure of a case
 -- answers t cs xs      the calls cs, from the fresh state of the tree t, get the answers xs
+-- answersFrom t s cs xs  the calls cs, from the state s, get the answers xs
+-- keeping t s b        b says whether the tree t and the state s keep their rules
+-- starting t x         the start on the tree t is x
 -- ran t s n e bs       the run of trace s over a buffer of n bytes ends as e, and writes the bytes bs at its start and no other
+-- ends t s n e         that run ends as e
 -- asks a c             the trace line "o 0 a c": accelerator a asks for c transactions at slot 0; both are one digit
 -- numbers xs ys        figures of the definitions, and their numbers
 -- bounded t a x        what `bound` answers of accelerator a
 -- responded T b        the bounds of case 9, where the period is T and b says whether it is met
 -- printed t ls         the report of the tree t has the lines ls
+-- told xs ls           the text xs has the lines ls
 -- linesOf ls           the text of the lines ls, each ended by LF
 -- holds f              what the figure f claims
 -- every fs             each of the figures fs holds
 -- table                the figures, each headed by its case
 -- figures              the claim: every figure of the table holds
--- guard, guarded       what no starred case tells apart: with capacities nested as minima the first share would be 2
 use Prim.Native.Nat.{ℕ, zero, suc, _+_, _-_}
 use Prim.Native.String.{String}
 use mathlib.Core.Bool.{Bool, true, false}
@@ -22,31 +26,38 @@ use mathlib.Core.List.{List, [], _∷_, _++_}
 use mathlib.Core.Path.{_≡_, refl}
 use lib.ListN.{length, replicate}
 use Rattle.model.specs.declared.Tree.{Tree}
+use Rattle.model.specs.declared.State.{State}
 use Rattle.folds.specs.Fold.{sum, all}
 use Rattle.model.specs.Tree.{above}
 use Rattle.model.specs.Beneath.{inside}
-use Rattle.rules.specs.Rules.{treeKeeps, stateKeeps, sized, recordKeeps, turnKeeps, busKeeps, carries, rootPlaced, childPlaced, usedInterconnect, unusedInterconnect, usedAccelerator, unusedAccelerator}
+use Rattle.rules.specs.Rules.{treeKeeps, stateKeeps, keeps, sized, recordKeeps, turnKeeps, busKeeps, carries, rootPlaced, childPlaced, usedInterconnect, unusedInterconnect, usedAccelerator, unusedAccelerator}
 use Rattle.turns.specs.Turns.{who, after, turnPort, turnAllowance, seek, bitsBelow}
-use Rattle.machine.specs.Machine.{Answer, admitted, served, idle, refused, freshState, offered, slotted, tick}
+use Rattle.machine.specs.Machine.{Answer, admitted, served, idle, refused, Beginning, freshened, freshState, offered, slotted, tick}
 use Rattle.machine.specs.Calls.{Call, offer, slot, answersOf}
 use Rattle.text.specs.Text.{parts, butLast, final, same, allDigits, decimal, fieldOf}
 use Rattle.lines.specs.Lines.{kindOf, pushed, lineOf, shaped}
 use Rattle.trace.specs.TraceFile.{offerLine, readOffers, readTrace, requests}
 use Rattle.runner.specs.Offers.{offerHeld, offerEach}
-use Rattle.runner.specs.Run.{Ending, done, heldWith, leftAfter, next, trail, ranOf, bufferAfter}
+use Rattle.runner.specs.Run.{Ending, done, stopped, heldWith, leftAfter, next, trail, ranOf, bufferAfter}
 use Rattle.shares.specs.Shares.{othersAt, shareAlong, shareOf}
-use Rattle.bounds.specs.Bounds.{BoundResult, analysed, aloneRead, aloneWrite, slotRead, slotWrite, boundOf}
+use Rattle.bounds.specs.Bounds.{BoundResult, analysed, interference, aloneRead, aloneWrite, slotRead, slotWrite, boundOf}
+use Rattle.bounds.specs.Recursion.{upward, interferers}
 use Rattle.text.specs.Write.{digits, decimalText}
 use Rattle.put.specs.Page.{bytes, ended, joined}
 use Rattle.listing.specs.Listing.{rowText, allLine, refusalText, reportText}
-use Rattle.model.specs.Trees.{chain, timed, pair, worked, nested}
+use Rattle.model.specs.Trees.{chain, timed, pair, worked}
 
 pub data Figure : Type 0 where
   answers : Tree → List Call → List Answer → Figure
+  answersFrom : Tree → State → List Call → List Answer → Figure
+  keeping : Tree → State → Bool → Figure
+  starting : Tree → Beginning → Figure
   ran : Tree → List ℕ → ℕ → Ending → List ℕ → Figure
+  ends : Tree → List ℕ → ℕ → Ending → Figure
   numbers : List ℕ → List ℕ → Figure
   bounded : Tree → ℕ → BoundResult → Figure
   printed : Tree → List String → Figure
+  told : List ℕ → List String → Figure
 
 abbrev pub linesOf : List String → List ℕ
 linesOf [] = []
@@ -54,16 +65,21 @@ linesOf (l ∷ ls) = ended (bytes l) ++ linesOf ls
 
 abbrev pub holds : Figure → Type 0
 holds (answers t cs xs) = answersOf t (freshState t) cs ≡ xs
+holds (answersFrom t s cs xs) = answersOf t s cs ≡ xs
+holds (keeping t s b) = keeps t s ≡ b
+holds (starting t x) = freshened t ≡ x
 holds (ran t s n e bs) = (ranOf t s n ≡ e) × (bufferAfter t s (replicate n 7) ≡ bs ++ replicate (n - length bs) 7)
+holds (ends t s n e) = ranOf t s n ≡ e
 holds (numbers xs ys) = xs ≡ ys
 holds (bounded t a x) = boundOf t a ≡ x
 holds (printed t ls) = reportText t ≡ linesOf ls
+holds (told xs ls) = xs ≡ linesOf ls
 
 abbrev pub every : List Figure → Type 0
 every [] = Unit {0}
 every (f ∷ fs) = holds f × every fs
 
-abbrev times : {A : Type 0} → ℕ → A → List A
+abbrev pub times : {A : Type 0} → ℕ → A → List A
 times zero x = []
 times (suc n) x = x ∷ times n x
 
@@ -78,6 +94,10 @@ abbrev pub table : List Figure
 table =
     -- 1: "Shares 2, 4, 8, 8"
     numbers (shareOf chain 0 ∷ shareOf chain 1 ∷ shareOf chain 2 ∷ shareOf chain 3 ∷ []) (2 ∷ 4 ∷ 8 ∷ 8 ∷ [])
+    -- 1: "Source document 000 also sees seven interfering requests": by the share of accelerator 3, by lemma 9's recursion, and
+    -- served, where the other three ask for eight each as in its section 4 (the eighth is accelerator 3's)
+    ∷ numbers (interference 1 (shareOf chain 3) ∷ interferers chain 1 3 ∷ []) (7 ∷ 7 ∷ [])
+    ∷ ran chain (asks 0 8 ++ asks 1 8 ++ asks 2 8 ++ asks 3 1) 8 (stopped 8) (0 ∷ 1 ∷ 0 ∷ 2 ∷ 0 ∷ 1 ∷ 0 ∷ 3 ∷ [])
     -- 2: "with 4, 2, 1, 1 offered at slot 0: served 0 1 0 2 0 1 0 3"
     ∷ answers chain
     (times 4 (offer 0) ++ times 2 (offer 1) ++ offer 2 ∷ offer 3 ∷ times 8 slot)
@@ -135,12 +155,5 @@ table =
     ∷ []
 
 pub figures : every table
-unfolding answersOf parts butLast final same allDigits decimal fieldOf kindOf pushed lineOf shaped offerLine readOffers readTrace requests ranOf bufferAfter heldWith leftAfter offerHeld offerEach next trail offered slotted tick who after turnPort turnAllowance seek bitsBelow treeKeeps stateKeeps sized recordKeeps turnKeeps busKeeps carries rootPlaced childPlaced usedInterconnect unusedInterconnect usedAccelerator unusedAccelerator inside above sum all shareAlong othersAt boundOf reportText rowText allLine refusalText joined decimalText digits
-figures = (refl, (refl, ((refl, refl), (refl, (refl, ((refl, refl), (refl, (refl, (refl, (refl, (refl, (refl, (refl, (refl, ((refl, refl), (refl, tt))))))))))))))))
-
-abbrev pub guard : List Figure
-guard = numbers (shareOf nested 0 ∷ shareOf nested 1 ∷ []) (3 ∷ 2 ∷ []) ∷ []
-
-pub guarded : every guard
-unfolding inside above sum shareAlong othersAt
-guarded = (refl, tt)
+unfolding answersOf parts butLast final same allDigits decimal fieldOf kindOf pushed lineOf shaped offerLine readOffers readTrace requests ranOf bufferAfter heldWith leftAfter offerHeld offerEach next trail offered slotted tick who after turnPort turnAllowance seek bitsBelow treeKeeps stateKeeps sized recordKeeps turnKeeps busKeeps carries rootPlaced childPlaced usedInterconnect unusedInterconnect usedAccelerator unusedAccelerator inside above sum all shareAlong othersAt upward boundOf reportText rowText allLine refusalText joined decimalText digits
+figures = (refl, (refl, ((refl, refl), (refl, ((refl, refl), (refl, (refl, ((refl, refl), (refl, (refl, (refl, (refl, (refl, (refl, (refl, (refl, ((refl, refl), (refl, tt))))))))))))))))))

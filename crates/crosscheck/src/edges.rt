@@ -64,6 +64,15 @@ pub fn try_case_11(w: &mut [u8; 16384], d: &mut [usize; 16384]) {
     }
 }
 
+// Runs on a tree of 15 interconnects and 32 accelerators, where accelerator 31 alone holds transactions at last.
+pub fn try_wide(w: &mut [u8; 16384], d: &mut [usize; 16384], out: &mut [u8; 131074]) {
+    make_case(w, d, 6);
+    let r = try_tree(made(w, d), d);
+    let t = r.tree;
+    try_runs(t, b"o\t0\t31\t16\n", d, out, 64);
+    try_runs(t, b"o\t0\t0\t9\no\t0\t30\t2\no\t1\t31\t16\n", d, out, 64);
+}
+
 fn try_long_file(page: &mut [u8], i: usize, d: &mut [usize; 16384], out: &mut [u8; 131074]) {
     let n = long_file(page, i);
     if n <= page.len() {

@@ -9,11 +9,11 @@ mod trials;
 use crate::edges::try_case_11;
 use crate::edges::try_listed;
 use crate::edges::try_long;
+use crate::edges::try_wide;
 use crate::results::show;
-use crate::trials::try_refused;
+use crate::trials::try_altered;
 use crate::trials::try_runs;
 use crate::trials::try_tree;
-use callcheck::try_broken;
 use callcheck::try_machine;
 use generator::buffer_size;
 use generator::made;
@@ -33,13 +33,13 @@ fn try_pair(w: &mut [u8; 16384], d: &mut [usize; 16384], out: &mut [u8; 131074])
     };
     let t = r.tree;
     try_machine(t, d);
-    try_refused(try_broken(t, d), d);
     trace_file(w, d, t.accs as usize);
+    try_altered(t, made(w, d), d, out);
     let size = buffer_size(d);
     try_runs(t, made(w, d), d, out, size);
 }
 
-// The generated inputs, and case 11.
+// The generated inputs, case 11, and the widest tree.
 fn try_generated(d: &mut [usize; 16384], out: &mut [u8; 131074]) {
     let mut w = [0u8; 16384];
     start(d);
@@ -47,6 +47,7 @@ fn try_generated(d: &mut [usize; 16384], out: &mut [u8; 131074]) {
         try_pair(&mut w, d, out);
     }
     try_case_11(&mut w, d);
+    try_wide(&mut w, d, out);
 }
 
 fn main() {

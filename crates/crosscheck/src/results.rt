@@ -1,16 +1,20 @@
 // The counts that the program keeps in the store, and their labels.
-use callcheck::BROKEN;
 use callcheck::OFFERS;
 use callcheck::SLOTS as SLOT_CALLS;
+use callcheck::STARTS;
 use libc::STDOUT_FILENO;
 use second::BUDGET_FIRST;
 use second::FALLING_FIRST;
 use second::FROM_ZERO;
 use second::GROWING;
+use second::LAST_FIRST;
 use second::LOWER_RESET;
 use second::NESTED;
 use second::ORDER_FIRST;
 use second::OWN_PORT;
+use second::SIZE_FIRST;
+use second::TRACE_FIRST;
+use second::UNKNOWN_FIRST;
 use second::WHOLE_RUN;
 use store::DIFFERENCES;
 use store::WRONG;
@@ -28,12 +32,13 @@ pub const LEVELS: usize = 3104;
 // Bounds, one past the last accelerator of each tree among them.
 pub const BOUNDS: usize = 3112;
 
-// Runs done, stopped and refused.
+// Runs done and stopped.
 pub const DONE: usize = 3113;
 
 pub const STOPPED: usize = 3114;
 
-pub const REFUSED: usize = 3115;
+// Accepted trees with four granularities on the way of an accelerator.
+pub const VARIED: usize = 3115;
 
 // Slots and windows of the runs, and bytes lent to them.
 pub const SLOTS: usize = 3116;
@@ -47,12 +52,27 @@ pub const EDGES: usize = 3119;
 
 pub const CASE11: usize = 3120;
 
+// Altered configurations that break their rules, and such that keep them.
+pub const ALTERED: usize = 3122;
+
+// Accepted trees with 15 interconnects, and with 32 accelerators.
+pub const SIZES: usize = 3124;
+
+// Runs by the number of their refusal.
+pub const RUN_REFUSALS: usize = 3168;
+
+// Bounds on altered configurations, by the number of their answer.
+pub const BOUND_ANSWERS: usize = 3184;
+
 // What the program writes: a label to each line,
-const LABELS: [u8; 1051] = *b"trees accepted\n\
+const LABELS: [u8; 1585] = *b"trees accepted\n\
     trees accepted, 1 level\n\
     trees accepted, 2 levels\n\
     trees accepted, 3 levels\n\
     trees accepted, 4 levels\n\
+    trees accepted, four different g on a way\n\
+    trees accepted, 15 interconnects\n\
+    trees accepted, 32 accelerators\n\
     trees refused by 1\n\
     trees refused by 2\n\
     trees refused by 3\n\
@@ -63,15 +83,22 @@ const LABELS: [u8; 1051] = *b"trees accepted\n\
     traces refused by 2\n\
     traces refused by 6\n\
     traces refused by 7\n\
+    traces refused by 11\n\
     files of the edge list\n\
     files of case 11\n\
     bounds\n\
     runs done\n\
     runs stopped\n\
-    runs refused\n\
+    runs refused by 1\n\
+    runs refused by 2\n\
+    runs refused by 6\n\
+    runs refused by 7\n\
+    runs refused by 11\n\
     slots run\n\
     windows crossed\n\
     bytes of the buffers\n\
+    starts\n\
+    starts refused by 11\n\
     offers admitted one by one\n\
     offers refused by 7\n\
     offers refused by 8\n\
@@ -81,7 +108,11 @@ const LABELS: [u8; 1051] = *b"trees accepted\n\
     slots idle\n\
     slots refused by 10\n\
     slots refused by 11\n\
-    broken configurations refused by 11\n\
+    altered configurations that keep their rules\n\
+    altered configurations that break them\n\
+    their bounds given\n\
+    their bounds refused by 7\n\
+    their bounds refused by 11\n\
     wrong: 3 tested before 2, trees seen\n\
     wrong: 6 tested before 7, traces seen\n\
     wrong: budgets over the whole run, runs seen\n\
@@ -91,15 +122,22 @@ const LABELS: [u8; 1051] = *b"trees accepted\n\
     wrong: D counts the own port, trees seen\n\
     wrong: capacity through a lower g, trees seen\n\
     wrong: 9 tested before 8, offers seen\n\
+    wrong: 7 tested before 11, offers and bounds seen\n\
+    wrong: 10 tested before 11, slots seen\n\
+    wrong: buffer tested before 11, runs seen\n\
+    wrong: trace tested before the buffer, runs seen\n\
     differences\n";
 
 // and where its count stands.
-const PLACES: [usize; 44] = [
+const PLACES: [usize; 62] = [
     TREES,
     LEVELS + 1,
     LEVELS + 2,
     LEVELS + 3,
     LEVELS + 4,
+    VARIED,
+    SIZES,
+    SIZES + 1,
     TREES + 1,
     TREES + 2,
     TREES + 3,
@@ -110,15 +148,22 @@ const PLACES: [usize; 44] = [
     TRACES + 2,
     TRACES + 6,
     TRACES + 7,
+    TRACES + 11,
     EDGES,
     CASE11,
     BOUNDS,
     DONE,
     STOPPED,
-    REFUSED,
+    RUN_REFUSALS + 1,
+    RUN_REFUSALS + 2,
+    RUN_REFUSALS + 6,
+    RUN_REFUSALS + 7,
+    RUN_REFUSALS + 11,
     SLOTS,
     WINDOWS,
     BUFFERS,
+    STARTS,
+    STARTS + 11,
     OFFERS,
     OFFERS + 7,
     OFFERS + 8,
@@ -128,7 +173,11 @@ const PLACES: [usize; 44] = [
     SLOT_CALLS + 1,
     SLOT_CALLS + 10,
     SLOT_CALLS + 11,
-    BROKEN,
+    ALTERED + 1,
+    ALTERED,
+    BOUND_ANSWERS,
+    BOUND_ANSWERS + 7,
+    BOUND_ANSWERS + 11,
     WRONG + ORDER_FIRST,
     WRONG + FALLING_FIRST,
     WRONG + WHOLE_RUN,
@@ -138,6 +187,10 @@ const PLACES: [usize; 44] = [
     WRONG + OWN_PORT,
     WRONG + NESTED,
     WRONG + BUDGET_FIRST,
+    WRONG + UNKNOWN_FIRST,
+    WRONG + LAST_FIRST,
+    WRONG + SIZE_FIRST,
+    WRONG + TRACE_FIRST,
     DIFFERENCES,
 ];
 
@@ -161,7 +214,7 @@ fn show_line(labels: &[u8], from: usize, n: usize) -> usize {
 pub fn show(d: &[usize; 16384]) {
     let labels = LABELS;
     let mut from = 0;
-    for i in 0..44 {
+    for i in 0..62 {
         from = show_line(&labels, from, get(d, PLACES[i], 0));
     }
 }

@@ -1,22 +1,28 @@
 // One input at a time: both implementations are run on it, and what is found is counted.
-use crate::compare::bound_refused;
 use crate::compare::library_run;
+use crate::compare::same_bound;
 use crate::compare::same_bounds;
 use crate::compare::same_bytes;
 use crate::compare::same_end;
 use crate::compare::same_said;
-use crate::compare::same_tree;
 use crate::compare::second_run;
+use crate::results::ALTERED;
+use crate::results::BOUND_ANSWERS;
 use crate::results::BOUNDS;
 use crate::results::BUFFERS;
 use crate::results::DONE;
 use crate::results::LEVELS;
-use crate::results::REFUSED;
+use crate::results::RUN_REFUSALS;
+use crate::results::SIZES;
 use crate::results::SLOTS;
 use crate::results::STOPPED;
 use crate::results::TRACES;
 use crate::results::TREES;
+use crate::results::VARIED;
 use crate::results::WINDOWS;
+use callcheck::busy_state;
+use callcheck::try_other;
+use generator::number_below;
 use model::Tree;
 use placing::TreeRead;
 use reader::read_tree;
@@ -25,18 +31,28 @@ use second::NESTED;
 use second::NO_WRONG_RULE;
 use second::ORDER_FIRST;
 use second::OWN_PORT;
+use second::SIZE_FIRST;
 use second::Said;
+use second::TRACE_FIRST;
+use second::UNKNOWN_FIRST;
 use second::WHOLE_RUN;
 use second::book::cell;
 use second::book::deepest;
 use second::book::read_book;
+use second::book::varied;
 use second::queues::Ended;
+use second::queues::run_refusal;
 use second::requests::read_log;
+use second::response::bound_refusal;
 use store::DIFFERENCES;
 use store::WRONG;
 use store::add;
 use store::note;
 use trace::read_trace;
+use treecheck::alter::altered;
+use treecheck::is_empty;
+use treecheck::judge;
+use treecheck::same_tree;
 
 // An accepted tree: its entries and its bounds.
 fn try_content(t: Tree, d: &mut [usize; 16384]) {
@@ -51,6 +67,15 @@ fn try_content(t: Tree, d: &mut [usize; 16384]) {
     add(d, BOUNDS, 0, t.accs as usize + 1);
     let levels = deepest(d);
     add(d, LEVELS, levels, 1);
+    if varied(d) {
+        add(d, VARIED, 0, 1);
+    }
+    if t.ints == 15 {
+        add(d, SIZES, 0, 1);
+    }
+    if t.accs == 32 {
+        add(d, SIZES, 1, 1);
+    }
 }
 
 // A tree file. The rows are left with the second reader's tree.
@@ -64,6 +89,9 @@ pub fn try_tree(s: &[u8], d: &mut [usize; 16384]) -> TreeRead {
     add(d, TREES, said.number, 1);
     if said.number == 0 {
         try_content(r.tree, d);
+    } else {
+        let empty = is_empty(r.tree, d);
+        note(d, DIFFERENCES, 0, empty);
     }
     r
 }
@@ -81,7 +109,7 @@ fn try_trace(t: Tree, s: &[u8], d: &mut [usize; 16384]) -> Said {
 
 fn count_run(e: Ended, d: &mut [usize; 16384]) {
     if e.number != 0 {
-        add(d, REFUSED, 0, 1);
+        add(d, RUN_REFUSALS, e.number, 1);
         return;
     }
     if e.done {
@@ -110,6 +138,17 @@ fn try_wrong_runs(
     }
 }
 
+// A run over n bytes that the library ends so: is an order of its tests seen that is wrong?
+fn note_order(said: Said, d: &mut [usize; 16384], right: Ended, n: usize, wrong: usize) {
+    let r = run_refusal(said, d, n, wrong);
+    note(
+        d,
+        WRONG,
+        wrong,
+        (r.number == right.number) & (r.line == right.line),
+    );
+}
+
 // A run over n bytes of each buffer; the slots used if it is done, else 0.
 fn try_run(
     t: Tree,
@@ -124,13 +163,16 @@ fn try_run(
     note(d, DIFFERENCES, 0, same_end(e, right) & same_bytes(out, n));
     count_run(e, d);
     add(d, BUFFERS, 0, n);
+    note_order(said, d, right, n, SIZE_FIRST);
+    note_order(said, d, right, n, TRACE_FIRST);
     if said.number == 0 {
         try_wrong_runs(said, d, out, right, n);
     }
     if e.done { e.slots } else { 0 }
 }
 
-// A trace, and runs of it: over a buffer of n bytes, and if that is done, over just enough and over one byte less.
+// A trace, and runs of it: over a buffer of n bytes, and if that is done, over just enough and over one byte less; if it is
+// refused, now and then over a buffer that is too large.
 pub fn try_runs(t: Tree, s: &[u8], d: &mut [usize; 16384], out: &mut [u8; 131074], n: usize) {
     let said = try_trace(t, s, d);
     let slots = try_run(t, s, said, d, out, n);
@@ -139,12 +181,36 @@ pub fn try_runs(t: Tree, s: &[u8], d: &mut [usize; 16384], out: &mut [u8; 131074
         let short = slots - 1;
         try_run(t, s, said, d, out, short);
     }
+    if said.number != 0 {
+        if number_below(d, 4) == 0 {
+            try_run(t, s, said, d, out, 65537);
+        }
+    }
 }
 
-// Are a bound and a run of a configuration that breaks its rules refused by 11?
-pub fn try_refused(t: Tree, d: &mut [usize; 16384]) {
-    let mut out = [0u8; 8];
-    let bound = bound_refused(t);
-    let e = library_run(t, b"", &mut out, 8);
-    note(d, DIFFERENCES, 0, bound & (e.number == 11));
+// A bound of accelerator a, which the tree may not have.
+fn try_bound(t: Tree, a: u8, d: &mut [usize; 16384]) {
+    let same = same_bound(t, a, d, NO_WRONG_RULE);
+    note(d, DIFFERENCES, 0, same);
+    let wrongly = same_bound(t, a, d, UNKNOWN_FIRST);
+    note(d, WRONG, UNKNOWN_FIRST, wrongly);
+    let refusal = bound_refusal(d, a as usize, NO_WRONG_RULE);
+    add(d, BOUND_ANSWERS, refusal, 1);
+}
+
+// The tree t, altered: whether it keeps its rules, its start, calls on it from a state of t, its bounds, and if it breaks them
+// runs of the trace s. The rows are left with t again.
+pub fn try_altered(t: Tree, s: &[u8], d: &mut [usize; 16384], out: &mut [u8; 131074]) {
+    let state = busy_state(t, d);
+    let other = altered(t, d);
+    let keeps = judge(other, d);
+    add(d, ALTERED, keeps as usize, 1);
+    try_other(other, state, d);
+    try_bound(other, 0, d);
+    try_bound(other, 32, d);
+    if !keeps {
+        try_runs(other, s, d, out, 8);
+    }
+    let back = judge(t, d);
+    note(d, DIFFERENCES, 0, back);
 }

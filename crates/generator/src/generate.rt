@@ -55,6 +55,14 @@ fn mixed(d: &mut [usize; 16384], few: usize, n: usize, many: usize) -> usize {
     below(d, few)
 }
 
+// Up to `few`, once in 3 times up to `many`, and once in 20 times the most.
+fn mixed_or_all(d: &mut [usize; 16384], few: usize, many: usize) -> usize {
+    if once_in(d, 20) {
+        return std::num::wrapping_sub_usize(many, 1);
+    }
+    mixed(d, few, 3, many)
+}
+
 // A byte goes to the end of the text, which has room for 8,192.
 pub fn put_byte(w: &mut [u8; 16384], d: &mut [usize; 16384], b: u8) {
     let n = get(d, LENGTH, 0) % 8192;
@@ -215,7 +223,7 @@ fn number_of(d: &mut [usize; 16384], i: usize, n: usize, order: usize) -> usize 
 
 fn acc_lines(w: &mut [u8; 16384], d: &mut [usize; 16384]) {
     let ports = (get(d, INTS, 0) % 16) * 7 + 1;
-    let wanted = std::num::wrapping_add_usize(mixed(d, 8, 3, 32), 1);
+    let wanted = std::num::wrapping_add_usize(mixed_or_all(d, 8, 32), 1);
     let n = least(wanted, ports);
     let order = below(d, 4);
     for i in 0..32 {
@@ -227,7 +235,7 @@ fn acc_lines(w: &mut [u8; 16384], d: &mut [usize; 16384]) {
 }
 
 fn int_lines(w: &mut [u8; 16384], d: &mut [usize; 16384]) {
-    let n = std::num::wrapping_add_usize(mixed(d, 5, 3, 15), 1);
+    let n = std::num::wrapping_add_usize(mixed_or_all(d, 5, 15), 1);
     for i in 0..15 {
         if i < n {
             int_line(w, d);

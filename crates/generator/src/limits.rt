@@ -1,4 +1,4 @@
-// The six tree files of document 01's case 11, each in the second half of w.
+// The six tree files of document 01's case 11, and one with all interconnects and accelerators, each in the second half of w.
 use crate::generate::LENGTH;
 use crate::generate::SIDE;
 use crate::generate::put_column;
@@ -60,12 +60,38 @@ fn crowd(w: &mut [u8; 16384], d: &mut [usize; 16384], n: usize) {
     }
 }
 
+// Interconnect i of fifteen: seven under the root, and seven under the seventh of these, at ports 1 to 7.
+fn put_one_of_15(w: &mut [u8; 16384], d: &mut [usize; 16384], i: usize) {
+    if i < 8 {
+        put_int(w, d, i, 0, i);
+    } else {
+        put_int(w, d, i, 7, std::num::wrapping_sub_usize(i, 7));
+    }
+}
+
+// The bus line, the root, and fourteen interconnects.
+fn put_15(w: &mut [u8; 16384], d: &mut [usize; 16384]) {
+    put_bus(w, d, 16);
+    for i in 1..15 {
+        put_one_of_15(w, d, i);
+    }
+}
+
+// 15 interconnects and 32 accelerators, the last at port 7 of the last interconnect.
+fn wide(w: &mut [u8; 16384], d: &mut [usize; 16384]) {
+    put_15(w, d);
+    for a in 0..31 {
+        put_acc(w, d, a, (a / 8 + 1) % 5, a % 8);
+    }
+    put_acc(w, d, 31, 14, 7);
+}
+
 fn single(w: &mut [u8; 16384], d: &mut [usize; 16384], burst: usize) {
     put_bus(w, d, burst);
     put_acc(w, d, 0, 0, 0);
 }
 
-// One of the six files of case 11: levels 4 and 5, 32 accelerators and number 32, B 256 and 257.
+// One of the six files of case 11: levels 4 and 5, 32 accelerators and number 32, B 256 and 257; then the widest tree.
 pub fn make_case(w: &mut [u8; 16384], d: &mut [usize; 16384], i: usize) {
     if i == 0 {
         chain(w, d, 4);
@@ -77,7 +103,9 @@ pub fn make_case(w: &mut [u8; 16384], d: &mut [usize; 16384], i: usize) {
         crowd(w, d, 33);
     } else if i == 4 {
         single(w, d, 256);
-    } else {
+    } else if i == 5 {
         single(w, d, 257);
+    } else {
+        wide(w, d);
     }
 }

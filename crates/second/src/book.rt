@@ -29,6 +29,9 @@ const ACCS: usize = 482;
 
 const ROW_OF: usize = 512;
 
+// 1 if the configuration breaks its rules.
+const BROKEN: usize = 483;
+
 // What a port carries: an accelerator's number, 32 + an interconnect's number, or nothing.
 pub const NOTHING: usize = 255;
 
@@ -56,6 +59,14 @@ pub fn int_row(i: usize) -> usize {
 
 pub fn acc_row(d: &[usize; 16384], a: usize) -> usize {
     get(d, ROW_OF, a % 32)
+}
+
+pub(crate) fn is_broken(d: &[usize; 16384]) -> bool {
+    get(d, BROKEN, 0) != 0
+}
+
+pub(crate) fn set_broken(d: &mut [usize; 16384]) {
+    put(d, BROKEN, 0, 1);
 }
 
 // What the port p of interconnect i carries.
@@ -99,6 +110,35 @@ pub fn deepest(d: &[usize; 16384]) -> usize {
         }
     }
     most
+}
+
+fn grain(d: &[usize; 16384], i: usize) -> usize {
+    cell(d, int_row(i), 3)
+}
+
+fn parent(d: &[usize; 16384], i: usize) -> usize {
+    cell(d, int_row(i), 1)
+}
+
+// Is interconnect i on level 4, and has none of the four on its way up the granularity of another?
+fn unlike(d: &[usize; 16384], i: usize) -> bool {
+    let j = parent(d, i);
+    let k = parent(d, j);
+    let lower = (grain(d, i) != grain(d, j)) & (grain(d, i) != grain(d, k));
+    let upper = (grain(d, j) != grain(d, k)) & (grain(d, 0) != grain(d, k));
+    let ends = (grain(d, 0) != grain(d, i)) & (grain(d, 0) != grain(d, j));
+    (level(d, i) == 4) & lower & upper & ends
+}
+
+// Is there an accelerator on such an interconnect?
+pub fn varied(d: &[usize; 16384]) -> bool {
+    let mut found = false;
+    for a in 0..32 {
+        if a < accs(d) {
+            found = found | unlike(d, cell(d, acc_row(d, a), 1));
+        }
+    }
+    found
 }
 
 fn shaped(s: Scan, d: &[usize; 16384]) -> bool {
@@ -210,6 +250,21 @@ fn misplaced(name: usize, d: &[usize; 16384]) -> usize {
         return 5;
     }
     0
+}
+
+// A line of the right shape: is it accepted? Then it is in its row.
+pub(crate) fn fits(name: usize, d: &mut [usize; 16384]) -> bool {
+    if !limits(name, d) {
+        return false;
+    }
+    if !in_order(name, d) {
+        return false;
+    }
+    if misplaced(name, d) != 0 {
+        return false;
+    }
+    enter(name, d);
+    true
 }
 
 // The refusal of a line, or 0 and the line is in its row.

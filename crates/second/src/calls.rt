@@ -1,11 +1,14 @@
 // The calls of the second machine one by one: an offer, a slot, and the rules of a state that come before both. A state may
 // be altered, so that some break a rule.
 use crate::BUDGET_FIRST;
+use crate::LAST_FIRST;
+use crate::UNKNOWN_FIRST;
 use crate::book::acc_row;
 use crate::book::accs;
 use crate::book::cell;
 use crate::book::int_row;
 use crate::book::ints;
+use crate::book::is_broken;
 use crate::queues::ADMITTED;
 use crate::queues::ALLOWANCE;
 use crate::queues::LAST;
@@ -14,10 +17,12 @@ use crate::queues::SERVED;
 use crate::queues::SLOT;
 use crate::queues::USED;
 use crate::queues::advance;
+use crate::queues::clear_state;
 use crate::queues::one_slot;
 use crate::queues::place_in_queue;
 use crate::queues::push;
 use crate::queues::queued;
+use crate::queues::start;
 use crate::queues::waits;
 use store::get;
 use store::least;
@@ -116,14 +121,26 @@ fn state_keeps(d: &[usize; 16384]) -> bool {
     keeps
 }
 
-// What an offer of accelerator a answers: 0 if it is admitted, or a number. A wrong rule tests 9 before 8.
-pub fn offer_answer(d: &[usize; 16384], a: usize, wrong: usize) -> usize {
-    if !state_keeps(d) {
+// Is the configuration, or the state, against its rules?
+fn rules_broken(d: &[usize; 16384]) -> bool {
+    if is_broken(d) {
+        return true;
+    }
+    !state_keeps(d)
+}
+
+// The start: 0, or 11 and the state is all 0.
+pub fn start_one(d: &mut [usize; 16384]) -> usize {
+    if is_broken(d) {
+        clear_state(d);
         return 11;
     }
-    if accs(d) <= a {
-        return 7;
-    }
+    start(d);
+    0
+}
+
+// What an offer of a known accelerator answers on a state that keeps its rules. A wrong rule tests 9 before 8.
+fn limits_answer(d: &[usize; 16384], a: usize, wrong: usize) -> usize {
     let row = acc_row(d, a);
     let full = cell(d, row, 3) <= queued(d, a);
     let spent = cell(d, row, 4) <= get(d, USED, a);
@@ -131,6 +148,21 @@ pub fn offer_answer(d: &[usize; 16384], a: usize, wrong: usize) -> usize {
         return 9;
     }
     if full { 8 } else { 0 }
+}
+
+// What an offer of accelerator a answers: 0 if it is admitted, or a number. A wrong rule tests 7 before 11.
+pub fn offer_answer(d: &[usize; 16384], a: usize, wrong: usize) -> usize {
+    let unknown = accs(d) <= a;
+    if unknown & (wrong == UNKNOWN_FIRST) {
+        return 7;
+    }
+    if rules_broken(d) {
+        return 11;
+    }
+    if unknown {
+        return 7;
+    }
+    limits_answer(d, a, wrong)
 }
 
 // The offer of one transaction.
@@ -142,13 +174,23 @@ pub fn offer_one(d: &mut [usize; 16384], a: usize, wrong: usize) -> usize {
     answer
 }
 
+// The refusal of a slot, or 0. A wrong rule tests 10 before 11.
+pub fn slot_refusal(d: &[usize; 16384], wrong: usize) -> usize {
+    let late = get(d, SLOT, 0) == LAST_SLOT;
+    if late & (wrong == LAST_FIRST) {
+        return 10;
+    }
+    if rules_broken(d) {
+        return 11;
+    }
+    if late { 10 } else { 0 }
+}
+
 // One slot: the accelerator served, or 255; 256 and its number more on a refusal.
 pub fn slot_one(d: &mut [usize; 16384], wrong: usize) -> usize {
-    if !state_keeps(d) {
-        return 267;
-    }
-    if get(d, SLOT, 0) == LAST_SLOT {
-        return 266;
+    let refusal = slot_refusal(d, wrong);
+    if refusal != 0 {
+        return std::num::wrapping_add_usize(256, refusal);
     }
     let a = one_slot(d, wrong);
     advance(d, wrong);

@@ -4,10 +4,11 @@
 // Test code, without contracts: it is proved that each function is safe and ends.
 pub mod book;
 pub mod calls;
+pub mod entries;
 pub mod queues;
 pub mod requests;
+pub mod response;
 mod scan;
-pub mod shares;
 
 // The rule that the second implementation breaks on purpose: none,
 pub const NO_WRONG_RULE: usize = 0;
@@ -27,8 +28,16 @@ pub const LOWER_RESET: usize = 6;
 pub const OWN_PORT: usize = 7;
 // a capacity that is taken through the granularity of a lower interconnect,
 pub const NESTED: usize = 8;
-// 9 tested before 8.
+// 9 tested before 8,
 pub const BUDGET_FIRST: usize = 9;
+// 7 tested before 11 by an offer and by a bound,
+pub const UNKNOWN_FIRST: usize = 10;
+// 10 tested before 11 by a slot,
+pub const LAST_FIRST: usize = 11;
+// the buffer's size tested before 11 by a run,
+pub const SIZE_FIRST: usize = 12;
+// and the trace tested before the buffer's size.
+pub const TRACE_FIRST: usize = 13;
 
 // An answer on a file: 0 where it is accepted, or the number of a refusal; and the line.
 pub struct Said {

@@ -3,13 +3,16 @@
 use crate::FROM_ZERO;
 use crate::GROWING;
 use crate::LOWER_RESET;
+use crate::SIZE_FIRST;
 use crate::Said;
+use crate::TRACE_FIRST;
 use crate::WHOLE_RUN;
 use crate::book::acc_row;
 use crate::book::carried;
 use crate::book::cell;
 use crate::book::int_row;
 use crate::book::ints;
+use crate::book::is_broken;
 use crate::requests::LINES;
 use crate::requests::LOG;
 use crate::requests::acc_in;
@@ -261,9 +264,14 @@ fn nothing_left(d: &[usize; 16384], lines: usize) -> bool {
     (lines <= get(d, NEXT, 0)) & (all_held(d) == 0) & (all_queued(d) == 0)
 }
 
-// Nothing is requested, admitted or served, and the last port of each interconnect is 7.
-pub fn start(d: &mut [usize; 16384]) {
+// Nothing is requested, admitted or served, and all else of the state is 0.
+pub(crate) fn clear_state(d: &mut [usize; 16384]) {
     clear(d, REQUESTED, 1024);
+}
+
+// The last port of each interconnect is 7, and all else of the state is 0.
+pub fn start(d: &mut [usize; 16384]) {
+    clear_state(d);
     for i in 0..15 {
         if i < ints(d) {
             put(d, LAST, i, 7);
@@ -308,13 +316,34 @@ fn run_log(d: &mut [usize; 16384], out: &mut [u8], wrong: usize) -> Ended {
     run_end(nothing_left(d, lines), used)
 }
 
-// Runs the trace that the log has, if it was accepted: the buffer's size comes before the trace.
-pub fn run_trace(trace: Said, d: &mut [usize; 16384], out: &mut [u8], wrong: usize) -> Ended {
-    if 65536 < out.len() {
-        return refused(2, 0);
+fn said(number: usize, line: usize) -> Said {
+    Said {
+        number: number,
+        line: line,
     }
-    if trace.number != 0 {
-        return refused(trace.number, trace.line);
+}
+
+// The refusal of a run over n bytes: 11, the buffer's size, the trace; or 0. A wrong rule tests the size first, or the trace
+// before the size.
+pub fn run_refusal(trace: Said, d: &[usize; 16384], n: usize, wrong: usize) -> Said {
+    let large = 65536 < n;
+    if large & (wrong == SIZE_FIRST) {
+        return said(2, 0);
+    }
+    if is_broken(d) {
+        return said(11, 0);
+    }
+    if large & ((trace.number == 0) | (wrong != TRACE_FIRST)) {
+        return said(2, 0);
+    }
+    trace
+}
+
+// Runs the trace that the log has, unless it is refused.
+pub fn run_trace(trace: Said, d: &mut [usize; 16384], out: &mut [u8], wrong: usize) -> Ended {
+    let r = run_refusal(trace, d, out.len(), wrong);
+    if r.number != 0 {
+        return refused(r.number, r.line);
     }
     run_log(d, out, wrong)
 }

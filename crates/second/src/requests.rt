@@ -2,6 +2,7 @@
 use crate::FALLING_FIRST;
 use crate::Said;
 use crate::book::accs;
+use crate::book::is_broken;
 use crate::scan::OFFER;
 use crate::scan::Scan;
 use crate::scan::answer;
@@ -94,8 +95,7 @@ fn judge(s: Scan, d: &mut [usize; 16384], known: usize, wrong: usize) -> usize {
     number
 }
 
-// Reads a trace file, for the tree in the rows, into the log.
-pub fn read_log(s: &[u8], d: &mut [usize; 16384], wrong: usize) -> Said {
+fn read_lines(s: &[u8], d: &mut [usize; 16384], wrong: usize) -> Said {
     clear(d, TOTAL, 64);
     if 65536 < s.len() {
         return answer(2, 0);
@@ -122,4 +122,12 @@ pub fn read_log(s: &[u8], d: &mut [usize; 16384], wrong: usize) -> Said {
         return answer(1, scan.line);
     }
     answer(0, 0)
+}
+
+// Reads a trace file, for the tree in the rows, into the log.
+pub fn read_log(s: &[u8], d: &mut [usize; 16384], wrong: usize) -> Said {
+    if is_broken(d) {
+        return answer(11, 0);
+    }
+    read_lines(s, d, wrong)
 }

@@ -115,7 +115,7 @@ pub fn close_field(mut s: Scan, d: &mut [usize; 16384]) -> Scan {
     if s.dash {
         x = DASH;
     }
-    put(d, FIELDS, s.fields % 16, x);
+    set_field(d, s.fields, x);
     s.fields = std::num::wrapping_add_usize(s.fields, 1);
     s.bytes = 0;
     s.number = 0;
@@ -125,6 +125,14 @@ pub fn close_field(mut s: Scan, d: &mut [usize; 16384]) -> Scan {
 
 pub fn field(d: &[usize; 16384], i: usize) -> usize {
     get(d, FIELDS, i)
+}
+
+pub fn set_field(d: &mut [usize; 16384], i: usize, x: usize) {
+    put(d, FIELDS, i % 16, x);
+}
+
+pub fn set_dash(d: &mut [usize; 16384], i: usize) {
+    set_field(d, i, DASH);
 }
 
 pub fn is_dash(d: &[usize; 16384], i: usize) -> bool {

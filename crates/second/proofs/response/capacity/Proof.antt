@@ -1,8 +1,8 @@
 -- `capacity` ends: at most 32 turns.
 use Prim.Native.Nat.{_≤_, _-_}
 use borrow.Author.Needs.{needs}
-use Rattle.second.proofs.shares.capacity.Statement.{statement}
-use Rattle.second.proofs.shares.capacity.Tie as tie
+use Rattle.second.proofs.response.capacity.Statement.{statement}
+use Rattle.second.proofs.response.capacity.Tie as tie
 
 abbrev Inv-loop : tie.InvT-loop
 Inv-loop d i p found₀ a₀ found a = a ≤ 32

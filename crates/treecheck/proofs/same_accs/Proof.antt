@@ -1,8 +1,8 @@
 -- `same_accs` ends: at most 32 turns.
 use Prim.Native.Nat.{_≤_, _-_}
 use borrow.Author.Needs.{needs}
-use Rattle.crosscheck.proofs.compare.same_accs.Statement.{statement}
-use Rattle.crosscheck.proofs.compare.same_accs.Tie as tie
+use Rattle.treecheck.proofs.same_accs.Statement.{statement}
+use Rattle.treecheck.proofs.same_accs.Tie as tie
 
 abbrev Inv-loop : tie.InvT-loop
 Inv-loop t d same₀ a₀ same a = a ≤ 32

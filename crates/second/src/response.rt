@@ -1,12 +1,14 @@
 // The second bounds: the capacity of a port is the sum over the accelerators whose way up enters by it.
 use crate::NESTED;
 use crate::OWN_PORT;
+use crate::UNKNOWN_FIRST;
 use crate::book::NOTHING;
 use crate::book::acc_row;
 use crate::book::accs;
 use crate::book::carried;
 use crate::book::cell;
 use crate::book::int_row;
+use crate::book::is_broken;
 use crate::book::level;
 use crate::queues::passes;
 use store::least;
@@ -140,6 +142,18 @@ fn read_alone(d: &[usize; 16384], levels: usize) -> usize {
 fn write_alone(d: &[usize; 16384], levels: usize) -> usize {
     let there = larger(bus(d, 2), bus(d, 3));
     sum(write_slot(d), times(levels, sum(there, bus(d, 4))))
+}
+
+// The refusal of a bound, or 0: 11, then 7. A wrong rule tests 7 first.
+pub fn bound_refusal(d: &[usize; 16384], a: usize, wrong: usize) -> usize {
+    let unknown = accs(d) <= a;
+    if unknown & (wrong == UNKNOWN_FIRST) {
+        return 7;
+    }
+    if is_broken(d) {
+        return 11;
+    }
+    if unknown { 7 } else { 0 }
 }
 
 // The figures of accelerator a of the tree in the rows.

@@ -1,8 +1,8 @@
 -- `times` ends: half of a number above 0 is smaller.
 use Prim.Native.Nat.{_≤_}
 use borrow.Author.Needs.{needs}
-use Rattle.second.proofs.shares.times.Statement.{statement}
-use Rattle.second.proofs.shares.times.Tie as tie
+use Rattle.second.proofs.response.times.Statement.{statement}
+use Rattle.second.proofs.response.times.Tie as tie
 
 abbrev Inv-loop : tie.InvT-loop
 Inv-loop x y sum₀ doubled₀ left₀ sum doubled left = left ≤ y

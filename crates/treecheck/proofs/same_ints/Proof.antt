@@ -1,8 +1,8 @@
 -- `same_ints` ends: at most 15 turns.
 use Prim.Native.Nat.{_≤_, _-_}
 use borrow.Author.Needs.{needs}
-use Rattle.crosscheck.proofs.compare.same_ints.Statement.{statement}
-use Rattle.crosscheck.proofs.compare.same_ints.Tie as tie
+use Rattle.treecheck.proofs.same_ints.Statement.{statement}
+use Rattle.treecheck.proofs.same_ints.Tie as tie
 
 abbrev Inv-loop : tie.InvT-loop
 Inv-loop t d same₀ i₀ same i = i ≤ 15

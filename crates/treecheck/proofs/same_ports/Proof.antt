@@ -1,8 +1,8 @@
 -- `same_ports` ends: at most 8 turns.
 use Prim.Native.Nat.{_≤_, _-_}
 use borrow.Author.Needs.{needs}
-use Rattle.crosscheck.proofs.compare.same_ports.Statement.{statement}
-use Rattle.crosscheck.proofs.compare.same_ports.Tie as tie
+use Rattle.treecheck.proofs.same_ports.Statement.{statement}
+use Rattle.treecheck.proofs.same_ports.Tie as tie
 
 abbrev Inv-loop : tie.InvT-loop
 Inv-loop t i d same₀ p₀ same p = p ≤ 8

@@ -1,8 +1,8 @@
 -- `share` ends: at most 4 turns.
 use Prim.Native.Nat.{_≤_, _-_}
 use borrow.Author.Needs.{needs}
-use Rattle.second.proofs.shares.share.Statement.{statement}
-use Rattle.second.proofs.shares.share.Tie as tie
+use Rattle.second.proofs.response.share.Statement.{statement}
+use Rattle.second.proofs.response.share.Tie as tie
 
 abbrev Inv-loop : tie.InvT-loop
 Inv-loop d a wrong row₀ product₀ over₀ counter₀ row product over counter = counter ≤ 4
