@@ -1,7 +1,6 @@
 -- Figures for the clauses of document 01 that no starred case tells apart. Each number is worked out by hand from the
 -- paper's words; the sum stands beside it where it is not plain.
 --
--- onBus b t            the tree t with the bus b
 -- unequal x y          a bus whose delays all differ, with dA x and dD y
 -- unequalTree T        case 9's tree on the bus with dA 5 and dD 11
 -- acc a, int j         a port that carries accelerator a, interconnect j
@@ -32,12 +31,13 @@ use Rattle.model.specs.declared.Accelerator.{Accelerator}
 use Rattle.model.specs.declared.PortCell.{PortCell}
 use Rattle.model.specs.declared.Port.the-variants.{Empty, Acc, Int}
 use Rattle.folds.specs.Fold.{sum, all}
-use Rattle.model.specs.Tree.{emptyCell, noAccelerator, above}
-use Rattle.model.specs.Trees.{ports, interconnect, block, tree, withJob, pair, chain, timed, nested, worked}
+use Rattle.model.specs.Tree.{emptyCell, noAccelerator, limitOf, above}
+use Rattle.model.specs.Trees.{ports, interconnect, block, tree, pair, chain, timed, nested, worked}
+use Rattle.model.specs.Builders.{zeroState, withCounts, withTurns, atSlot, withBus, withAccelerators, withJob}
 use Rattle.model.specs.Beneath.{inside}
 use Rattle.rules.specs.Rules.{treeKeeps, stateKeeps, sized, recordKeeps, turnKeeps, busKeeps, carries, rootPlaced, childPlaced, usedInterconnect, unusedInterconnect, usedAccelerator, unusedAccelerator}
 use Rattle.turns.specs.Turns.{who, after, turnPort, turnAllowance, seek, nextPort, bitsBelow}
-use Rattle.machine.specs.Machine.{admitted, served, idle, refused, notStarted, beginning, zeroState, freshened, freshState, offered, slotted, tick}
+use Rattle.machine.specs.Machine.{admitted, served, idle, refused, notStarted, beginning, freshened, freshState, offered, slotted, tick}
 use Rattle.machine.specs.Calls.{offer, slot, answersOf}
 use Rattle.text.specs.Text.{parts, butLast, final, same, allDigits, decimal, fieldOf}
 use Rattle.lines.specs.Lines.{kindOf, pushed, lineOf, shaped}
@@ -45,22 +45,18 @@ use Rattle.trace.specs.TraceFile.{offerLine, readOffers, readTrace, requests}
 use Rattle.runner.specs.Offers.{offerHeld, offerEach}
 use Rattle.runner.specs.Run.{done, stopped, refusedAt, broken as refusedRun, heldWith, leftAfter, next, trail, ranOf, bufferAfter}
 use Rattle.shares.specs.Shares.{capacityOf, othersAt, shareAlong, shareOf}
-use Rattle.bounds.specs.Bounds.{refused as unbounded, given, aloneRead, aloneWrite, slotRead, slotWrite, boundOf}
-use Rattle.put.specs.Decimal.{digits, decimalText}
+use Rattle.bounds.specs.Bounds.{refused as unbounded, analysed, aloneRead, aloneWrite, slotRead, slotWrite, boundOf}
+use Rattle.text.specs.Write.{digits, decimalText}
 use Rattle.put.specs.Page.{bytes, joined}
 use Rattle.listing.specs.Listing.{rowText, allLine, refusalText, reportText}
 use Rattle.cases.specs.Figures.{Figure, answers, answersFrom, keeping, starting, ran, ends, numbers, bounded, printed, told, every, times}
-
-abbrev pub onBus : Bus → Tree → Tree
-onBus b t =
-    record { bus = b; interconnects = t .interconnects; accelerators = t .accelerators; ints = t .ints; accs = t .accs }
 
 abbrev pub unequal : ℕ → ℕ → Bus
 unequal x y =
     record { window = 16; ta = 3; da = x; dd = y; db = 7; pr = 40; pw = 29; td = 2; tb = 13; burst = 10 }
 
 abbrev pub unequalTree : ℕ → Tree
-unequalTree T = onBus (unequal 5 11) (timed T)
+unequalTree T = withBus (timed T) (unequal 5 11)
 
 abbrev acc : ℕ → PortCell
 acc a = record { port = Acc a }
@@ -141,13 +137,8 @@ wide =
 
 abbrev pub jobs : ℕ → ℕ → Tree
 jobs T U =
-    record {
-      bus = worked .bus;
-      interconnects = worked .interconnects;
-      accelerators = withJob 10 5 1000 T (block 0 0 4 2) ∷ withJob 1 0 0 U (block 0 3 4 2) ∷ replicate 30 noAccelerator;
-      ints = 1;
-      accs = 2;
-    }
+    withAccelerators worked 2
+    (withJob 10 5 1000 T (block 0 0 4 2) ∷ withJob 1 0 0 U (block 0 3 4 2) ∷ replicate 30 noAccelerator)
 
 abbrev pub broken : Tree
 broken = pair 0 16 4 4 8
@@ -157,7 +148,7 @@ padded n xs = xs ++ replicate (n - length xs) 0
 
 abbrev pub stateOf : List ℕ → List ℕ → List ℕ → List ℕ → ℕ → State
 stateOf w a l o n =
-    record { waiting = padded 32 w; admitted = padded 32 a; last = padded 15 l; allowance = padded 15 o; slot = n }
+    atSlot (withTurns (withCounts zeroState (padded 32 w) []) (padded 15 l) (padded 15 o)) (padded 32 a) n
 
 abbrev sharesFrom : Tree → ℕ → ℕ → List ℕ
 sharesFrom t a zero = []
@@ -168,14 +159,14 @@ clauses =
     -- "the sum over everything beneath it", not the smaller of a lower g: nested minima would give 2 for the first share
     numbers (shareOf nested 0 ∷ shareOf nested 1 ∷ []) (3 ∷ 2 ∷ [])
     -- capacity on four levels: 3 + 1 + 6 + 4 under port 1 of the root, 1 + 6 + 4, 6 + 4, and 4 beneath it
-    ∷ numbers (capacityOf four 0 1 ∷ capacityOf four 1 1 ∷ capacityOf four 2 1 ∷ capacityOf four 3 1 ∷ []) (14 ∷ 11 ∷ 10 ∷ 4 ∷ [])
+    ∷ numbers (capacityOf four (limitOf four) 0 1 ∷ capacityOf four (limitOf four) 1 1 ∷ capacityOf four (limitOf four) 2 1 ∷ capacityOf four (limitOf four) 3 1 ∷ []) (14 ∷ 11 ∷ 10 ∷ 4 ∷ [])
     -- shares on four levels: 15; 12 × 3; 5 × 4 × 3; 5 × 2 × 4 × 3; 6 × 2 × 4 × 3
     ∷ numbers
     (sharesFrom four 0 5)
     (15 ∷ 36 ∷ 60 ∷ 120 ∷ 144 ∷ [])
     -- capacities at the root of the branched tree: 5; 6 + 2 + 5 + 3 + 8 + 2; 2 + 1 + 3 + 4; 11
     ∷ numbers
-    (capacityOf branched 0 0 ∷ capacityOf branched 0 3 ∷ capacityOf branched 0 6 ∷ capacityOf branched 0 7 ∷ [])
+    (capacityOf branched (limitOf branched) 0 0 ∷ capacityOf branched (limitOf branched) 0 3 ∷ capacityOf branched (limitOf branched) 0 6 ∷ capacityOf branched (limitOf branched) 0 7 ∷ [])
     (5 ∷ 26 ∷ 10 ∷ 11 ∷ [])
     -- its shares: 34; 28; 10 × 27; 14 × 27; 12 × 9 × 27; 14 × 9 × 27; 3 × 9 × 9 × 27; 4 × 9 × 9 × 27
     ∷ numbers
@@ -187,7 +178,7 @@ clauses =
     (145 ∷ 261 ∷ 870 ∷ 696 ∷ [])
     -- at level 4: 71 + 143 × 47 for the read, 67 + 143 × 43 for the write
     ∷ bounded four 4
-    (given (record { level = 4; share = 144; reads = 143; writes = 143; response = 13008; period = 1; meets = false }))
+    (analysed (record { level = 4; share = 144; reads = 143; writes = 143; response = 13008; period = 1; meets = false }))
     -- delays that all differ, dD above dA, L 3: 3 + 15 + 40 + 33 + 20; 3 + 33 + 20 + 29 + 13 + 21; 3 + 40 + 20; 3 + 20 + 29 + 13
     ∷ numbers
     (aloneRead (unequal 5 11) 3 ∷ aloneWrite (unequal 5 11) 3 ∷ slotRead (unequal 5 11) ∷ slotWrite (unequal 5 11) ∷ [])
@@ -196,7 +187,7 @@ clauses =
     ∷ numbers (aloneRead (unequal 17 6) 3 ∷ aloneWrite (unequal 17 6) 3 ∷ []) (132 ∷ 137 ∷ [])
     -- a response with them, L 2, share 4: 1,000 + 10 × 95 + 30 × 63 + 5 × 101 + 15 × 65
     ∷ bounded (unequalTree 5320) 1
-    (given (record { level = 2; share = 4; reads = 30; writes = 15; response = 5320; period = 5320; meets = true }))
+    (analysed (record { level = 2; share = 4; reads = 30; writes = 15; response = 5320; period = 5320; meets = true }))
     -- a budget is refused in the last slot of a window, 3, and admitted in the first of the next, 4
     ∷ answers (pair 1 4 4 4 2)
     (times 2 (offer 0) ++ times 3 slot ++ offer 0 ∷ slot ∷ offer 0 ∷ slot ∷ [])
