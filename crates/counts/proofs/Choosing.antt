@@ -28,10 +28,11 @@ use Rattle.turns.proofs.Descent as Descent
 use Rattle.turns.proofs.Steps.{who-step, after-step}
 use Rattle.counts.specs.Table.{interconnects, empty, carriedNumber, granularities}
 use Rattle.counts.specs.Counts.{lasts, allowances, lives}
-use Rattle.counts.specs.Choice.{countAt, carriedAt, turnOn, turnAt, Choice, choice, takenOn, belowOn, chooseOn}
+use Rattle.counts.specs.Choice.{countAt, carriedAt, turnOn, turnAt, Choice, choice, lastWith, allowanceWith, belowOn, onwardOn, chooseOn}
 use Rattle.counts.proofs.Steps.{turn-last, turn-allowance, turn-lives}
 use Rattle.counts.proofs.Table.{TableOf}
 use Rattle.counts.proofs.Counted.{Counted}
+use Rattle.counts.proofs.Backward.{below-own, below-none, below-int, takenOn, backOn, back-step, same-back}
 
 -- the turn by the granularity g and the array r of last ports, allowances and live ports
 abbrev turnRead : (n u r : List ℕ) (j g : ℕ) → Turn
@@ -43,22 +44,6 @@ turn-parts n w u r j g h e =
     ap₂ (λ (i v : ℕ). turnOn n u j i v (getD r j 0) (getD r (15 + j) 0)) (e ∙ ap (min 255) (sym (getD-drop 120 w j 0))) (sym (getD-drop 30 r j 0))
     ∙ ap₂ (λ (l o : ℕ). turnOn n u j (min 255 (getD (granularities w) j 0)) (getD (lives r) j 0) l o)
     (sym (getD-take 15 r j 0 h)) (sym (getD-take 15 (drop 15 r) j 0 h ∙ getD-drop 15 r j 0))
-
--- a turn stored is taken
-turn-stored : (r r₀ : List ℕ) (j : ℕ) (x : Turn) (a : ℕ) → j < 15 → r ≡ set (set r₀ j (x .port)) (15 + j) (x .allowance - 1)
-    → choice a (lasts r) (allowances r) ≡ takenOn j x (choice a (lasts r₀) (allowances r₀))
-turn-stored r r₀ j x a h e = ap₂ (choice a) (ap lasts e ∙ turn-last r₀ _ _ _ h) (ap allowances e ∙ turn-allowance r₀ _ _ _ h)
-
--- what a port leads to
-module _ (f : ℕ → Choice) (x : ℕ) (l o : List ℕ) where
-  pub below-own : x < interconnects → choice x l o ≡ belowOn f x l o
-  below-own h = sym (picked _ _ _ (lt-ltb _ _ h))
-
-  pub below-none : empty ≤ x → choice 255 l o ≡ belowOn f x l o
-  below-none h = sym (passed _ _ _ (le-ltb x interconnects (omega arith)) ∙ passed _ _ _ (le-ltb _ _ h))
-
-  pub below-int : interconnects ≤ x → x < empty → f (x - interconnects) ≡ belowOn f x l o
-  below-int h k = sym (passed _ _ _ (le-ltb x interconnects h) ∙ picked _ _ _ (lt-ltb _ _ k))
 
 neither : (a b : Bool) → (a || b) ≡ false → (a ≡ false) × (b ≡ false)
 neither true b e = clash cc
@@ -73,49 +58,59 @@ within m j e =
 
 -- the steps of the choice on any arrays
 module _ (n w u v l o : List ℕ) where
-  -- the choice over one level less
-  abbrev pub lowerChoice : ℕ → ℕ → Choice
-  lowerChoice m k = chooseOn (m - 1) n w u v k l o
+  -- the choice over one level less, on the arrays as they are then
+  abbrev pub lowerChoice : ℕ → ℕ → (l o : List ℕ) → Choice
+  lowerChoice m k l₁ o₁ = chooseOn (m - 1) n w u v k l₁ o₁
 
   pub on-none : (m j : ℕ) → (eqb m 0 || ltb 14 j) ≡ true → choice 255 l o ≡ chooseOn m n w u v j l o
   unfolding chooseOn
   on-none zero j e = refl
   on-none (suc m) j e = sym (picked _ _ _ (sym (ap (λ (b : Bool). b || ltb 14 j) (ne-eqb (suc m) 0 (λ i. omega arith))) ∙ e))
 
-  -- a turn x of interconnect j, whose port carries y
-  onward : (m j : ℕ) → Turn → ℕ → Choice
-  onward m j x y = takenOn j x (belowOn (lowerChoice m) y l o)
-
   on-step : (m j : ℕ) → 0 < m → j < 15
-      → onward m j (turnAt n w u v l o j) (carriedAt w j (turnAt n w u v l o j .port)) ≡ chooseOn m n w u v j l o
-  unfolding chooseOn onward
+      → onwardOn (lowerChoice m) j (turnAt n w u v l o j) (carriedAt w j (turnAt n w u v l o j .port)) l o ≡ chooseOn m n w u v j l o
+  unfolding chooseOn
   on-step zero j d h = absurd (omega arith)
   on-step (suc m) j d h =
       let x = turnAt n w u v l o j in
       let e : suc m - 1 ≡ m = omega arith in
-      ap (λ (i : ℕ). takenOn j x (belowOn (λ k. chooseOn i n w u v k l o) (carriedAt w j (x .port)) l o)) e
-      ∙ sym (passed _ _ _ (le-ltb 14 j (omega arith)))
+      ap (λ (i : ℕ). onwardOn (chooseOn i n w u v) j x (carriedAt w j (x .port)) l o) e ∙ sym (passed _ _ _ (le-ltb 14 j (omega arith)))
 
   on-turn : (m j : ℕ) → 0 < m → j < 15 → (x : Turn) (y : ℕ) → x ≡ turnAt n w u v l o j → y ≡ carriedAt w j (x .port)
-      → (c : Choice) → c ≡ belowOn (lowerChoice m) y l o → takenOn j x c ≡ chooseOn m n w u v j l o
-  unfolding onward
-  on-turn m j d h x y e f c q =
-      ap (takenOn j x) q ∙ ap (onward m j x) f ∙ ap (λ (z : Turn). onward m j z (carriedAt w j (z .port))) e ∙ on-step m j d h
+      → onwardOn (lowerChoice m) j x y l o ≡ chooseOn m n w u v j l o
+  on-turn m j d h x y e f =
+      ap (λ (i : ℕ). onwardOn (lowerChoice m) j x i l o) f
+      ∙ ap (λ (z : Turn). onwardOn (lowerChoice m) j z (carriedAt w j (z .port)) l o) e ∙ on-step m j d h
 
--- the turn x of interconnect j is read from the array r, the choice goes on by what its port carries and leaves r₁, and the
--- turn is stored there
-pub on-stored : (n w u r : List ℕ) (m j g : ℕ) → (0 < m) × (j < 15) → g ≡ min 255 (getD w (120 + j) 0) → (x : Turn) (y : ℕ)
-    → x ≡ turnRead n u r j g → y ≡ carriedAt w j (x .port)
-    → (r₁ r₂ : List ℕ) (a : ℕ)
-    → choice a (lasts r₁) (allowances r₁)
-    ≡ belowOn (lowerChoice n w u (lives r) (lasts r) (allowances r) m) y (lasts r) (allowances r)
-    → lives r₁ ≡ lives r → r₂ ≡ set (set r₁ j (x .port)) (15 + j) (x .allowance - 1)
-    → (choice a (lasts r₂) (allowances r₂) ≡ chooseOn m n w u (lives r) j (lasts r) (allowances r)) × (lives r₂ ≡ lives r)
-on-stored n w u r m j g h i x y e f r₁ r₂ a q k s = (
-  turn-stored r₂ r₁ j x a (h .1) s
-      ∙ on-turn n w u (lives r) (lasts r) (allowances r) m j (h .0) (h .1) x y (e ∙ turn-parts n w u r j g (h .1) i) f _ q,
-  ap lives s ∙ turn-lives r₁ j _ _ (h .1) ∙ k,
-)
+-- the turn x of interconnect j is read from the array r and stored in r₁; the choice goes on there by what its port carries, y
+module _ (n w u r : List ℕ) (m j g : ℕ) (h : (0 < m) × (j < 15)) (i : g ≡ min 255 (getD w (120 + j) 0)) (x : Turn) (y : ℕ)
+    (e : x ≡ turnRead n u r j g) (f : y ≡ carriedAt w j (x .port)) (r₁ : List ℕ)
+    (s : r₁ ≡ set (set r j (x .port)) (15 + j) (x .allowance - 1)) where
+  pub stored-lives : lives r₁ ≡ lives r
+  stored-lives = ap lives s ∙ turn-lives r j _ _ (h .1)
+
+  stored-as : choice 0 (lasts r₁) (allowances r₁) ≡ choice 0 (lastWith j x (lasts r)) (allowanceWith j x (allowances r))
+  stored-as = ap₂ (choice 0) (ap lasts s ∙ turn-last r _ _ _ (h .1)) (ap allowances s ∙ turn-allowance r _ _ _ (h .1))
+
+  goes : (c : Choice)
+      → c ≡ belowOn (λ k. chooseOn (m - 1) n w u (lives r) k (lasts r₁) (allowances r₁)) y (lasts r₁) (allowances r₁)
+      → c ≡ chooseOn m n w u (lives r) j (lasts r) (allowances r)
+  goes c q =
+      q ∙ ap (λ (d : Choice). belowOn (λ k. chooseOn (m - 1) n w u (lives r) k (d .last) (d .allowance)) y (d .last) (d .allowance)) stored-as
+      ∙ on-turn n w u (lives r) (lasts r) (allowances r) m j (h .0) (h .1) x y (e ∙ turn-parts n w u r j g (h .1) i) f
+
+  pub stored-own : y < interconnects → choice y (lasts r₁) (allowances r₁) ≡ chooseOn m n w u (lives r) j (lasts r) (allowances r)
+  stored-own b = goes _ (below-own (λ k. chooseOn (m - 1) n w u (lives r) k (lasts r₁) (allowances r₁)) _ _ _ b)
+
+  pub stored-none : empty ≤ y → choice 255 (lasts r₁) (allowances r₁) ≡ chooseOn m n w u (lives r) j (lasts r) (allowances r)
+  stored-none b = goes _ (below-none (λ k. chooseOn (m - 1) n w u (lives r) k (lasts r₁) (allowances r₁)) _ _ _ b)
+
+  pub stored-int : interconnects ≤ y → y < empty → (c : Choice)
+      → c ≡ chooseOn (m - 1) n w u (lives r₁) (y - interconnects) (lasts r₁) (allowances r₁)
+      → c ≡ chooseOn m n w u (lives r) j (lasts r) (allowances r)
+  stored-int a b c q =
+      goes c (q ∙ ap (λ (v : List ℕ). chooseOn (m - 1) n w u v (y - interconnects) (lasts r₁) (allowances r₁)) stored-lives
+      ∙ below-int (λ k. chooseOn (m - 1) n w u (lives r) k (lasts r₁) (allowances r₁)) y (lasts r₁) (allowances r₁) a b)
 
 -- the arrays of a run at state s of configuration t, which keep their rules: the table n of next ports, the configuration's
 -- table w, what waits under each port u, the live ports v, the last ports l and the allowances o
@@ -243,16 +238,16 @@ module _ (t : Tree) (s : State) (n w u v l o : List ℕ) (M : Matches t s n w u 
 
   -- the choice on a run's arrays is the choice of the definition, from any interconnect with something waiting inside
   abbrev ChosenFrom : ℕ → ℕ → Type 0
-  ChosenFrom m j = j < t .ints → 0 < inside 4 t (waitingOf s) j → Chosen t s m j (chooseOn m n w u v j l o)
+  ChosenFrom m j = j < t .ints → 0 < inside 4 t (waitingOf s) j → Chosen t s m j (backOn m n w u v j l o)
 
   step : (m j : ℕ) → 0 < m → ((k : ℕ) → ChosenFrom (m - 1) k) → ChosenFrom m j
   step m j d F h k =
       let R = read j h k in
       let turn = turnAt n w u v l o j in
       let x = carriedAt w j (turn .port) in
-      let f = lowerChoice n w u v l o m in
-      let by : (c : Choice) → c ≡ belowOn f x l o → takenOn j turn c ≡ chooseOn m n w u v j l o =
-      on-turn n w u v l o m j d (lj j h k) turn x refl refl in
+      let f : ℕ → Choice = λ i. backOn (m - 1) n w u v i l o in
+      let by : (c : Choice) → c ≡ belowOn f x l o → takenOn j turn c ≡ backOn m n w u v j l o =
+      λ c q. ap (takenOn j turn) q ∙ back-step n w u v m j l o d (lj j h k) in
       elim (decLt x interconnects) [
         | yes b ↦
             let r = own (m - 1) t s (portOf t j (turnPort t s j)) (omega (arith, R .carried)) in
@@ -271,9 +266,12 @@ module _ (t : Tree) (s : State) (n w u v l o : List ℕ) (M : Matches t s n w u 
             (N .last ∙ ap (λ (y : State). y .last) down) (N .allowance ∙ ap (λ (y : State). y .allowance) down))
       ]
 
-  pub chooses : (m j : ℕ) → ChosenFrom m j
-  unfolding chooseOn who after
-  chooses zero j h k = record { served = refl; last = M .last; allowance = M .allowance }
-  chooses (suc m) j h k =
+  comes-back : (m j : ℕ) → ChosenFrom m j
+  unfolding backOn who after
+  comes-back zero j h k = record { served = refl; last = M .last; allowance = M .allowance }
+  comes-back (suc m) j h k =
       let e : suc m - 1 ≡ m = omega arith in
-      step (suc m) j (omega arith) (subst (λ (i : ℕ). (k : ℕ) → ChosenFrom i k) (sym e) (chooses m)) h k
+      step (suc m) j (omega arith) (subst (λ (i : ℕ). (k : ℕ) → ChosenFrom i k) (sym e) (comes-back m)) h k
+
+  pub chooses : (m j : ℕ) → j < t .ints → 0 < inside 4 t (waitingOf s) j → Chosen t s m j (chooseOn m n w u v j l o)
+  chooses m j h k = subst (Chosen t s m j) (sym (same-back t S n w u v (M .table) m j l o h)) (comes-back m j h k)

@@ -8,10 +8,12 @@
 -- turnAt n w u v l o j  the same, by the arrays of a run
 -- Choice                who is served, 255 for nobody, and the last ports and the allowances then; choice r l o: these three
 -- choiceIn a r          who is served is a, and the last ports and the allowances are those in the array r of turns
--- takenOn j x c         c with the turn x taken at interconnect j
+-- lastWith j x l        the last ports l with the turn x taken at interconnect j; allowanceWith j x o: the allowances o alike
 -- belowOn f x l o       what a port leads to that carries x: an accelerator, by f an interconnect; an empty one leads nowhere
--- chooseOn m n w u v j l o   the choice from interconnect j over at most m levels, on any arrays; chooseIn m n w u j r: the same,
---                       where the live ports v, the last ports l and the allowances o are those in the array r of turns
+-- onwardOn f j x y l o  the turn x is taken at interconnect j, and the choice goes on by f from what its port carries, y
+-- chooseOn m n w u v j l o   the choice from interconnect j over at most m levels, on any arrays: "One is taken off the
+--                       allowance, and the choice goes on downward"; chooseIn m n w u j r: the same, where the live ports v,
+--                       the last ports l and the allowances o are those in the array r of turns
 use Prim.Native.Nat.{ℕ, zero, suc, _+_, _*_, _-_, _%_, min}
 use mathlib.Core.List.{List}
 use lib.Dec.{ltb}
@@ -47,18 +49,24 @@ choice r l o = record { served = r; last = l; allowance = o }
 abbrev pub choiceIn : ℕ → List ℕ → Choice
 choiceIn a r = choice a (lasts r) (allowances r)
 
-abbrev pub takenOn : ℕ → Turn → Choice → Choice
-takenOn j x c = choice (c .served) (set (c .last) j (x .port)) (set (c .allowance) j (x .allowance - 1))
+abbrev pub lastWith : ℕ → Turn → List ℕ → List ℕ
+lastWith j x l = set l j (x .port)
+
+abbrev pub allowanceWith : ℕ → Turn → List ℕ → List ℕ
+allowanceWith j x o = set o j (x .allowance - 1)
 
 abbrev pub belowOn : (ℕ → Choice) → ℕ → (l o : List ℕ) → Choice
 belowOn f x l o = pick (ltb x interconnects) (choice x l o) (pick (ltb x empty) (f (x - interconnects)) (choice 255 l o))
+
+abbrev pub onwardOn : (ℕ → (l o : List ℕ) → Choice) → ℕ → Turn → ℕ → (l o : List ℕ) → Choice
+onwardOn f j x y l o =
+    belowOn (λ k. f k (lastWith j x l) (allowanceWith j x o)) y (lastWith j x l) (allowanceWith j x o)
 
 unfoldable pub chooseOn : ℕ → (n w u v : List ℕ) → ℕ → (l o : List ℕ) → Choice
 chooseOn zero n w u v j l o = choice 255 l o
 chooseOn (suc m) n w u v j l o =
     pick (ltb 14 j) (choice 255 l o)
-    (takenOn j (turnAt n w u v l o j)
-    (belowOn (λ k. chooseOn m n w u v k l o) (carriedAt w j (turnAt n w u v l o j .port)) l o))
+    (onwardOn (chooseOn m n w u v) j (turnAt n w u v l o j) (carriedAt w j (turnAt n w u v l o j .port)) l o)
 
 abbrev pub chooseIn : ℕ → (n w u : List ℕ) → ℕ → List ℕ → Choice
 chooseIn m n w u j r = chooseOn m n w u (lives r) j (lasts r) (allowances r)

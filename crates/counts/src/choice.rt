@@ -83,7 +83,7 @@ fn take_turn(turns: &mut [u8; 45], j: u8, port: u8, left: u8)
 }
 
 // The choice from interconnect j, over at most `levels` levels: the accelerator served, 255 for none, where an empty port
-// leads. The last ports and the allowances on the way down are brought up to date.
+// leads. The turn of each interconnect on the way down is taken there.
 pub fn choose(
     next: &[u8; 2048],
     table: &[u16; 246],
@@ -110,16 +110,13 @@ pub fn choose(
         turns[ALLOWANCE + i],
     );
     let carried = carried_at(table, j, turn.port);
+    take_turn(turns, j, turn.port, turn.allowance);
     if carried < INTERCONNECTS {
-        take_turn(turns, j, turn.port, turn.allowance);
         return carried as u8;
     }
     if EMPTY <= carried {
-        take_turn(turns, j, turn.port, turn.allowance);
         return 255;
     }
     let below = (carried - INTERCONNECTS) as u8;
-    let served = choose(next, table, under, levels - 1, below, turns);
-    take_turn(turns, j, turn.port, turn.allowance);
-    served
+    choose(next, table, under, levels - 1, below, turns)
 }
