@@ -1,15 +1,18 @@
 -- A slot's service apart from its tick: where nothing waits it leaves the state, else the chosen accelerator's oldest transaction
--- is served; either way by the cases of the machine's slot. And where a window opens: where the next slot begins one.
-use Prim.Native.Nat.{ℕ, _+_, _/_, _%_, _≤_, _<_}
-use mathlib.Core.Bool.{Bool, true, false, not, _&&_}
-use mathlib.Core.Path.{_≡_, refl, sym, _∙_, ap, ap₂}
+-- is served; either way by the cases of the machine's slot. And how many slots are left of a window, and where the next one opens.
+use Prim.Native.Nat.{ℕ, _+_, _-_, _/_, _%_, _≤_, _<_}
+use mathlib.Core.Bool.{Bool, true, false, not}
+use mathlib.Core.Logic.{_⊎_, inl, inr}
+use mathlib.Core.Path.{_≡_, refl, sym, _∙_, ap}
 use native.Mathlib.Decide.{ℕ-discrete}
+use native.Mathlib.Nat.{mod-lt, mod-eq-of-lt}
 use native.Mathlib.Omega.{arith}
 use lib.Dec.{eqb}
 use borrow.Author.Tests.{eq-eqb, ne-eqb}
 use Rattle.model.specs.declared.Tree.{Tree}
 use Rattle.model.specs.declared.State.{State}
 use Rattle.folds.specs.Fold.{pick}
+use Rattle.folds.proofs.Folds.{picked, passed}
 use Rattle.model.specs.Tree.{outstandingOf}
 use Rattle.rules.specs.Rules.{keeps}
 use Rattle.rules.proofs.Sound.{sound-of, kept-of}
@@ -20,9 +23,9 @@ use Rattle.machine.specs.Machine.{Answer, idle, served, outcome, noneWaits, cho
 use Rattle.machine.proofs.Cases.{some-waits}
 use Rattle.machine.proofs.Keeps.{take-waiting}
 use Rattle.machine.proofs.Steps.{idle-within, serves-within}
-use Rattle.machine.proofs.Windows.{window-opens}
+use Rattle.machine.proofs.Windows.{mod-last, mod-next, window-opens}
 use Rattle.runner.specs.Run.{byteOf}
-use Rattle.runner.specs.Arrays.{begins}
+use Rattle.runner.specs.Arrays.{opensOn, leftOn}
 
 -- the state once a slot has served, before the slot count rises, and its byte
 abbrev pub servedFrom : Tree → State → State
@@ -69,30 +72,36 @@ module _ (t : Tree) (s : State) (k : keeps t s ≡ true) where
   pub served-known : (byteFrom t s ≡ 255 → ⊥) → byteFrom t s < t .accs
   served-known = by-waiting (λ _ b _. (b ≡ 255 → ⊥) → b < t .accs) (λ _ d. absurd (d refl)) (λ e _. turn e .acc)
 
--- a slot that begins a window of w slots, or does not
-pub window-none : (w n : ℕ) → w ≡ 0 → begins w n ≡ false
-window-none w n e = ap (λ (c : Bool). not c && eqb (n % w) 0) (eq-eqb w 0 e)
+-- how many slots are left of the window of slot n, itself counted, in windows of w slots
+abbrev pub leftIn : ℕ → ℕ → ℕ
+leftIn w n = w - n % w
 
-pub window-begins : (w n : ℕ) → (w ≡ 0 → ⊥) → n % w ≡ 0 → begins w n ≡ true
-window-begins w n d e = ap₂ (λ (c b : Bool). not c && b) (ne-eqb w 0 d) (eq-eqb (n % w) 0 e)
+-- slot n is the last of its window, or another follows in it
+last-or-more : (w n : ℕ) → 1 ≤ w → (n % w + 1 ≡ w) ⊎ (n % w + 1 < w)
+last-or-more w n h = elim (ℕ-discrete (n % w + 1) w) [ yes e ↦ inl e | no d ↦ inr (omega (arith, mod-lt n h)) ]
 
-both-false : (c : Bool) → (c && false) ≡ false
-both-false true = refl
-both-false false = refl
+pub left-first : (w : ℕ) → 1 ≤ w → w ≡ leftIn w 0
+left-first w h = let z : 0 % w ≡ 0 = mod-eq-of-lt h in omega arith
 
-pub window-goes-on : (w n : ℕ) → (n % w ≡ 0 → ⊥) → begins w n ≡ false
-window-goes-on w n d = ap (λ (b : Bool). not (eqb w 0) && b) (ne-eqb (n % w) 0 d) ∙ both-false (not (eqb w 0))
-
--- a window opens where the next slot begins one
-pub window-same : (t : Tree) (n : ℕ) → 1 ≤ t .bus .window → begins (t .bus .window) (n + 1) ≡ opens t n
-window-same t n h = elim (ℕ-discrete ((n + 1) % (t .bus .window)) 0) [
-  | yes y ↦ window-begins (t .bus .window) (n + 1) (omega arith) y
-      ∙ sym (ap not (ne-eqb _ _ (window-opens (t .bus .window) n h .1 y)))
-  | no d ↦ window-goes-on (t .bus .window) (n + 1) d ∙ sym (ap not (eq-eqb _ _ (same d)))
-]
+-- one slot on
+pub left-next : (w n : ℕ) → 1 ≤ w → leftOn w (leftIn w n) ≡ leftIn w (n + 1)
+left-next w n h = go (last-or-more w n h)
   where
-    same : ((n + 1) % (t .bus .window) ≡ 0 → ⊥) → (n + 1) / (t .bus .window) ≡ n / (t .bus .window)
-    same d = elim (ℕ-discrete ((n + 1) / (t .bus .window)) (n / (t .bus .window))) [
+    go : (n % w + 1 ≡ w) ⊎ (n % w + 1 < w) → leftOn w (leftIn w n) ≡ leftIn w (n + 1)
+    go (inl e) = picked _ _ _ (eq-eqb (leftIn w n) 1 (omega arith)) ∙ omega (arith, mod-last w n h e)
+    go (inr l) = passed _ _ _ (ne-eqb (leftIn w n) 1 (omega arith)) ∙ omega (arith, mod-next w n h l)
+
+-- a window opens after its last slot
+pub left-opens : (w n : ℕ) → 1 ≤ w → opensOn (leftIn w n) ≡ not (eqb ((n + 1) / w) (n / w))
+left-opens w n h = go (last-or-more w n h)
+  where
+    same : n % w + 1 < w → (n + 1) / w ≡ n / w
+    same l = elim (ℕ-discrete ((n + 1) / w) (n / w)) [
       | yes q ↦ q
-      | no f ↦ absurd (d (window-opens (t .bus .window) n h .0 f))
+      | no f ↦ absurd (omega (arith, window-opens w n h .0 f, mod-next w n h l))
     ]
+
+    go : (n % w + 1 ≡ w) ⊎ (n % w + 1 < w) → opensOn (leftIn w n) ≡ not (eqb ((n + 1) / w) (n / w))
+    go (inl e) =
+        eq-eqb (leftIn w n) 1 (omega arith) ∙ sym (ap not (ne-eqb ((n + 1) / w) (n / w) (window-opens w n h .1 (mod-last w n h e))))
+    go (inr l) = ne-eqb (leftIn w n) 1 (omega arith) ∙ sym (ap not (eq-eqb ((n + 1) / w) (n / w) (same l)))

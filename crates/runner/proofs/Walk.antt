@@ -29,11 +29,11 @@ use Rattle.runner.specs.declared.SlotEnd.{SlotEnd}
 use Rattle.runner.specs.Offers.{heldOf, offering, offerEach}
 use Rattle.runner.specs.Run.{Run, heldWith, leftAfter, withDue, beforeSlot, byteOf, lastByte, next, noneHeld, isDone, start}
 use Rattle.runner.specs.Places.{leftAt, Accepts, Room, AtLine, NextOf}
-use Rattle.runner.specs.Arrays.{begins, serveOn, endOn, slotEndOn, afterOn, everyOn, withHeld, beforeOn}
+use Rattle.runner.specs.Arrays.{serveOn, opensOn, leftOn, endOn, slotEndOn, afterOn, everyOn, withHeld, beforeOn}
 use Rattle.runner.proofs.Held.{each-same, each-less}
 use Rattle.runner.proofs.Trace.{left-ends, not-due}
 use Rattle.runner.proofs.Settled.{Idles, Settled, settled-each, settled-served}
-use Rattle.runner.proofs.Service.{servedFrom, slotAnswer, served-frame, served-answer, served-outcome, served-others, served-known, window-same}
+use Rattle.runner.proofs.Service.{servedFrom, slotAnswer, served-frame, served-answer, served-outcome, served-others, served-known, leftIn, left-first, left-next, left-opens}
 use Rattle.runner.proofs.Stored.{Stored, StoredOffering, StoredSlot, live-none, before-offered, serves}
 
 -- from a later place on, a byte written, less of the buffer is left
@@ -74,12 +74,13 @@ pub record Walk (t : Tree) (s : List ℕ) (Q : Run → Type 0) (d : Arrays) (x :
   pub state : State
   pub shows : Shows t s state d x e
   pub slot : state .slot ≡ n
+  pub left : e .left ≡ leftIn (t .bus .window) n
   pub holds : Q (runOf s state d x)
 
 -- a run begins with nothing waiting, admitted or held, the first line next, as if a window had just opened
 pub walk-start : (t : Tree) (s l o v : List ℕ) (f : State) (Q : Run → Type 0) → treeKeeps t ≡ true → f ≡ freshState t → Accepts s 0
     → l ≡ f .last → o ≡ replicate 15 0 → v ≡ replicate 15 0 → Q (start t (leftAt s 0))
-    → Walk t s Q (arrays (replicate 32 0) (replicate 32 0) (replicate 32 0) (replicate 120 0) v l o) (record { at = 0; due = 0 }) (endOn 255 true) 0
+    → Walk t s Q (arrays (replicate 32 0) (replicate 32 0) (replicate 32 0) (replicate 120 0) v l o) (record { at = 0; due = 0 }) (endOn 255 true (t .bus .window)) 0
 walk-start t s l o v f Q k e A el eo ev q = record {
   state = freshState t;
   shows = record {
@@ -95,6 +96,7 @@ walk-start t s l o v f Q k e A el eo ev q = record {
     settled = λ z. clash cc;
   };
   slot = refl;
+  left = left-first (t .bus .window) (sound t k .window);
   holds = q;
 }
 
@@ -153,12 +155,15 @@ module _ (t : Tree) (s : List ℕ) (z : State) (d : Arrays) (x : NextLine) (e : 
     mid-slot : mid .slot ≡ n
     mid-slot = each-same (λ (y : State). y .slot) t (λ y a. offer-others t y a .slot) (t .accs) (withDue run) ∙ N
 
-    module _ (g : n < lastSlot) where
+    module _ (g : n < lastSlot) (L : e .left ≡ leftIn (t .bus .window) n) where
       abbrev window : Bool
-      window = begins (t .bus .window) (n + 1)
+      window = opensOn (e .left)
+
+      abbrev left : ℕ
+      left = leftOn (t .bus .window) (e .left)
 
       abbrev after : Arrays
-      after = afterOn k w (t .bus .window) n before
+      after = afterOn k w (e .left) before
 
       abbrev byte : ℕ
       byte = serveOn k w before .byte
@@ -173,7 +178,7 @@ module _ (t : Tree) (s : List ℕ) (z : State) (d : Arrays) (x : NextLine) (e : 
       same-slot = served-frame t mid mid-rules .1 ∙ mid-slot
 
       opened : window ≡ opens t (service .slot)
-      opened = window-same t n (sound-of t mid mid-rules .window) ∙ ap (opens t) (sym same-slot)
+      opened = ap opensOn L ∙ left-opens (t .bus .window) n (sound-of t mid mid-rules .window) ∙ ap (opens t) (sym same-slot)
 
       -- the slot of the definition
       slotted-as : outcome (slotAnswer t mid mid-rules) (tick t service) ≡ slotted t mid
@@ -236,7 +241,7 @@ module _ (t : Tree) (s : List ℕ) (z : State) (d : Arrays) (x : NextLine) (e : 
           )
 
       -- the run one slot on, its byte, and what holds of its arrays
-      shows-next : Shows t s (next t run .state) after x₁ (endOn byte window)
+      shows-next : Shows t s (next t run .state) after x₁ (endOn byte window left)
       unfolding next
       shows-next = record {
         stored = after-stored;
@@ -257,8 +262,14 @@ module _ (t : Tree) (s : List ℕ) (z : State) (d : Arrays) (x : NextLine) (e : 
       unfolding next
       slot-next = ap (λ (y : State). y .slot) (sym then-is) ∙ ticked-slot
 
-      walked : (P : Run → Type 0) → (byte ≡ lastByte t run → P (next t run)) → Walk t s P after x₁ (endOn byte window) (n + 1)
-      walked P f = record { state = next t run .state; shows = shows-next; slot = slot-next; holds = subst P (sym run-next) (f byte-next) }
+      walked : (P : Run → Type 0) → (byte ≡ lastByte t run → P (next t run)) → Walk t s P after x₁ (endOn byte window left) (n + 1)
+      walked P f = record {
+        state = next t run .state;
+        shows = shows-next;
+        slot = slot-next;
+        left = ap (leftOn (t .bus .window)) L ∙ left-next (t .bus .window) n (sound t (F .rules) .window);
+        holds = subst P (sym run-next) (f byte-next);
+      }
 
 -- the test before each slot, and one slot, for any loop over a run
 module _ (t : Tree) (w k s : List ℕ) (F : Fixed t w k) (Q : Run → Type 0) (d : Arrays) (x : NextLine) (e : SlotEnd) (n : ℕ)
@@ -270,10 +281,10 @@ module _ (t : Tree) (w k s : List ℕ) (F : Fixed t w k) (Q : Run → Type 0) (d
   walk-done = shows-done t s (G .state) d x e (G .shows)
 
   pub walk-next : (x₁ : NextLine) → NextOf n s (d .held) (x .at) x₁ → (d₁ : Arrays) → d₁ ≡ beforeOn s n x e (t .accs) w d
-      → (e₂ : SlotEnd) → e₂ ≡ slotEndOn k w (t .bus .window) n d₁
-      → (d₂ : Arrays) → d₂ ≡ afterOn k w (t .bus .window) n d₁
+      → (p : ℕ) → p ≡ t .bus .window → (e₂ : SlotEnd) → e₂ ≡ slotEndOn k w p (e .left) d₁
+      → (d₂ : Arrays) → d₂ ≡ afterOn k w (e .left) d₁
       → n < lastSlot → (P : Run → Type 0) → (e₂ .served ≡ lastByte t here → P (next t here)) → Walk t s P d₂ x₁ e₂ (n + 1)
-  walk-next x₁ T d₁ E e₂ q d₂ E₂ g P f =
-      let end = q ∙ ap (slotEndOn k w (t .bus .window) n) E in
-      subst₂ (λ (y : Arrays) (i : SlotEnd). Walk t s P y x₁ i (n + 1)) (sym (E₂ ∙ ap (afterOn k w (t .bus .window) n) E)) (sym end)
-      (walked t s (G .state) d x e (G .shows) w k F n (G .slot) x₁ T g P (λ b. f (ap (λ (i : SlotEnd). i .served) end ∙ b)))
+  walk-next x₁ T d₁ E p h e₂ q d₂ E₂ g P f =
+      let end = q ∙ ap₂ (λ (i : ℕ) (y : Arrays). slotEndOn k w i (e .left) y) h E in
+      subst₂ (λ (y : Arrays) (i : SlotEnd). Walk t s P y x₁ i (n + 1)) (sym (E₂ ∙ ap (afterOn k w (e .left)) E)) (sym end)
+      (walked t s (G .state) d x e (G .shows) w k F n (G .slot) x₁ T g (G .left) P (λ b. f (ap (λ (i : SlotEnd). i .served) end ∙ b)))

@@ -43,10 +43,11 @@ pub struct NextLine {
     pub due: u32,
 }
 
-// How a slot ends: its byte, and whether a window opens then.
+// How a slot ends: its byte, whether a window opens then, and how many slots of the window are left from there on.
 pub struct SlotEnd {
     pub served: u8,
     pub opened: bool,
+    pub left: u32,
 }
 
 // How a run that used so many slots ended.
@@ -73,9 +74,11 @@ fn run_slots(t: Tree, fresh: State, trace: &[u8], out: &mut [u8]) -> RunAnswer
     let mut under = [0u16; 120];
     let mut turns = turns_of(last);
     let mut line = NextLine { at: 0, due: 0 };
+    let window = t.bus.window as u32;
     let mut past = SlotEnd {
         served: IDLE,
         opened: true,
+        left: window,
     };
     let mut used: usize = 0;
     while used < out.len() && !is_done(trace, line.at, &blocks, &turns) {
@@ -93,8 +96,8 @@ fn run_slots(t: Tree, fresh: State, trace: &[u8], out: &mut [u8]) -> RunAnswer
         past = after_slot(
             &next,
             &table,
-            t.bus.window as u32,
-            used as u32,
+            window,
+            past.left,
             &mut blocks,
             &mut under,
             &mut turns,

@@ -22,7 +22,7 @@ ghost use Rattle.admit.specs.Admitting.{waitings, admitteds, helds, arraysOf};
 ghost use Rattle.folds.specs.Fold.{pick};
 ghost use Rattle.runner.specs.Run.{noneHeld, heldWith};
 ghost use Rattle.runner.specs.Places.{leftAt, AtLine, NextOf};
-ghost use Rattle.runner.specs.Arrays.{begins, slotOn, serveOn, slotEndOn, afterOn, beforeOn};
+ghost use Rattle.runner.specs.Arrays.{slotOn, serveOn, leftOn, slotEndOn, afterOn, beforeOn};
 
 // Adds the lines due in this slot to the held counts.
 fn take_due(trace: &[u8], slot: u32, line: NextLine, blocks: &mut [u32; 96]) -> NextLine
@@ -113,21 +113,25 @@ fn without_admitted(b: [u32; 96]) -> [u32; 96]
     r
 }
 
-// Where slot n begins a window the admitted counts return to 0. Answers whether it does.
-fn open_window(window: u32, n: u32, blocks: &mut [u32; 96]) -> bool
-    ensures opens { λ r. ⌜ r ≡ begins window n ⌝ }
-    ensures waiting { λ r. ⌜ waitings (now (blocks .exit)) ≡ waitings (now (blocks .entry)) ⌝ }
-    ensures admitted { λ r. ⌜ admitteds (now (blocks .exit)) ≡ pick (begins window n) (replicate 32 0) (admitteds (now (blocks .entry))) ⌝ }
-    ensures held { λ r. ⌜ helds (now (blocks .exit)) ≡ helds (now (blocks .entry)) ⌝ }
+// Where a window opens the admitted counts return to 0.
+fn open_window(opens: bool, blocks: &mut [u32; 96])
+    ensures waiting { λ _. ⌜ waitings (now (blocks .exit)) ≡ waitings (now (blocks .entry)) ⌝ }
+    ensures admitted { λ _. ⌜ admitteds (now (blocks .exit)) ≡ pick opens (replicate 32 0) (admitteds (now (blocks .entry))) ⌝ }
+    ensures held { λ _. ⌜ helds (now (blocks .exit)) ≡ helds (now (blocks .entry)) ⌝ }
 {
-    if window == 0 {
-        return false;
-    }
-    if n % window == 0 {
+    if opens {
         *blocks = without_admitted(*blocks);
-        return true;
     }
-    false
+}
+
+// How many slots of the window are left after one of these: a whole window where it was the last.
+fn left_after(window: u32, left: u32) -> u32
+    ensures { λ r. ⌜ r ≡ leftOn window left ⌝ }
+{
+    if left == 1 {
+        return window;
+    }
+    less_one(left)
 }
 
 // What comes before a slot: the lines due are held, and the accelerators offer. After a slot that served, opened no window and
@@ -154,26 +158,28 @@ pub fn before_slot(
     next
 }
 
-// One slot is run once the offers are made: the service, and the end of a window.
+// One slot is run once the offers are made: the service, and the end of a window of which so many slots are left, this one
+// counted.
 pub fn after_slot(
     next: &[u8; 2048],
     table: &[u16; 246],
     window: u32,
-    slot: u32,
+    left: u32,
     blocks: &mut [u32; 96],
     under: &mut [u16; 120],
     turns: &mut [u8; 45],
 ) -> SlotEnd
-    requires { ⌜ slot < 4294967295 ⌝ }
-    ensures end { λ r. ⌜ r ≡ slotEndOn (now (next .entry)) (now (table .entry)) window slot (arraysOf (now (blocks .entry)) (now (under .entry)) (now (turns .entry))) ⌝ }
+    ensures end { λ r. ⌜ r ≡ slotEndOn (now (next .entry)) (now (table .entry)) window left (arraysOf (now (blocks .entry)) (now (under .entry)) (now (turns .entry))) ⌝ }
     ensures arrays { λ r. ⌜ arraysOf (now (blocks .exit)) (now (under .exit)) (now (turns .exit))
-        ≡ afterOn (now (next .entry)) (now (table .entry)) window slot (arraysOf (now (blocks .entry)) (now (under .entry)) (now (turns .entry))) ⌝ }
+        ≡ afterOn (now (next .entry)) (now (table .entry)) left (arraysOf (now (blocks .entry)) (now (under .entry)) (now (turns .entry))) ⌝ }
 {
     let served = serve(next, table, blocks, under, turns);
-    let opened = open_window(window, slot + 1, blocks);
+    let opened = left == 1;
+    open_window(opened, blocks);
     SlotEnd {
         served: served,
         opened: opened,
+        left: left_after(window, left),
     }
 }
 

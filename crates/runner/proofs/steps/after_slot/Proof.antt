@@ -1,21 +1,22 @@
 -- `after_slot` meets its contract: the service, and then the window, on what it leaves.
 use mathlib.Core.Path.{_∙_, ap, ap₂}
-use Prim.Native.Nat.{_+_}
+use Prim.Native.Nat.{ℕ}
 use borrow.Author.Needs.{needs}
-use Rattle.runner.specs.Arrays.{begins, Slot, endOn, openOn}
+use Rattle.runner.specs.Arrays.{opensOn, Slot, endOn, openOn}
 use Rattle.runner.proofs.Parts.{opened-arrays}
 use Rattle.runner.proofs.steps.after_slot.Statement.{statement}
 use Rattle.runner.proofs.steps.after_slot.Tie as tie
 
 returns : tie.Need-returns
 returns c =
-    let x = c .before .before .before .before .before .before .args in
-    let q = c .before .before .serve in
-    let w = c .open-window .ensures in (
-      ap₂ endOn (ap (λ (y : Slot). y .byte) (q .ensures)) (w .0),
-      opened-arrays (q .last .1 .1 .0) (c .open-window .last .1 .1 .0) (q .last .1 .1 .1 .0) (q .last .1 .1 .1 .1 .0) (begins (x .window) (x .slot + 1)) (w .1 .0) (w .1 .1 .0) (w .1 .1 .1)
-          ∙ ap (λ (y : Slot). openOn (begins (x .window) (x .slot + 1)) (y .arrays)) (q .ensures),
+    let x = c .before .before .before .before .before .before .before .args in
+    let q = c .before .before .before .serve in
+    let o = c .before .open-window in
+    let w = o .ensures in (
+      ap₂ (λ (b m : ℕ). endOn b (opensOn (x .left)) m) (ap (λ (y : Slot). y .byte) (q .ensures)) (c .left-after .ensures),
+      opened-arrays (q .last .1 .1 .0) (o .last .1 .0) (q .last .1 .1 .1 .0) (q .last .1 .1 .1 .1 .0) (opensOn (x .left)) (w .0) (w .1 .0) (w .1 .1)
+          ∙ ap (λ (y : Slot). openOn (opensOn (x .left)) (y .arrays)) (q .ensures),
     )
 
 pub after-slot-spec : {M : Type 1} → statement M
-after-slot-spec = tie.close (tie.spec (λ c κs. search needs) (λ c. search needs) (λ c κs. search needs) returns)
+after-slot-spec = tie.close (tie.spec (λ c κs. search needs) (λ c κs. search needs) (λ c κs. search needs) returns)
