@@ -14,8 +14,8 @@
 -- verdictOf t s a      what the offer of one transaction answers once configuration and state have passed: 7, 8, 9, or
 --                      admitted
 -- onAdmitted v x y     x where the answer v is admitted, else y
--- offeredWithin t s a  that answer, with the state that an admission changes ("The first that holds refuses, and nothing
---                      changes")
+-- offeredWithin t s a  that answer, and the state: "An offer admits one transaction unless refused above", and a refusal
+--                      leaves the state as it was
 -- offered t s a        the offer of one transaction: 11, 7, 8, 9 in this order, or admitted
 -- noneWaits s          nothing waits
 -- opens t n            slot n + 1 is in another window than slot n
