@@ -10,28 +10,31 @@ use native.Mathlib.Omega.{arith}
 use lib.Dec.{ltb, lit<, lit≤}
 use lib.ListN.{length, length-append}
 use borrow.Author.Tests.{lt-ltb, ne-eqb}
-use Rattle.text.specs.Write.{fieldsText, lineText, fileText}
-use Rattle.text.proofs.Written.{Clean, clean-none, clean-more, clean-append, AllClean, all-none, all-more, lines-read, number-length}
+use Rattle.text.specs.Write.{fieldsText, lineText, fileText, numbers, rows}
+use Rattle.text.proofs.Written.{Clean, clean-append, fields-clean, AllClean, all-none, all-more, lines-read, number-length}
 use Rattle.model.specs.declared.Tree.{Tree}
+use Rattle.model.specs.declared.Bus.{Bus}
 use Rattle.model.specs.Tree.{granularityOf, parentOf, parentPortOf, acceleratorOf, limitOf}
 use Rattle.rules.specs.Rules.{busKeeps, treeKeeps}
 use Rattle.folds.proofs.Folds.{picked, passed, tests, joined, at-all}
 use Rattle.rules.proofs.Sound.{Sound, sound}
 use Rattle.placing.specs.declared.TreeRead.{TreeRead}
+use Rattle.lines.specs.declared.Kind.the-variants.{BusLine, IntLine, AccLine}
 use Rattle.lines.specs.Lines.{lineOf}
 use Rattle.model.specs.Builders.{withBus}
 use Rattle.records.specs.Records.{emptyTree, withAcc}
 use Rattle.placing.specs.Placing.{given, complete, finish, treeLine}
 use Rattle.reader.specs.TreeFile.{onward, readLines, readTree}
-use Rattle.accepts.specs.TreeText.{numbers, busValues, accValues, busText, intText, accText, rows, treeLines, treeText}
+use Rattle.accepts.specs.TreeText.{busValues, accValues, busText, intText, accText, treeLines, treeText}
 use mathlib.Core.Logic.{_↔_}
 use Rattle.reader.proofs.Files.{tree-start}
 use Rattle.accepts.proofs.Kept.{accepted-keeps}
-use Rattle.accepts.proofs.Written.{accEntry, Below, below-none, below-more, numbers-clean, root-clean, clean3, bus-read, acc-read, root-read, child-read}
+use Rattle.lines.proofs.Written.{name-clean, Below, below-none, below-more, numbers-clean}
+use Rattle.accepts.proofs.Written.{accEntry, root-clean, bus-read, acc-read, root-read, child-read}
 use Rattle.accepts.proofs.Stage.{Agrees, bus-limits, acc-ranges, bus-step, agrees-bus, root-step, agrees-root, child-step, agrees-child, acc-step, agrees-acc, agrees-all}
 
 -- one accepted line
-line-given : (n : ℕ) (u w : Tree) (l : List ℕ) (ls : List (List ℕ)) (r : List ℕ) → treeLine n u (lineOf l) ≡ given w → readLines n u (l ∷ ls) r ≡ readLines (n + 1) w ls r
+pub line-given : (n : ℕ) (u w : Tree) (l : List ℕ) (ls : List (List ℕ)) (r : List ℕ) → treeLine n u (lineOf l) ≡ given w → readLines n u (l ∷ ls) r ≡ readLines (n + 1) w ls r
 unfolding readLines
 line-given n u w l ls r e = ap (λ (x : TreeRead). onward (x .answer) x (readLines (n + 1) (x .tree) ls r)) e
 
@@ -49,11 +52,6 @@ file-length : {ls : List (List ℕ)} → Short 113 ls → length (fileText ls) �
 unfolding fileText
 file-length short-none = omega arith
 file-length (short-more {l = l} {ls = ls} h S) = omega (arith, length-append l (10 ∷ fileText ls), file-length S)
-
-fields-clean : {fs : List (List ℕ)} → AllClean 10 fs → Clean 10 (fieldsText fs)
-unfolding fieldsText
-fields-clean all-none = clean-none
-fields-clean (all-more C A) = clean-more {b = 9} (omega arith) (clean-append C (fields-clean A))
 
 numbers-short : {xs : List ℕ} → Below xs → Short 10 (numbers xs)
 unfolding numbers
@@ -90,15 +88,18 @@ both-short : {n : ℕ} {ls ms : List (List ℕ)} → Short n ls → Short n ms �
 both-short short-none B = B
 both-short (short-more h A) B = short-more h (both-short A B)
 
+pub bus-fields : (b : Bus) → busKeeps b ≡ true → Below (busValues b)
+unfolding busKeeps
+bus-fields b e =
+    let h = simp tests at e in
+    below-more {x = b .window} (omega arith) (below-more {x = b .ta} (omega arith) (below-more {x = b .da} (omega arith) (below-more {x = b .dd} (omega arith) (below-more {x = b .db} (omega arith) (below-more {x = b .pr} (omega arith) (below-more {x = b .pw} (omega arith) (below-more {x = b .td} (omega arith) (below-more {x = b .tb} (omega arith) (below-more {x = b .burst} (omega arith) (below-none))))))))))
+
 module _ (t : Tree) (e : treeKeeps t ≡ true) where
   S : Sound t
   S = sound t e
 
   bus-below : Below (busValues (t .bus))
-  unfolding busKeeps
-  bus-below =
-      let h = simp tests at (bus-limits t e) in
-      below-more {x = t .bus .window} (omega arith) (below-more {x = t .bus .ta} (omega arith) (below-more {x = t .bus .da} (omega arith) (below-more {x = t .bus .dd} (omega arith) (below-more {x = t .bus .db} (omega arith) (below-more {x = t .bus .pr} (omega arith) (below-more {x = t .bus .pw} (omega arith) (below-more {x = t .bus .td} (omega arith) (below-more {x = t .bus .tb} (omega arith) (below-more {x = t .bus .burst} (omega arith) (below-none))))))))))
+  bus-below = bus-fields (t .bus) (bus-limits t e)
 
   child-below : (j : ℕ) → 0 < j → j < t .ints → Below (j ∷ parentOf t j ∷ parentPortOf t j ∷ granularityOf t j ∷ [])
   child-below j z h =
@@ -124,18 +125,18 @@ module _ (t : Tree) (e : treeKeeps t ≡ true) where
 
   -- no line has an LF inside, and each is short
   bus-fit : Fit (busText t)
-  bus-fit = fit-line _ _ (clean3 98 117 115 10 (omega arith) (omega arith) (omega arith)) (lit≤ tt) (numbers-clean 10 (lit< tt) _) (numbers-short bus-below) (omega (arith, numbers-count (busValues (t .bus))))
+  bus-fit = fit-line _ _ (name-clean 10 (lit< tt) BusLine) (lit≤ tt) (numbers-clean 10 (lit< tt) _) (numbers-short bus-below) (omega (arith, numbers-count (busValues (t .bus))))
 
   acc-fit : (a : ℕ) → a < t .accs → Fit (accText t a)
-  acc-fit a h = fit-line _ _ (clean3 97 99 99 10 (omega arith) (omega arith) (omega arith)) (lit≤ tt) (numbers-clean 10 (lit< tt) _) (numbers-short (acc-below a h)) (omega (arith, numbers-count (accValues a (acceleratorOf t a))))
+  acc-fit a h = fit-line _ _ (name-clean 10 (lit< tt) AccLine) (lit≤ tt) (numbers-clean 10 (lit< tt) _) (numbers-short (acc-below a h)) (omega (arith, numbers-count (accValues a (acceleratorOf t a))))
 
   int-fit : (j : ℕ) → j < t .ints → Fit (intText t j)
   int-fit j h = elim (ℕ-discrete j 0) [
     | yes q ↦ subst (λ i. Fit (intText t i)) (sym q)
-        (fit-line _ _ (clean3 105 110 116 10 (omega arith) (omega arith) (omega arith)) (lit≤ tt) (root-clean 10 (lit< tt) t)
+        (fit-line _ _ (name-clean 10 (lit< tt) IntLine) (lit≤ tt) (root-clean 10 (lit< tt) t)
         (short-more (number-length 0 (lit< tt)) (short-more (lit≤ tt) (short-more (lit≤ tt) (short-more (number-length (granularityOf t 0) root-below) short-none)))) (lit≤ tt))
-    | no d ↦ subst (λ fs. Fit (lineText (105 ∷ 110 ∷ 116 ∷ []) fs)) (sym (passed _ _ _ (ne-eqb j 0 d)))
-        (fit-line _ _ (clean3 105 110 116 10 (omega arith) (omega arith) (omega arith)) (lit≤ tt) (numbers-clean 10 (lit< tt) _) (numbers-short (child-below j (omega arith) h)) (omega (arith, numbers-count (j ∷ parentOf t j ∷ parentPortOf t j ∷ granularityOf t j ∷ []))))
+    | no d ↦ subst Fit (sym (passed _ _ _ (ne-eqb j 0 d)))
+        (fit-line _ _ (name-clean 10 (lit< tt) IntLine) (lit≤ tt) (numbers-clean 10 (lit< tt) _) (numbers-short (child-below j (omega arith) h)) (omega (arith, numbers-count (j ∷ parentOf t j ∷ parentPortOf t j ∷ granularityOf t j ∷ []))))
   ]
 
   -- the int lines, one after the other
@@ -185,6 +186,12 @@ module _ (t : Tree) (e : treeKeeps t ≡ true) where
       let R = accs-read (t .accs) 0 (I .line) (I .tree) (omega arith) (I .agrees) in
       a ∙ I .left ∙ R .left ∙ ap (λ (u : Tree). readLines (R .line) u [] []) (agrees-all t e (R .tree) (R .agrees)) ∙ end-read (R .line)
 
+  pub text-clean : AllClean 10 (treeLines t)
+  text-clean =
+      let I = rows-clean (t .ints) 0 (intText t) (λ j l. int-fit j (omega arith)) in
+      let A = rows-clean (t .accs) 0 (accText t) (λ a l. acc-fit a (omega arith)) in
+      all-more (bus-fit .clean) (both-clean (I .0) (A .0))
+
   -- every configuration that keeps its rules is read from its text
   pub text-given : readTree (treeText t) ≡ given t
   text-given =
@@ -192,7 +199,7 @@ module _ (t : Tree) (e : treeKeeps t ≡ true) where
       let A = rows-clean (t .accs) 0 (accText t) (λ a l. acc-fit a (omega arith)) in
       let n : length (rows (t .ints) 0 (intText t) ++ rows (t .accs) 0 (accText t)) ≡ t .ints + t .accs = length-append (rows (t .ints) 0 (intText t)) (rows (t .accs) 0 (accText t)) ∙ omega (arith, I .2, A .2) in
       let f : length (treeText t) ≤ 114 * suc (length (rows (t .ints) 0 (intText t) ++ rows (t .accs) 0 (accText t))) = file-length (short-more (bus-fit .short) (both-short (I .1) (A .1))) in
-      let r = lines-read (all-more (bus-fit .clean) (both-clean (I .0) (A .0))) in
+      let r = lines-read text-clean in
       let b : length (treeText t) ≤ 65536 = omega (arith, f, n, S .most-ints, S .most-accs) in
       tree-start (treeText t) b
       ∙ ap₂ (readLines 1 emptyTree) (r .0) (r .1)

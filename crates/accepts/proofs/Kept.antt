@@ -582,16 +582,16 @@ is-empty (Int j) e = clash cc
 
 -- what an int line in order says
 module _ (t : Tree) (l : Line) (e : intInOrder t l ≡ true) where
-  order-start : (ltb 0 (t .bus .window) && eqb (t .accs) 0 && eqb (valueAt l 0) (t .ints) ≡ true) × (rootRule l ≡ true)
+  pub order-start : (ltb 0 (t .bus .window) && eqb (t .accs) 0 && eqb (valueAt l 0) (t .ints) ≡ true) × (rootRule l ≡ true)
   order-start = both _ (rootRule l) e
 
-  order-accs : t .accs ≡ 0
+  pub order-accs : t .accs ≡ 0
   order-accs = eqb-true _ _ (both (ltb 0 (t .bus .window)) _ (both (ltb 0 (t .bus .window) && eqb (t .accs) 0) _ (order-start .0) .0) .1)
 
-  order-number : valueAt l 0 ≡ t .ints
+  pub order-number : valueAt l 0 ≡ t .ints
   order-number = eqb-true _ _ (both (ltb 0 (t .bus .window) && eqb (t .accs) 0) _ (order-start .0) .1)
 
-  order-parent : (valueAt l 0 ≡ 0 → ⊥) → valueAt l 1 < valueAt l 0
+  pub order-parent : (valueAt l 0 ≡ 0 → ⊥) → valueAt l 1 < valueAt l 0
   order-parent d = ltb-true _ _ (both (not (dashAt l 1) && not (dashAt l 2)) (ltb (valueAt l 1) (valueAt l 0)) (sym (passed _ _ _ (ne-eqb _ _ d)) ∙ order-start .1) .1)
 
 fine-bus : (n : ℕ) (t : Tree) (v : List ℕ) → Partial t → limitsKept BusLine v ≡ true → Fine (busLine n t v)

@@ -40,19 +40,19 @@ use Rattle.placing.proofs.Tests.{acc-given, line-record}
 use Rattle.accepts.proofs.Kept.{Partial, fine-line, acc-new, acc-old, acc-at, stored-apart, home-size, is-empty, not-acc, never-refused, never-broken, partial-empty}
 
 -- a test whose failure is a refusal has passed where the answer is accepted
-passed-test : (c : Bool) (x : Refusal) (n : ℕ) (y : TreeRead) → pick c (refusedAt x n) y .answer ≡ Accepted → (c ≡ false) × (y .answer ≡ Accepted)
+pub passed-test : (c : Bool) (x : Refusal) (n : ℕ) (y : TreeRead) → pick c (refusedAt x n) y .answer ≡ Accepted → (c ≡ false) × (y .answer ≡ Accepted)
 passed-test true x n y e = never-refused _ x n e
 passed-test false x n y e = (refl, e)
 
 -- what an accepted acc line says
-record Placed (t : Tree) (l : Line) : Type 0 where
-  form : inTree (l .kind) && shaped l ≡ true
-  limits : limitsKept AccLine (l .values) ≡ true
-  known : getD (l .values) 1 0 < t .ints
-  once : limitOf t (getD (l .values) 0 0) ≡ 0
-  free : portOf t (getD (l .values) 1 0) (getD (l .values) 2 0) ≡ Empty
+pub record Placed (t : Tree) (l : Line) : Type 0 where
+  pub form : inTree (l .kind) && shaped l ≡ true
+  pub limits : limitsKept AccLine (l .values) ≡ true
+  pub known : getD (l .values) 1 0 < t .ints
+  pub once : limitOf t (getD (l .values) 0 0) ≡ 0
+  pub free : portOf t (getD (l .values) 1 0) (getD (l .values) 2 0) ≡ Empty
 
-placed : (n : ℕ) (t : Tree) (l : Line) → l .kind ≡ AccLine → treeLine n t l .answer ≡ Accepted → Placed t l
+pub placed : (n : ℕ) (t : Tree) (l : Line) → l .kind ≡ AccLine → treeLine n t l .answer ≡ Accepted → Placed t l
 unfolding treeLine accLine
 placed n t l k e =
     let a = passed-test (not (inTree (l .kind) && shaped l)) Shape n _ e in
@@ -71,7 +71,7 @@ placed n t l k e =
     }
 
 -- and the other way
-placing : (n : ℕ) (t : Tree) (l : Line) → l .kind ≡ AccLine → Placed t l → treeLine n t l ≡ given (withAcc t (l .values))
+pub placing : (n : ℕ) (t : Tree) (l : Line) → l .kind ≡ AccLine → Placed t l → treeLine n t l ≡ given (withAcc t (l .values))
 placing n t l k P =
     line-record n t l AccLine k (P .form) (subst (λ (x : Kind). limitsKept x (l .values) ≡ true) (sym k) (P .limits))
     ∙ acc-given n t (l .values) (P .known) (omega (arith, P .once)) (ap isEmpty (P .free))
@@ -170,7 +170,7 @@ pub data Reordered : List (List ℕ) → List (List ℕ) → Type 0 where
   also : {ls ms ns : List (List ℕ)} → Reordered ls ms → Reordered ms ns → Reordered ls ns
 
 -- a file goes on after a line exactly if the line is accepted
-went-on : (r next : TreeRead) → onward (r .answer) r next .answer ≡ Accepted → (r .answer ≡ Accepted) × (next .answer ≡ Accepted)
+pub went-on : (r next : TreeRead) → onward (r .answer) r next .answer ≡ Accepted → (r .answer ≡ Accepted) × (next .answer ≡ Accepted)
 went-on r next e = go (r .answer) refl
   where
     go : (k : FileAnswer) → r .answer ≡ k → (r .answer ≡ Accepted) × (next .answer ≡ Accepted)
@@ -178,7 +178,7 @@ went-on r next e = go (r .answer) refl
     go (Refused x n) f = never-refused _ x n (sym f ∙ sym (ap (λ (k : FileAnswer). onward k r next .answer) f) ∙ e)
     go Broken f = never-broken (sym f ∙ sym (ap (λ (k : FileAnswer). onward k r next .answer) f) ∙ e)
 
-goes : (r next : TreeRead) → r .answer ≡ Accepted → onward (r .answer) r next ≡ next
+pub goes : (r next : TreeRead) → r .answer ≡ Accepted → onward (r .answer) r next ≡ next
 goes r next e = ap (λ (k : FileAnswer). onward k r next) e
 
 -- two acc lines at the front

@@ -1,1 +1,2 @@
 pub mod TreeText
+pub mod TreeRefused

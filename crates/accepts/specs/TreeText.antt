@@ -1,32 +1,30 @@
--- The text of a configuration: "A configuration keeps them if a tree file could have given it". The bus line, the int lines
--- and the acc lines, by number.
+-- The text of a configuration, and what a file writes, said by writing and not by reading (document 01, "The tree on paper"; "A
+-- configuration keeps them if a tree file could have given it").
 --
--- dash                 the field "-"
--- numbers xs           the fields of the numbers xs
 -- busValues b          the numbers of the bus line; accValues a x: of an acc line
--- busText t            the bus line
--- intFields t j        the fields of an int line
--- intText t j          the int line of interconnect j
--- accText t a          the acc line of accelerator a
--- rows n k f           the lines f k, f (k + 1) and on, n of them
--- treeLines t          the lines of the file
+-- busWritten b         a bus line: P, tA, dA, dD, dB, pR, pW, tD, tB, B
+-- rootWritten g        the int line of interconnect 0: "its parent and port are both "-""
+-- childWritten j i p g the int line of another one: number, parent, port on the parent, granularity
+-- accWritten a x       an acc line: number, interconnect, port, phi, budget, Nr, Nw, C, T
+-- busText t, intText t j, accText t a
+--                      the bus line of t, the int line of its interconnect j, the acc line of its accelerator a
+-- treeLines t          the lines of the file: the bus line, the int lines and the acc lines, by number
 -- treeText t           the file
-use Prim.Native.Nat.{ℕ, zero, suc}
-use mathlib.Core.List.{List, [], _∷_, _++_}
-use lib.Dec.{eqb}
+-- times a as           how often the number a stands in as
+-- Writes s t           "a file as exactly the tree .. that it writes": the bytes s are the bus line of t, its int lines by number and its
+--                      acc lines "in any order, numbers 0 to n - 1 each once", each ended by LF
+use Prim.Native.Nat.{ℕ, _+_}
+use mathlib.Core.List.{List, [], _∷_, _++_, map}
+use mathlib.Core.Path.{_≡_}
+use lib.Dec.{eqb, ltb}
 use Rattle.model.specs.declared.Tree.{Tree}
 use Rattle.model.specs.declared.Bus.{Bus}
 use Rattle.model.specs.declared.Accelerator.{Accelerator}
 use Rattle.folds.specs.Fold.{pick}
 use Rattle.model.specs.Tree.{granularityOf, parentOf, parentPortOf, acceleratorOf}
-use Rattle.text.specs.Write.{decimalText, lineText, fileText}
-
-abbrev pub dash : List ℕ
-dash = 45 ∷ []
-
-unfoldable pub numbers : List ℕ → List (List ℕ)
-numbers [] = []
-numbers (x ∷ xs) = decimalText x ∷ numbers xs
+use Rattle.text.specs.Write.{decimalText, dash, numbers, rows, lineText, fileText}
+use Rattle.lines.specs.declared.Kind.the-variants.{BusLine, IntLine, AccLine}
+use Rattle.lines.specs.Lines.{nameOf}
 
 abbrev pub busValues : Bus → List ℕ
 busValues b = b .window ∷ b .ta ∷ b .da ∷ b .dd ∷ b .db ∷ b .pr ∷ b .pw ∷ b .td ∷ b .tb ∷ b .burst ∷ []
@@ -34,28 +32,41 @@ busValues b = b .window ∷ b .ta ∷ b .da ∷ b .dd ∷ b .db ∷ b .pr ∷ b 
 abbrev pub accValues : ℕ → Accelerator → List ℕ
 accValues a x = a ∷ x .interconnect ∷ x .port ∷ x .phi ∷ x .budget ∷ x .reads ∷ x .writes ∷ x .computing ∷ x .period ∷ []
 
--- "bus", "int", "acc"
-abbrev pub busText : Tree → List ℕ
-busText t = lineText (98 ∷ 117 ∷ 115 ∷ []) (numbers (busValues (t .bus)))
+abbrev pub busWritten : Bus → List ℕ
+busWritten b = lineText (nameOf BusLine) (numbers (busValues b))
 
-abbrev pub intFields : Tree → ℕ → List (List ℕ)
-intFields t j =
-    pick (eqb j 0)
-    (decimalText j ∷ dash ∷ dash ∷ decimalText (granularityOf t j) ∷ [])
-    (numbers (j ∷ parentOf t j ∷ parentPortOf t j ∷ granularityOf t j ∷ []))
+abbrev pub rootWritten : ℕ → List ℕ
+rootWritten g = lineText (nameOf IntLine) (decimalText 0 ∷ dash ∷ dash ∷ decimalText g ∷ [])
+
+abbrev pub childWritten : ℕ → ℕ → ℕ → ℕ → List ℕ
+childWritten j parent port g = lineText (nameOf IntLine) (numbers (j ∷ parent ∷ port ∷ g ∷ []))
+
+abbrev pub accWritten : ℕ → Accelerator → List ℕ
+accWritten a x = lineText (nameOf AccLine) (numbers (accValues a x))
+
+abbrev pub busText : Tree → List ℕ
+busText t = busWritten (t .bus)
 
 abbrev pub intText : Tree → ℕ → List ℕ
-intText t j = lineText (105 ∷ 110 ∷ 116 ∷ []) (intFields t j)
+intText t j =
+    pick (eqb j 0)
+    (rootWritten (granularityOf t j))
+    (childWritten j (parentOf t j) (parentPortOf t j) (granularityOf t j))
 
 abbrev pub accText : Tree → ℕ → List ℕ
-accText t a = lineText (97 ∷ 99 ∷ 99 ∷ []) (numbers (accValues a (acceleratorOf t a)))
-
-unfoldable pub rows : ℕ → ℕ → (ℕ → List ℕ) → List (List ℕ)
-rows zero k f = []
-rows (suc n) k f = f k ∷ rows n (suc k) f
+accText t a = accWritten a (acceleratorOf t a)
 
 abbrev pub treeLines : Tree → List (List ℕ)
 treeLines t = busText t ∷ (rows (t .ints) 0 (intText t) ++ rows (t .accs) 0 (accText t))
 
 abbrev pub treeText : Tree → List ℕ
 treeText t = fileText (treeLines t)
+
+unfoldable pub times : ℕ → List ℕ → ℕ
+times a [] = 0
+times a (b ∷ bs) = pick (eqb a b) 1 0 + times a bs
+
+pub record Writes (s : List ℕ) (t : Tree) : Type 0 where
+  pub order : List ℕ
+  pub once : (a : ℕ) → times a order ≡ pick (ltb a (t .accs)) 1 0
+  pub text : s ≡ fileText (busText t ∷ (rows (t .ints) 0 (intText t) ++ map (accText t) order))

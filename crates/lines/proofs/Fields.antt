@@ -2,7 +2,7 @@
 -- of parts at a position, and by cases.
 use Prim.Native.Nat.{ℕ, _+_, _-_, _≤_, _<_}
 use mathlib.Core.Bool.{Bool, true, false, cond}
-use mathlib.Core.List.{List, [], _∷_}
+use mathlib.Core.List.{List, [], _∷_, map}
 use mathlib.Core.Path.{_≡_, refl, sym, _∙_, ap}
 use native.Mathlib.Omega.{arith}
 use lib.Dec.{ltb, lit≤}
@@ -61,8 +61,8 @@ pub number-past : (l : Line) (x : ℕ) → length (l .values) ≤ l .count → r
 number-past l x h = ap (λ (v : List ℕ). record { kind = l .kind; count = l .count + 1; malformed = l .malformed; dashes = l .dashes; values = v }) (sym (set-out (l .values) (l .count) x h))
 
 -- the fields after the one that ends at e
-abbrev pub later : List ℕ → ℕ → List (List ℕ)
-later s e = cond (ltb e (length s)) (parts 9 (drop (e + 1) s)) []
+abbrev pub later : List ℕ → ℕ → List Field
+later s e = map fieldOf (cond (ltb e (length s)) (parts 9 (drop (e + 1) s)) [])
 
 pub line-begun : (s : List ℕ) (e : ℕ) → e ≡ 0 + partLength 9 (drop 0 s) → lineOf s ≡ pushed (named (kindOf (take (e - 0) (drop 0 s)))) (later s e)
 unfolding lineOf
@@ -70,8 +70,8 @@ line-begun s e q = ap lineFrom (part-next 9 s 0 e (omega arith) q)
 
 pub line-next : (s : List ℕ) (r : Line) (e d : ℕ) → e < length s → d ≡ (e + 1) + partLength 9 (drop (e + 1) s) → pushed r (later s e) ≡ pushed (push r (fieldOf (take (d - (e + 1)) (drop (e + 1) s)))) (later s d)
 unfolding pushed
-line-next s r e d h q = ap (pushed r) (taken _ _ _ (lt-ltb _ _ h) ∙ part-next 9 s (e + 1) d (omega arith) q)
+line-next s r e d h q = ap (λ (ps : List (List ℕ)). pushed r (map fieldOf ps)) (taken _ _ _ (lt-ltb _ _ h) ∙ part-next 9 s (e + 1) d (omega arith) q)
 
 pub line-end : (s : List ℕ) (r : Line) (e : ℕ) → length s ≤ e → pushed r (later s e) ≡ r
 unfolding pushed
-line-end s r e h = ap (pushed r) (left _ _ _ (le-ltb _ _ h))
+line-end s r e h = ap (λ (ps : List (List ℕ)). pushed r (map fieldOf ps)) (left _ _ _ (le-ltb _ _ h))

@@ -1,2 +1,4 @@
 pub mod Lines
 pub mod Answer
+pub mod FirstRule
+pub mod LineText

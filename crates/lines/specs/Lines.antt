@@ -1,9 +1,12 @@
 -- A line of a file: its record name, its fields, and the tests 1 and 2 of document 01 ("The tree on paper").
 --
--- kindOf name          "A line begins with one of the record names bus, int or acc"; in a trace it is o
+-- nameOf k             "A line begins with one of the record names bus, int or acc"; in a trace it is o
+-- kindOf name          the record of that name
 -- named k              a line of record k before its fields
 -- push l f             line l with one field more; past the tenth, fields are only counted
--- pushed l fs          line l with the fields fs; lineFrom ps: the line of the parts ps, the record name first
+-- pushed l fs          line l with the fields fs
+-- lineWith k fs        the line of record k with the fields fs
+-- lineFrom ps          the line of the parts ps, the record name first
 -- lineOf s             the line that the bytes s write
 -- valueAt l i          the number in field i of line l, counted from 0; 0 where the field is no number
 -- dashAt l i           field i of line l is "-"
@@ -11,14 +14,15 @@
 --                      limits, in the order of the paper
 -- noDashes             no field may be "-"
 -- dashKept f d i       field i is "-" only where it may be; dashesKept k d: so are all fields of record k
--- shaped l             test 1: as many fields as the record has, none malformed, "-" only where it may stand
+-- isRecord k           k is a record
+-- shaped l             test 1: a record's name, as many fields as the record has, none malformed, "-" only where it may stand
 -- limitKept f v i      field i is in its limits
 -- limitsKept k v       test 2: the numbers v are in the limits of record k; a "-", held as 0, is in the limits of both
 --                      fields where it may stand
 -- inTree k, inTrace k  record k may stand in a tree file, in a trace file
 use Prim.Native.Nat.{ℕ, _+_}
 use mathlib.Core.Bool.{Bool, true, false, _&&_, _||_, not}
-use mathlib.Core.List.{List, [], _∷_}
+use mathlib.Core.List.{List, [], _∷_, map}
 use lib.ListN.{getD, set, replicate}
 use lib.Dec.{eqb}
 use Rattle.text.specs.declared.Field.{Field}
@@ -31,12 +35,19 @@ use Rattle.lines.specs.declared.Line.{Line}
 use Rattle.lines.specs.declared.Form.{Form}
 
 -- "bus", "int", "acc", "o"
+abbrev pub nameOf : Kind → List ℕ
+nameOf NoRecord = []
+nameOf BusLine = 98 ∷ 117 ∷ 115 ∷ []
+nameOf IntLine = 105 ∷ 110 ∷ 116 ∷ []
+nameOf AccLine = 97 ∷ 99 ∷ 99 ∷ []
+nameOf OfferLine = 111 ∷ []
+
 unfoldable pub kindOf : List ℕ → Kind
 kindOf name =
-    pick (same name (98 ∷ 117 ∷ 115 ∷ [])) BusLine
-    (pick (same name (105 ∷ 110 ∷ 116 ∷ [])) IntLine
-    (pick (same name (97 ∷ 99 ∷ 99 ∷ [])) AccLine
-    (pick (same name (111 ∷ [])) OfferLine
+    pick (same name (nameOf BusLine)) BusLine
+    (pick (same name (nameOf IntLine)) IntLine
+    (pick (same name (nameOf AccLine)) AccLine
+    (pick (same name (nameOf OfferLine)) OfferLine
     NoRecord)))
 
 abbrev pub named : Kind → Line
@@ -49,14 +60,17 @@ push l Dash =
 push l (Number x) =
     record { kind = l .kind; count = l .count + 1; malformed = l .malformed; dashes = l .dashes; values = set (l .values) (l .count) x }
 
-unfoldable pub pushed : Line → List (List ℕ) → Line
+unfoldable pub pushed : Line → List Field → Line
 pushed l [] = l
-pushed l (f ∷ fs) = pushed (push l (fieldOf f)) fs
+pushed l (f ∷ fs) = pushed (push l f) fs
+
+abbrev pub lineWith : Kind → List Field → Line
+lineWith k fs = pushed (named k) fs
 
 -- the first part of a line is the record name; a line has always a first part
 abbrev pub lineFrom : List (List ℕ) → Line
 lineFrom [] = named NoRecord
-lineFrom (name ∷ fs) = pushed (named (kindOf name)) fs
+lineFrom (name ∷ fs) = lineWith (kindOf name) (map fieldOf fs)
 
 unfoldable pub lineOf : List ℕ → Line
 lineOf s = lineFrom (fields s)
@@ -111,8 +125,16 @@ dashKept f d i = getD (f .dashes) i false || not (getD d i false)
 abbrev pub dashesKept : Kind → List Bool → Bool
 dashesKept k d = all (formOf k .count) (dashKept (formOf k) d)
 
+abbrev pub isRecord : Kind → Bool
+isRecord NoRecord = false
+isRecord BusLine = true
+isRecord IntLine = true
+isRecord AccLine = true
+isRecord OfferLine = true
+
 unfoldable pub shaped : Line → Bool
-shaped l = eqb (l .count) (formOf (l .kind) .count) && not (l .malformed) && dashesKept (l .kind) (l .dashes)
+shaped l =
+    isRecord (l .kind) && eqb (l .count) (formOf (l .kind) .count) && not (l .malformed) && dashesKept (l .kind) (l .dashes)
 
 abbrev pub limitKept : Form → List ℕ → ℕ → Bool
 limitKept f v i = within (getD (f .lows) i 0) (getD v i 0) (getD (f .highs) i 0)

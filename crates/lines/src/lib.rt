@@ -10,7 +10,7 @@ use text::same_bytes;
 ghost use mathlib.Core.Path.{_≡_};
 ghost use Prim.Native.Nat.{_<_};
 ghost use Rattle.lines.specs.Answer.{answerNumber, answerLine};
-ghost use Rattle.lines.specs.Lines.{kindOf, named, push, lineOf, formOf, dashesKept, limitsKept, shaped};
+ghost use Rattle.lines.specs.Lines.{kindOf, named, push, lineOf, formOf, dashesKept, limitsKept, isRecord, shaped};
 
 // What a line's record name says.
 pub enum Kind {
@@ -179,6 +179,18 @@ fn dashes_kept(kind: Kind, dashes: [bool; 10]) -> bool
     ok
 }
 
+fn is_record(kind: Kind) -> bool
+    ensures { λ r. ⌜ r ≡ isRecord kind ⌝ }
+{
+    match kind {
+        Kind::NoRecord => false,
+        Kind::BusLine => true,
+        Kind::IntLine => true,
+        Kind::AccLine => true,
+        Kind::OfferLine => true,
+    }
+}
+
 // Test 1 of a line.
 pub fn shape_kept(l: Line) -> bool
     ensures { λ r. ⌜ r ≡ shaped l ⌝ }
@@ -186,7 +198,7 @@ pub fn shape_kept(l: Line) -> bool
     let kind = l.kind;
     let dashes = l.dashes;
     let f = form_of(kind);
-    (l.count == f.count) & !l.malformed & dashes_kept(kind, dashes)
+    is_record(kind) & (l.count == f.count) & !l.malformed & dashes_kept(kind, dashes)
 }
 
 // Test 2 of a line, field by field.

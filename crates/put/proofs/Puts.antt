@@ -70,6 +70,10 @@ put-laid {m} {d} {xs} {e} {next} p h l =
       room = omega (arith, p .ends, p .short);
     }
 
+-- no text leaves the page as it was
+pub written-none : {xs d : List ℕ} → xs ≡ [] → Written xs d d 0
+written-none {xs} {d} h = subst (λ (l : List ℕ). Written l d d 0) (sym h) (record { page = refl; bytes = refl; room = omega arith })
+
 -- a number below 10 is one digit; any other is that of n / 10 and one digit more
 module _ {d : List ℕ} {at : ℕ} {e : List ℕ} {last : ℕ} (n b : ℕ) where
   pub put-digit : n < 10 → b ≡ 48 + n → Put 1 d at (b ∷ []) e last → Put 20 d at (decimalText n) e last

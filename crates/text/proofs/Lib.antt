@@ -3,3 +3,4 @@ pub mod Fields
 pub mod Digits
 pub mod Decimal
 pub mod Written
+pub mod Back

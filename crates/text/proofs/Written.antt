@@ -1,15 +1,15 @@
 -- What is written is read back: the digits of a number are that number, the fields of a line are its fields, the lines of a
 -- file its lines. By induction on what is written.
-use Prim.Native.Nat.{ℕ, zero, suc, _+_, _-_, _*_, _^_, _/_, _%_, _≤_, _<_}
-use mathlib.Core.Bool.{Bool, true, false, _&&_, and-false}
-use mathlib.Core.List.{List, [], _∷_, _++_}
+use Prim.Native.Nat.{ℕ, suc, _+_, _-_, _*_, _^_, _/_, _%_, _≤_, _<_}
+use mathlib.Core.Bool.{true, false}
+use mathlib.Core.List.{List, [], _∷_, _++_, append-assoc}
 use mathlib.Core.Path.{_≡_, refl, sym, _∙_, ap, subst}
-use native.Mathlib.Decide.{ℕ-discrete, decLt}
+use native.Mathlib.Decide.{ℕ-discrete}
 use native.Mathlib.Nat.{add-mul, mul-assoc, pow-suc}
 use native.Mathlib.Omega.{arith}
-use lib.Dec.{eqb, ltb, leb}
+use lib.Dec.{leb, lit<}
 use lib.ListN.{length, getD, length-append}
-use borrow.Author.Tests.{eq-eqb, ne-eqb, lt-ltb, le-ltb, le-leb, leb-true}
+use borrow.Author.Tests.{eq-eqb, ne-eqb, le-leb, leb-true}
 use Rattle.folds.proofs.Folds.{both}
 use Rattle.text.specs.declared.Field.the-variants.{Number}
 use Rattle.text.specs.Text.{parts, behind, butLast, final, lines, unended, fields, same, isDigit, allDigits, decimal, leadingZero, fieldOf}
@@ -37,7 +37,7 @@ unfolding parts
 parts-part sep r clean-none = taken _ _ _ (eq-eqb sep sep refl)
 parts-part sep r (clean-more {b = b} {s = s} d C) = left _ _ _ (ne-eqb b sep d) ∙ ap (behind b) (parts-part sep r C)
 
-append-nil : (s : List ℕ) → s ++ [] ≡ s
+pub append-nil : (s : List ℕ) → s ++ [] ≡ s
 append-nil [] = refl
 append-nil (b ∷ s) = ap (λ r. b ∷ r) (append-nil s)
 
@@ -51,16 +51,27 @@ unfolding fieldsText
 fields-read {name} C all-none = ap fields (append-nil name) ∙ parts-clean 9 C
 fields-read {name} C (all-more {l = f} {ls = fs} F A) = parts-part 9 (f ++ fieldsText fs) C ∙ ap (λ r. name ∷ r) (fields-read F A)
 
+-- lines, and what stands after the last LF
+pub lines-read-on : {ls : List (List ℕ)} {e : List ℕ} → AllClean 10 ls → Clean 10 e → (lines (fileText ls ++ e) ≡ ls) × (unended (fileText ls ++ e) ≡ e)
+unfolding fileText butLast final
+lines-read-on all-none E = let p = parts-clean 10 E in (ap butLast p, ap final p)
+lines-read-on {e = e} (all-more {l = l} {ls = ls} C A) E =
+    let p = ap (parts 10) (append-assoc l (10 ∷ fileText ls) e) ∙ parts-part 10 (fileText ls ++ e) C in
+    let i = lines-read-on A E in
+    (ap butLast p ∙ parts-some 10 (fileText ls ++ e) l ∙ ap (λ r. l ∷ r) (i .0), ap final p ∙ final-some 10 (fileText ls ++ e) l ∙ i .1)
+
 pub lines-read : {ls : List (List ℕ)} → AllClean 10 ls → (lines (fileText ls) ≡ ls) × (unended (fileText ls) ≡ [])
-unfolding fileText butLast final parts
-lines-read all-none = (refl, refl)
-lines-read (all-more {l = l} {ls = ls} C A) =
-    let p = parts-part 10 (fileText ls) C in
-    let i = lines-read A in
-    (ap butLast p ∙ parts-some 10 (fileText ls) l ∙ ap (λ r. l ∷ r) (i .0), ap final p ∙ final-some 10 (fileText ls) l ∙ i .1)
+lines-read {ls} A =
+    subst (λ (s : List ℕ). (lines s ≡ ls) × (unended s ≡ [])) (append-nil (fileText ls)) (lines-read-on A clean-none)
+
+-- a line has no LF in it
+pub fields-clean : {fs : List (List ℕ)} → AllClean 10 fs → Clean 10 (fieldsText fs)
+unfolding fieldsText
+fields-clean all-none = clean-none
+fields-clean (all-more C A) = clean-more {b = 9} (omega arith) (clean-append C (fields-clean A))
 
 -- one digit more at the end
-decimal-last : (s : List ℕ) (d : ℕ) → decimal (s ++ (d ∷ [])) ≡ decimal s * 10 + (d - 48)
+pub decimal-last : (s : List ℕ) (d : ℕ) → decimal (s ++ (d ∷ [])) ≡ decimal s * 10 + (d - 48)
 unfolding decimal
 decimal-last [] d = omega arith
 decimal-last (b ∷ s) d =
@@ -77,7 +88,6 @@ pub record Digits (s : List ℕ) (n : ℕ) : Type 0 where
   pub every : allDigits s ≡ true
   pub value : decimal s ≡ n
   pub lead : 0 < n → getD s 0 0 ≡ 48 → ⊥
-  pub none : n ≡ 0 → length s ≡ 1
 
 -- the first byte is that of what stands first
 first-of : (s r : List ℕ) → 0 < length s → getD (s ++ r) 0 0 ≡ getD s 0 0
@@ -92,7 +102,6 @@ one-digit n l =
       every = simp (le-leb 48 (48 + n) (omega arith), le-leb (48 + n) 57 (omega arith));
       value = omega arith;
       lead = λ h e. omega arith;
-      none = λ e. refl;
     })
 
 more-digits : (n : ℕ) → 10 ≤ n → Digits (decimalText (n / 10)) (n / 10) → Digits (decimalText n) n
@@ -104,7 +113,6 @@ more-digits n l W =
       every = digits-last s d (W .every) (omega arith) (omega arith);
       value = omega (arith, decimal-last s d, W .value);
       lead = λ h e. W .lead (omega arith) (sym (first-of s (d ∷ []) (decimal-some (n / 10))) ∙ e);
-      none = λ e. absurd (omega arith);
     })
 
 pub decimal-digits : (n : ℕ) → Digits (decimalText n) n
@@ -117,17 +125,17 @@ not-dash (b ∷ s) e =
     let l = leb-true 48 b (both (leb 48 b) (leb b 57) (both (isDigit b) (allDigits s) e .0) .0) in
     rw (ne-eqb b 45 (omega arith)) refl
 
-no-lead : (s : List ℕ) (n : ℕ) → Digits s n → leadingZero s ≡ false
-no-lead s n W = elim (ℕ-discrete n 0) [
-  | yes e ↦ rw (eq-eqb (length s) 1 (W .none e)) (and-false (eqb (getD s 0 0) 48))
-  | no d ↦ rw (ne-eqb (getD s 0 0) 48 (W .lead (omega arith))) refl
+no-lead : (n : ℕ) → leadingZero (decimalText n) ≡ false
+no-lead n = elim (ℕ-discrete n 0) [
+  | yes e ↦ ap (λ (k : ℕ). leadingZero (decimalText k)) e ∙ ap leadingZero (decimal-one 0 (lit< tt))
+  | no d ↦ rw (ne-eqb (getD (decimalText n) 0 0) 48 (decimal-digits n .lead (omega arith))) refl
 ]
 
 -- a number's text is read as that number
 pub number-read : (n : ℕ) → n < 10000000000 → fieldOf (decimalText n) ≡ Number n
 number-read n h =
     let W = decimal-digits n in
-    field-digits (decimalText n) (not-dash (decimalText n) (W .every)) (decimal-some n) (decimal-short 9 n h) (no-lead (decimalText n) n W)
+    field-digits (decimalText n) (not-dash (decimalText n) (W .every)) (decimal-some n) (decimal-short 9 n h) (no-lead n)
     ∙ taken _ _ _ (W .every) ∙ ap Number (W .value)
 
 pub number-length : (n : ℕ) → n < 10000000000 → length (decimalText n) ≤ 10

@@ -1,3 +1,5 @@
 pub mod Offers
 pub mod Traces
 pub mod Requests
+pub mod Exactly
+pub mod Refusals

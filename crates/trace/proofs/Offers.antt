@@ -1,27 +1,27 @@
 -- The code's way through a line of a trace, field by field in the file, gives what test 1 says of the line. A field that a tab or
 -- the LF ends is the first of the line's fields from there on; a line with another name, another count of fields or a field that is
 -- no number fails the test. By the laws of fields at a place, and by cases.
-use Prim.Native.Nat.{ℕ, _+_, _-_, _≤_, _<_}
-use mathlib.Core.Bool.{Bool, true, false, _&&_, not}
-use mathlib.Core.List.{List, [], _∷_}
+use Prim.Native.Nat.{ℕ, suc, _+_, _-_, _≤_, _<_}
+use mathlib.Core.Bool.{Bool, true, false, _&&_}
+use mathlib.Core.List.{List, [], _∷_, map}
 use mathlib.Core.Path.{_≡_, refl, sym, _∙_, ap, subst}
 use native.Mathlib.Decide.{decLt, ℕ-discrete}
 use native.Mathlib.Omega.{arith}
-use lib.Dec.{eqb}
 use lib.ListN.{length, getD, take, drop}
-use borrow.Author.Tests.{le-leb, lt-leb, eq-eqb, ne-eqb, eqb-true}
+use borrow.Author.Tests.{le-leb, lt-leb, eq-eqb, ne-eqb}
 use Rattle.text.specs.declared.Field.{Field}
 use Rattle.text.specs.declared.Field.the-variants.{Malformed, Dash, Number}
 use Rattle.text.specs.Text.{partLength, fieldLength, fields, lineAt, same, fieldOf}
 use Rattle.text.proofs.Parts.{first-part}
+use Rattle.text.proofs.Back.{same-back}
 use Rattle.text.proofs.Fields.{field-unended, field-then, field-last}
-use Rattle.folds.specs.Fold.{pick, all}
+use Rattle.folds.specs.Fold.{all}
 use Rattle.folds.proofs.Folds.{picked, passed, both, clash}
 use Rattle.lines.specs.declared.Kind.{Kind}
 use Rattle.lines.specs.declared.Kind.the-variants.{NoRecord, BusLine, IntLine, AccLine, OfferLine}
 use Rattle.lines.specs.declared.Line.{Line}
-use Rattle.lines.specs.Lines.{kindOf, named, push, pushed, lineFrom, lineOf, formOf, valueAt, shaped, limitsKept, inTrace}
-use Rattle.lines.proofs.Fields.{push-count}
+use Rattle.lines.specs.Lines.{nameOf, kindOf, named, push, pushed, lineWith, lineFrom, lineOf, formOf, valueAt, shaped, limitsKept, inTrace}
+use Rattle.lines.proofs.Back.{pushed-kind, pushed-count, shape-tests, name-exactly}
 use Rattle.trace.specs.declared.NumberAt.the-variants.{NoNumber, NumberTo}
 use Rattle.trace.specs.declared.OfferText.the-variants.{Unshaped, Shaped}
 use Rattle.trace.specs.OfferText.{numberIn, numberAt, shapedText, offerText, offerOf}
@@ -167,44 +167,19 @@ not-true-false true d = absurd (d refl)
 not-true-false false d = refl
 
 -- what test 1 says of a line's parts
-inTrace-says : (k : Kind) → inTrace k ≡ true → k ≡ OfferLine
+pub inTrace-says : (k : Kind) → inTrace k ≡ true → k ≡ OfferLine
 inTrace-says NoRecord e = clash cc
 inTrace-says BusLine e = clash cc
 inTrace-says IntLine e = clash cc
 inTrace-says AccLine e = clash cc
 inTrace-says OfferLine e = refl
 
-name-tests : (a b c d : Bool) → pick a BusLine (pick b IntLine (pick c AccLine (pick d OfferLine NoRecord))) ≡ OfferLine → d ≡ true
-name-tests true b c d e = clash cc
-name-tests false true c d e = clash cc
-name-tests false false true d e = clash cc
-name-tests false false false true e = refl
-name-tests false false false false e = clash cc
+name-says : (name : List ℕ) → kindOf name ≡ OfferLine → same name (nameOf OfferLine) ≡ true
+unfolding same
+name-says name e = ap (λ (x : List ℕ). same x (nameOf OfferLine)) (name-exactly name OfferLine refl .0 e)
 
-name-says : (name : List ℕ) → kindOf name ≡ OfferLine → same name (111 ∷ []) ≡ true
-unfolding kindOf
-name-says name e = name-tests (same name (98 ∷ 117 ∷ 115 ∷ [])) (same name (105 ∷ 110 ∷ 116 ∷ [])) (same name (97 ∷ 99 ∷ 99 ∷ [])) _ e
-
-pub name-kind : (name : List ℕ) → same name (111 ∷ []) ≡ true → kindOf name ≡ OfferLine
-unfolding kindOf same
-name-kind [] e = clash cc
-name-kind (b ∷ []) e = subst (λ c. kindOf (c ∷ []) ≡ OfferLine) (sym (eqb-true b 111 (both _ _ e .0))) refl
-name-kind (b ∷ (c ∷ r)) e = let f = both (eqb b 111) false e .1 in clash cc
-
-pushed-kind : (l : Line) (fs : List (List ℕ)) → pushed l fs .kind ≡ l .kind
-unfolding pushed
-pushed-kind l [] = refl
-pushed-kind l (f ∷ fs) = pushed-kind (push l (fieldOf f)) fs ∙ same-kind (fieldOf f)
-  where
-    same-kind : (x : Field) → push l x .kind ≡ l .kind
-    same-kind Malformed = refl
-    same-kind Dash = refl
-    same-kind (Number x) = refl
-
-pushed-count : (l : Line) (fs : List (List ℕ)) → pushed l fs .count ≡ l .count + length fs
-unfolding pushed
-pushed-count l [] = omega arith
-pushed-count l (f ∷ fs) = omega (arith, pushed-count (push l (fieldOf f)) fs, push-count l (fieldOf f))
+pub name-kind : (name : List ℕ) → same name (nameOf OfferLine) ≡ true → kindOf name ≡ OfferLine
+name-kind name e = name-exactly name OfferLine refl .1 (same-back name (nameOf OfferLine) e)
 
 isNumber : Field → Bool
 isNumber Malformed = false
@@ -262,13 +237,7 @@ pub record OfferFields (name : List ℕ) (fs : List (List ℕ)) : Type 0 where
 abbrev pub isOfferLine : Line → Bool
 isOfferLine l = inTrace (l .kind) && shaped l
 
-shaped-count : (l : Line) → l .kind ≡ OfferLine → shaped l ≡ true → l .count ≡ 3
-unfolding shaped
-shaped-count l k e =
-    let c = both (eqb (l .count) (formOf (l .kind) .count)) _ (both (eqb (l .count) (formOf (l .kind) .count) && not (l .malformed)) _ e .0) .0 in
-    eqb-true _ _ c ∙ ap (λ (x : Kind). formOf x .count) k
-
-three-parts : (name : List ℕ) (fs : List (List ℕ)) → length fs ≡ 3 → shaped (pushed (named OfferLine) fs) ≡ true → same name (111 ∷ []) ≡ true → OfferFields name fs
+three-parts : (name : List ℕ) (fs : List (List ℕ)) → length fs ≡ 3 → shaped (lineWith OfferLine (map fieldOf fs)) ≡ true → same name (111 ∷ []) ≡ true → OfferFields name fs
 unfolding pushed
 three-parts name [] l e n = absurd (omega arith)
 three-parts name (f ∷ []) l e n = absurd (omega arith)
@@ -279,16 +248,22 @@ three-parts name (f ∷ (g ∷ (h ∷ []))) l e n =
     let u = both (isNumber (fieldOf f)) _ (t .0) in
     record { named = n; first = f; second = g; third = h; parts = refl; slot = number-is _ (u .0); accelerator = number-is _ (u .1); count = number-is _ (t .1) }
 
-pub offer-fields : (name : List ℕ) (fs : List (List ℕ)) → isOfferLine (pushed (named (kindOf name)) fs) ≡ true → OfferFields name fs
+mapped : {A B : Type 0} (f : A → B) (xs : List A) → length (map f xs) ≡ length xs
+mapped f [] = refl
+mapped f (x ∷ xs) = ap suc (mapped f xs)
+
+pub offer-fields : (name : List ℕ) (fs : List (List ℕ)) → isOfferLine (lineWith (kindOf name) (map fieldOf fs)) ≡ true → OfferFields name fs
 offer-fields name fs e =
-    let b = both (inTrace (pushed (named (kindOf name)) fs .kind)) _ e in
-    let k = inTrace-says _ (b .0) in
-    let n = sym (pushed-kind (named (kindOf name)) fs) ∙ k in
-    let c = shaped-count (pushed (named (kindOf name)) fs) k (b .1) in
-    three-parts name fs (omega (arith, c, pushed-count (named (kindOf name)) fs)) (subst (λ (x : Kind). shaped (pushed (named x) fs) ≡ true) n (b .1)) (name-says name n)
+    let l = lineWith (kindOf name) (map fieldOf fs) in
+    let b = both (inTrace (l .kind)) (shaped l) e in
+    let k = inTrace-says (l .kind) (b .0) in
+    let n = sym (pushed-kind (named (kindOf name)) (map fieldOf fs)) ∙ k in
+    let c = shape-tests l .0 (b .1) .many ∙ ap (λ (x : Kind). formOf x .count) k in
+    three-parts name fs (omega (arith, c, pushed-count (named (kindOf name)) (map fieldOf fs), mapped fieldOf fs))
+    (subst (λ (x : Kind). shaped (lineWith x (map fieldOf fs)) ≡ true) n (b .1)) (name-says name n)
 
 -- three numbers after the name are an o line
-pub offer-line : (f g h : List ℕ) (x y z : ℕ) → fieldOf f ≡ Number x → fieldOf g ≡ Number y → fieldOf h ≡ Number z → pushed (named OfferLine) (f ∷ (g ∷ (h ∷ []))) ≡ offerOf x y z
+pub offer-line : (f g h : List ℕ) (x y z : ℕ) → fieldOf f ≡ Number x → fieldOf g ≡ Number y → fieldOf h ≡ Number z → lineWith OfferLine (map fieldOf (f ∷ (g ∷ (h ∷ [])))) ≡ offerOf x y z
 unfolding pushed
 offer-line f g h x y z p q r =
     ap (λ (k : Field). push (push (push (named OfferLine) k) (fieldOf g)) (fieldOf h)) p
@@ -309,7 +284,7 @@ module _ (s : List ℕ) (at : ℕ) where
   text-offer x y z h e = passed _ _ _ (lt-leb (length s) (endAt s at) h) ∙ ap (λ (l : Line). shapedText l (endAt s at + 1)) e
 
   -- the line's name and what follows it, where its parts are known
-  pub line-parts : (name : List ℕ) (fs : List (List ℕ)) → fields (lineAt s at) ≡ name ∷ fs → lineOf (lineAt s at) ≡ pushed (named (kindOf name)) fs
+  pub line-parts : (name : List ℕ) (fs : List (List ℕ)) → fields (lineAt s at) ≡ name ∷ fs → lineOf (lineAt s at) ≡ lineWith (kindOf name) (map fieldOf fs)
   unfolding lineOf
   line-parts name fs p = ap lineFrom p
 
@@ -372,7 +347,7 @@ module _ (s : List ℕ) (at e : ℕ) (q : e ≡ at + fieldLength (drop at s)) wh
                 let p = parts2 ∙ ap (λ fs. name ∷ (T1 .field ∷ (T2 .field ∷ fs))) (T3 .parts) in
                 let l =
                 line-parts s at name _ p
-                ∙ ap (λ (k : Kind). pushed (named k) (T1 .field ∷ (T2 .field ∷ (T3 .field ∷ [])))) (name-kind name n)
+                ∙ ap (λ (k : Kind). lineWith k (map fieldOf (T1 .field ∷ (T2 .field ∷ (T3 .field ∷ []))))) (name-kind name n)
                 ∙ offer-line _ _ _ x y z (T1 .number) (T2 .number) (T3 .number) in
                 let m : endAt s at + 1 ≡ next = omega (arith, ends, T1 .ends, T2 .ends, T3 .ends) in
                 text-offer s at x y z (omega (arith, ends, T1 .ends, T2 .ends, T3 .within)) l ∙ ap (Shaped x y z) m

@@ -32,16 +32,16 @@ use Rattle.trace.specs.TraceFile.{totalOf, added, offerLine, afterOffer,
 use Rattle.lines.proofs.Limits.{most, least}
 use Rattle.trace.proofs.Traces.{Good, offer-says, traceFrom, trace-broken, trace-size, trace-start, trace-unended, trace-line, request-done, request-line}
 
-not-accepted : {A : Type 0} (x : Refusal) (n : ℕ) → Refused x n ≡ Accepted → A
+pub not-accepted : {A : Type 0} (x : Refusal) (n : ℕ) → Refused x n ≡ Accepted → A
 not-accepted x n e = clash cc
 
 -- a line that reading goes on after was a request
-taken-offer : (n : ℕ) (x : OfferRead) (next : Request → FileAnswer) → afterOffer n x next ≡ Accepted → (r : Request) × (x ≡ Offer r) × (next r ≡ Accepted)
+pub taken-offer : (n : ℕ) (x : OfferRead) (next : Request → FileAnswer) → afterOffer n x next ≡ Accepted → (r : Request) × (x ≡ Offer r) × (next r ≡ Accepted)
 taken-offer n (NoOffer y) next e = not-accepted y n e
 taken-offer n (Offer r) next e = (r, refl, e)
 
 -- a request in its limits
-good-range : (accs last : ℕ) (totals : List ℕ) (l : Line) (r : Request) → Good accs last totals l r → inRange accs r ≡ true
+pub good-range : (accs last : ℕ) (totals : List ℕ) (l : Line) (r : Request) → Good accs last totals l r → inRange accs r ≡ true
 good-range accs last totals l r G =
     let v = l .values in
     let s = ap (λ (q : Request). q .slot) (G .same) in
@@ -50,14 +50,14 @@ good-range accs last totals l r G =
     (joined _ _ (le-leb 1 (r .count) (omega (arith, least OfferLine v (G .limits) 2 (lit< tt)))) (le-leb (r .count) 16 (omega (arith, most OfferLine v (G .limits) 2 (lit< tt)))))
 
 -- the totals after a request
-added-total : (totals : List ℕ) (r : Request) (a : ℕ) → r .accelerator < length totals → getD (added totals r) a 0 ≡ getD totals a 0 + pick (eqb a (r .accelerator)) (r .count) 0
+pub added-total : (totals : List ℕ) (r : Request) (a : ℕ) → r .accelerator < length totals → getD (added totals r) a 0 ≡ getD totals a 0 + pick (eqb a (r .accelerator)) (r .count) 0
 added-total totals r a h = elim (ℕ-discrete a (r .accelerator)) [
   | yes e ↦ subst (λ (k : ℕ). getD (added totals r) k 0 ≡ getD totals k 0 + pick (eqb k (r .accelerator)) (r .count) 0) (sym e)
       (getD-set-same totals (r .accelerator) _ 0 h ∙ ap (λ (k : ℕ). getD totals (r .accelerator) 0 + k) (sym (picked _ _ _ (eq-eqb (r .accelerator) (r .accelerator) refl))))
   | no d ↦ getD-set-other totals (r .accelerator) a _ 0 d ∙ omega (arith, passed (eqb a (r .accelerator)) (r .count) 0 (ne-eqb _ _ d))
 ]
 
-added-fits : (totals : List ℕ) (r : Request) (a : ℕ) → r .accelerator < length totals → totalOf totals (r .accelerator) + r .count ≤ 65535 → getD totals a 0 ≤ 65535 → getD (added totals r) a 0 ≤ 65535
+pub added-fits : (totals : List ℕ) (r : Request) (a : ℕ) → r .accelerator < length totals → totalOf totals (r .accelerator) + r .count ≤ 65535 → getD totals a 0 ≤ 65535 → getD (added totals r) a 0 ≤ 65535
 added-fits totals r a h k m = elim (ℕ-discrete a (r .accelerator)) [
   | yes e ↦ subst (λ (i : ℕ). getD (added totals r) i 0 ≤ 65535) (sym e) (omega (arith, getD-set-same totals (r .accelerator) (totalOf totals (r .accelerator) + r .count) 0 h))
   | no d ↦ omega (arith, getD-set-other totals (r .accelerator) a (totalOf totals (r .accelerator) + r .count) 0 d)

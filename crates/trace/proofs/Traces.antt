@@ -6,18 +6,18 @@ use mathlib.Core.List.{List}
 use mathlib.Core.Path.{_≡_, refl, sym, _∙_, ap, ap₂, subst}
 use native.Mathlib.Decide.{decLt, ℕ-discrete}
 use native.Mathlib.Omega.{arith}
-use lib.Dec.{ltb}
+use lib.Dec.{leb, ltb}
 use lib.ListN.{length, take, drop}
-use borrow.Author.Tests.{lt-ltb, le-ltb, le-leb, lt-leb, ne-eqb, leb-false, ltb-false, ltb-true, not-false}
+use borrow.Author.Tests.{lt-ltb, le-ltb, le-leb, lt-leb, ne-eqb, leb-true, leb-false, ltb-false, ltb-true, not-false}
 use Rattle.text.specs.Text.{partLength, lines, unended, lineAt}
 use Rattle.text.proofs.Parts.{lines-none, lines-unended, lines-next, part-fits}
 use Rattle.model.specs.declared.Tree.{Tree}
 use Rattle.model.specs.declared.Refusal.{Refusal}
 use Rattle.model.specs.declared.Refusal.the-variants.{Shape, Limit, Falling, Unknown}
-use Rattle.folds.specs.Fold.{pick, all}
+use Rattle.folds.specs.Fold.{pick, all, within}
 use Rattle.rules.specs.Rules.{treeKeeps}
 use Rattle.rules.proofs.Sound.{sound}
-use Rattle.folds.proofs.Folds.{picked, passed, both, clash}
+use Rattle.folds.proofs.Folds.{picked, passed, both, joined, clash}
 use Rattle.lines.specs.declared.Kind.the-variants.{OfferLine}
 use Rattle.lines.specs.declared.Line.{Line}
 use Rattle.trace.specs.declared.Request.{Request}
@@ -118,22 +118,27 @@ trace-start t s e h = passed _ _ _ (no-not _ e) ∙ passed _ _ _ (le-ltb _ _ h)
 
 -- the same where the rules were checked before
 module _ (accs : ℕ) (s : List ℕ) where
-  pub reads-none : 32 < accs → readRequests accs s ≡ Broken
+  pub reads-none : within 1 accs 32 ≡ false → readRequests accs s ≡ Broken
   unfolding readRequests
-  reads-none h = picked _ _ _ (lt-ltb _ _ h)
+  reads-none h = picked _ _ _ (yes-not _ h)
 
-  module _ (m : accs ≤ 32) where
+  module _ (m : within 1 accs 32 ≡ true) where
+    pub reads-most : accs ≤ 32
+    reads-most = leb-true _ _ (both (leb 1 accs) (leb accs 32) m .1)
+
     pub reads-size : 65536 < length s → readRequests accs s ≡ Refused Limit 0
     unfolding readRequests
-    reads-size h = passed _ _ _ (le-ltb _ _ m) ∙ picked _ _ _ (lt-ltb _ _ h)
+    reads-size h = passed _ _ _ (no-not _ m) ∙ picked _ _ _ (lt-ltb _ _ h)
 
     pub reads-from : length s ≤ 65536 → readRequests accs s ≡ traceFrom 1 accs 0 noTotals s 0
     unfolding readRequests
-    reads-from h = passed _ _ _ (le-ltb _ _ m) ∙ passed _ _ _ (le-ltb _ _ h)
+    reads-from h = passed _ _ _ (no-not _ m) ∙ passed _ _ _ (le-ltb _ _ h)
 
 pub reads-kept : (t : Tree) (s : List ℕ) → treeKeeps t ≡ true → readRequests (t .accs) s ≡ readTrace t s
 unfolding readRequests readTrace
-reads-kept t s k = passed _ _ _ (le-ltb _ _ (sound t k .most-accs)) ∙ sym (passed _ _ _ (no-not _ k))
+reads-kept t s k =
+    let m = joined _ _ (le-leb 1 (t .accs) (sound t k .some-accs)) (le-leb (t .accs) 32 (sound t k .most-accs)) in
+    passed _ _ _ (no-not (within 1 (t .accs) 32) m) ∙ sym (passed _ _ _ (no-not _ k))
 
 module _ (n accs last : ℕ) (totals s : List ℕ) (at : ℕ) where
   pub trace-end : length s ≤ at → traceFrom n accs last totals s at ≡ Accepted

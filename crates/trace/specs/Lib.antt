@@ -1,2 +1,4 @@
 pub mod TraceFile
 pub mod OfferText
+pub mod TraceText
+pub mod TraceRefused

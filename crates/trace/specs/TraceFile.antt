@@ -10,8 +10,8 @@
 --                         the lines ls from line n on, and u after the last LF ("missing last LF" is 1)
 -- readTrace t s           11 first, which has no line; "File size comes first, then lines in order"; "An empty trace is
 --                         accepted"
--- readRequests a s        trace s read for a configuration of a accelerators whose rules were checked before; over 32 there is
---                         none
+-- readRequests a s        trace s read for a configuration of a accelerators whose rules were checked before; of none ("n at
+--                         least 1") and of more than 32 there is no such configuration: 11
 -- requests ls             the requests of an accepted trace's lines, in order
 -- rising s rs             "Slots do not fall": from slot s on
 -- inRange a r             request r is in its limits, of an accelerator of the tree
@@ -80,7 +80,7 @@ readTrace t s =
 
 unfoldable pub readRequests : ℕ → List ℕ → FileAnswer
 readRequests a s =
-    pick (ltb 32 a) Broken
+    pick (not (within 1 a 32)) Broken
     (pick (ltb 65536 (length s)) (Refused Limit 0)
     (readOffers 1 a 0 noTotals (lines s) (unended s)))
 

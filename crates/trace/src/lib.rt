@@ -148,11 +148,11 @@ fn offer_line(
 }
 
 // Whether the trace is accepted on a configuration of so many accelerators, whose rules were checked before, or why and at which
-// line it is refused. Over 32 there is no such configuration, and the answer is `Broken`.
+// line it is refused. Of none and of more than 32 there is no such configuration, and the answer is `Broken`.
 pub fn read_requests(accs: u8, s: &[u8]) -> FileAnswer
     ensures { λ r. ⌜ r ≡ readRequests accs (now (s .entry)) ⌝ }
 {
-    if 32 < accs {
+    if !((1 <= accs) & (accs <= 32)) {
         return FileAnswer::Broken;
     }
     if 65536 < s.len() {

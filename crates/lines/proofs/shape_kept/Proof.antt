@@ -1,6 +1,6 @@
--- `shape_kept` meets its contract: the tests are those of the definition, on the form that `form_of` gives.
-use mathlib.Core.Path.{ap}
-use mathlib.Core.Bool.{_&&_, not}
+-- `shape_kept` meets its contract: the tests are those of the definition, on what `is_record` and `form_of` give.
+use mathlib.Core.Path.{ap₂}
+use mathlib.Core.Bool.{Bool, _&&_, not}
 use lib.Dec.{eqb}
 use borrow.Author.Needs.{needs}
 use Rattle.lines.specs.declared.Form.{Form}
@@ -12,7 +12,8 @@ use Rattle.lines.proofs.shape_kept.Tie as tie
 returns : tie.Need-returns
 unfolding shaped
 returns c =
-    both (ap (λ (f : Form). eqb (c .before .before .before .before .before .before .args .l .count) (f .count) && not (c .before .before .before .before .before .before .args .l .malformed)) (c .before .before .before .before .form-of .ensures)) (c .dashes-kept .ensures)
+    let l = c .before .before .before .before .before .before .before .args .l in
+    both (ap₂ (λ (r : Bool) (f : Form). r && eqb (l .count) (f .count) && not (l .malformed)) (c .before .before .before .before .is-record .ensures) (c .before .before .before .before .before .form-of .ensures)) (c .dashes-kept .ensures)
 
 pub shape-kept-spec : {M : Type 1} → statement M
-shape-kept-spec = tie.close (tie.spec (λ c κs. search needs) (λ c κs. search needs) returns)
+shape-kept-spec = tie.close (tie.spec (λ c κs. search needs) (λ c κs. search needs) (λ c κs. search needs) returns)

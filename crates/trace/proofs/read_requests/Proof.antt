@@ -4,9 +4,10 @@ use Prim.Native.Nat.{_≤_, _-_, _+_}
 use native.Mathlib.Omega.{arith}
 use lib.ListN.{length}
 use borrow.Author.Needs.{needs}
+use borrow.Author.Tests.{not-true, not-false}
 use Rattle.trace.specs.TraceFile.{readRequests}
 use Rattle.trace.proofs.Offers.{text-read}
-use Rattle.trace.proofs.Traces.{traceFrom, reads-none, reads-size, reads-from, trace-end, trace-unshaped, trace-refused, trace-taken, offer-says}
+use Rattle.trace.proofs.Traces.{traceFrom, reads-none, reads-most, reads-size, reads-from, trace-end, trace-unshaped, trace-refused, trace-taken, offer-says}
 use Rattle.trace.proofs.read_requests.Statement.{statement}
 use Rattle.trace.proofs.read_requests.Tie as tie
 
@@ -18,13 +19,13 @@ abbrev μ-loop : tie.MeasureT-loop
 μ-loop accs s totals₀ last₀ at₀ n₀ totals last at n = length s - at
 
 returns : tie.Need-returns Inv-loop μ-loop
-returns c = sym (reads-none _ _ (c .if1 .taken))
+returns c = sym (reads-none _ _ (not-true _ (c .if1 .taken)))
 
 returns-2 : tie.Need-returns-2 Inv-loop μ-loop
-returns-2 c = sym (reads-size _ _ (c .before .if1 .left) (c .if2 .taken))
+returns-2 c = sym (reads-size _ _ (not-false _ (c .before .if1 .left)) (c .if2 .taken))
 
 loop-holds : tie.Need-loop-holds Inv-loop μ-loop
-loop-holds c = (omega arith, c .if2 .left, omega arith, c .before .if1 .left, reads-from _ _ (c .before .if1 .left) (c .if2 .left))
+loop-holds c = (omega arith, c .if2 .left, omega arith, reads-most _ (c .before .before .before .args .s .now) (not-false _ (c .before .if1 .left)), reads-from _ _ (not-false _ (c .before .if1 .left)) (c .if2 .left))
 
 returns-3 : tie.Need-returns-3 Inv-loop μ-loop
 returns-3 c =
