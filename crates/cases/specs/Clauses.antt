@@ -288,7 +288,7 @@ clauses =
     ∷ "all\tlate"
     ∷ [])
     -- "A refusal prints one line only: "refused", number and line, parted by tabs"
-    ∷ printed broken ("refused\t11\t0" ∷ [])
+    ∷ printed broken []
     ∷ told (refusalText 3 12) ("refused\t3\t12" ∷ [])
     ∷ []
 

@@ -1,3 +1,1 @@
-pub mod Pages
-pub mod Entries
-pub mod Reasons
+pub mod Paged

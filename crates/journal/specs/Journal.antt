@@ -1,5 +1,4 @@
--- The slots and the end of a simulation, and for a person what a refusal means (the causes of document 01's "What is
--- refused").
+-- The text of a run: its slots and its end (document 01, "Turns", last paragraph).
 --
 -- servedText b         what a slot's byte says: "the accelerator's number or 255 for idle"
 -- slotText n b         the line of slot n, which the byte b tells
@@ -7,15 +6,13 @@
 -- slotsDue n first     the lines of the page from slot `first` on, where n slots were used
 -- slotsText bs first   that page: the lines of these slots, whose bytes are bs
 -- endText b n          the last line of a simulation: `done` or `stopped`, and "the number of slots used"
--- reasons              a line for each number of a refusal, with its cause; line 12 is that of 2 with line 0
--- lineNumbered k s           line k of the text s, from 0, without its LF; nothing past the last
--- reasonOf n l         which line of `reasons` tells a refusal
--- placeText l          the line that is refused; nothing for line 0
--- reasonText n l       the line in words for a person
-use Prim.Native.Nat.{ℕ, zero, suc, _+_, _-_, min}
-use mathlib.Core.Bool.{Bool, _&&_}
-use mathlib.Core.List.{List, [], _∷_, _++_}
-use lib.Dec.{ltb, eqb}
+-- runText bs b         the text of a run whose slots' bytes are bs, done if b: a line for each slot, and the last line
+-- pages n              how many pages the run of n slots has
+-- pageText bs i b      page i of it, from 0: the lines of its slots, and on the last page the last line
+use Prim.Native.Nat.{ℕ, _+_, _-_, _*_, _/_, min}
+use mathlib.Core.Bool.{Bool}
+use mathlib.Core.List.{List, [], _++_}
+use lib.Dec.{eqb}
 use lib.ListN.{length, getD}
 use Rattle.folds.specs.Fold.{pick}
 use Rattle.text.specs.Write.{decimalText}
@@ -39,32 +36,11 @@ slotsText bs first = joined (slotsDue (length bs) first) (λ i. slotText (first 
 unfoldable pub endText : Bool → ℕ → List ℕ
 endText b n = field (pick b (bytes "done") (bytes "stopped")) ++ ended (decimalText n)
 
-abbrev pub reasons : List ℕ
-reasons =
-    ended (bytes "no refusal has this number")
-    ++ ended (bytes "wrong shape: record name, field count, malformed number or missing last LF")
-    ++ ended (bytes "value outside its limits, or total over its limit")
-    ++ ended (bytes "wrong record order or numbering, unknown interconnect, \"-\" against the root rule, or missing record")
-    ++ ended (bytes "port already taken")
-    ++ ended (bytes "level above 4")
-    ++ ended (bytes "slot smaller than in the line before")
-    ++ ended (bytes "no such accelerator")
-    ++ ended (bytes "phi transactions already outstanding")
-    ++ ended (bytes "budget of this window used")
-    ++ ended (bytes "slot count is 4294967295")
-    ++ ended (bytes "configuration or state breaks its rules")
-    ++ ended (bytes "file or output buffer over 65536 bytes")
+abbrev pub runText : List ℕ → Bool → List ℕ
+runText bs b = joined (length bs) (λ i. slotText i (getD bs i 0)) ++ endText b (length bs)
 
-unfoldable pub lineNumbered : ℕ → List ℕ → List ℕ
-lineNumbered k [] = []
-lineNumbered zero (b ∷ s) = pick (eqb b 10) [] (b ∷ lineNumbered zero s)
-lineNumbered (suc k) (b ∷ s) = lineNumbered (pick (eqb b 10) k (suc k)) s
+abbrev pub pages : ℕ → ℕ
+pages n = n / pageSlots + 1
 
-abbrev pub reasonOf : ℕ → ℕ → ℕ
-reasonOf n l = pick (eqb n 2 && eqb l 0) 12 (pick (ltb 11 n) 0 n)
-
-abbrev pub placeText : ℕ → List ℕ
-placeText l = pick (eqb l 0) [] (bytes "line " ++ decimalText l ++ bytes ": ")
-
-unfoldable pub reasonText : ℕ → ℕ → List ℕ
-reasonText n l = placeText l ++ ended (lineNumbered (reasonOf n l) reasons)
+unfoldable pub pageText : List ℕ → ℕ → Bool → List ℕ
+pageText bs i b = slotsText bs (pageSlots * i) ++ pick (eqb i (length bs / pageSlots)) (endText b (length bs)) []

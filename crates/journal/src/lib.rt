@@ -1,24 +1,12 @@
-// The texts of a simulation, and a refusal in words for a person, each built in a page that the caller lends. Each function
-// answers how long its text is and leaves the bytes past it as they were; a page has room for every text.
-mod table;
-
-use crate::table::put_line;
-use put::put_byte;
+// The text of a run, built in pages that the caller lends.
 use put::put_bytes;
 use put::put_field;
-use put::put_number;
 ghost use mathlib.Core.Path.{_≡_};
 ghost use lib.ListN.{length};
 ghost use Rattle.folds.specs.Fold.{pick};
 ghost use Rattle.put.specs.Page.{bytes as bytesOf, field, Written};
 ghost use Rattle.put.specs.Put.{Put};
-ghost use Rattle.journal.specs.Journal.{slotText, slotsDue, slotsText, endText, reasonOf, placeText, reasonText};
-
-// What a page of slots holds: the lines of so many slots, and how many bytes they are.
-pub struct Filled {
-    pub slots: usize,
-    pub bytes: usize,
-}
+ghost use Rattle.journal.specs.Journal.{slotText, slotsDue, slotsText, endText, pages as pagesOf, pageText};
 
 fn put_slot(out: &mut [u8], at: usize, slot: u64, byte: u8) -> usize
     ensures { λ r. ⌜ Put 42 (now (out .entry)) at (slotText slot byte) (now (out .exit)) r ⌝ }
@@ -57,90 +45,45 @@ fn put_slots(out: &mut [u8], served: &[u8], first: usize, count: usize) -> usize
     next
 }
 
-// The lines of the slots from `first` on, as many as a page holds: `served` has the byte of each slot used.
-pub fn slots_text(served: &[u8], first: usize, out: &mut [u8; 65536]) -> Filled
-    ensures { λ r. ⌜ (r .slots ≡ slotsDue (length (now (served .entry))) first) × Written (slotsText (now (served .entry)) first) (now (out .entry)) (now (out .exit)) (r .bytes) ⌝ }
-{
-    let count = slots_due(served.len(), first);
-    let bytes = put_slots(out, served, first, count);
-    Filled {
-        slots: count,
-        bytes: bytes,
-    }
-}
-
-fn put_outcome(out: &mut [u8], done: bool) -> usize
-    ensures { λ r. ⌜ Put 8 (now (out .entry)) 0 (field (pick done (bytesOf "done") (bytesOf "stopped"))) (now (out .exit)) r ⌝ }
+fn put_outcome(out: &mut [u8], at: usize, done: bool) -> usize
+    ensures { λ r. ⌜ Put 8 (now (out .entry)) at (field (pick done (bytesOf "done") (bytesOf "stopped"))) (now (out .exit)) r ⌝ }
 {
     if done {
-        return put_bytes(out, 0, b"done\t");
+        return put_bytes(out, at, b"done\t");
     }
-    put_bytes(out, 0, b"stopped\t")
-}
-
-fn put_end(out: &mut [u8], done: bool, slots: u32) -> usize
-    ensures { λ r. ⌜ Put 29 (now (out .entry)) 0 (endText done slots) (now (out .exit)) r ⌝ }
-{
-    let next = put_outcome(out, done);
-    put_field(out, next, slots as u64, b'\n')
+    put_bytes(out, at, b"stopped\t")
 }
 
 // The last line of a simulation.
-pub fn end_text(done: bool, slots: u32, out: &mut [u8; 65536]) -> usize
-    ensures { λ r. ⌜ Written (endText done slots) (now (out .entry)) (now (out .exit)) r ⌝ }
+fn put_end(out: &mut [u8], at: usize, done: bool, slots: u64) -> usize
+    ensures { λ r. ⌜ Put 29 (now (out .entry)) at (endText done slots) (now (out .exit)) r ⌝ }
 {
-    put_end(out, done, slots)
+    let next = put_outcome(out, at, done);
+    put_field(out, next, slots, b'\n')
 }
 
-// Which line of the table of reasons tells a refusal.
-fn reason_of(number: u8, line: u32) -> u8
-    ensures { λ r. ⌜ r ≡ reasonOf number line ⌝ }
+// How many pages a run of so many slots has.
+pub fn pages(slots: usize) -> usize
+    ensures { λ r. ⌜ r ≡ pagesOf slots ⌝ }
 {
-    if (number == 2) & (line == 0) {
-        return 12;
+    slots / 1024 + 1
+}
+
+fn put_page(out: &mut [u8], served: &[u8], page: u32, done: bool) -> usize
+    ensures { λ r. ⌜ Put 43037 (now (out .entry)) 0 (pageText (now (served .entry)) page done) (now (out .exit)) r ⌝ }
+{
+    let first = 1024 * (page as usize);
+    let count = slots_due(served.len(), first);
+    let next = put_slots(out, served, first, count);
+    if page as usize == served.len() / 1024 {
+        return put_end(out, next, done, served.len() as u64);
     }
-    if 11 < number {
-        return 0;
-    }
-    number
+    next
 }
 
-fn put_place(out: &mut [u8], line: u32) -> usize
-    ensures { λ r. ⌜ Put 27 (now (out .entry)) 0 (placeText line) (now (out .exit)) r ⌝ }
+// A page of a run: `served` has the byte of each slot used.
+pub fn page_text(served: &[u8], page: u32, done: bool, out: &mut [u8; 65536]) -> usize
+    ensures { λ r. ⌜ Written (pageText (now (served .entry)) page done) (now (out .entry)) (now (out .exit)) r ⌝ }
 {
-    if line == 0 {
-        return 0;
-    }
-    let next = put_bytes(out, 0, b"line ");
-    let next = put_number(out, next, line as u64);
-    put_bytes(out, next, b": ")
-}
-
-fn put_reason(out: &mut [u8], number: u8, line: u32) -> usize
-    ensures { λ r. ⌜ Put 1028 (now (out .entry)) 0 (reasonText number line) (now (out .exit)) r ⌝ }
-{
-    let next = put_place(out, line);
-    let entry = reason_of(number, line);
-    let reasons = b"no refusal has this number\n\
-        wrong shape: record name, field count, malformed number or missing last LF\n\
-        value outside its limits, or total over its limit\n\
-        wrong record order or numbering, unknown interconnect, \"-\" against the root rule, or missing record\n\
-        port already taken\n\
-        level above 4\n\
-        slot smaller than in the line before\n\
-        no such accelerator\n\
-        phi transactions already outstanding\n\
-        budget of this window used\n\
-        slot count is 4294967295\n\
-        configuration or state breaks its rules\n\
-        file or output buffer over 65536 bytes\n";
-    let next = put_line(out, next, reasons, entry);
-    put_byte(out, next, b'\n')
-}
-
-// What a refusal means, in words for a person.
-pub fn reason_text(number: u8, line: u32, out: &mut [u8; 65536]) -> usize
-    ensures { λ r. ⌜ Written (reasonText number line) (now (out .entry)) (now (out .exit)) r ⌝ }
-{
-    put_reason(out, number, line)
+    put_page(out, served, page, done)
 }

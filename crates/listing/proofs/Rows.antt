@@ -2,7 +2,7 @@
 -- after the last row comes the line that sums up. By the definitions' own order of tests.
 use Prim.Native.Nat.{ℕ, _+_, _*_, _≤_, _<_}
 use mathlib.Core.Bool.{Bool, true, false}
-use mathlib.Core.List.{List, _++_}
+use mathlib.Core.List.{List, [], _++_}
 use mathlib.Core.Path.{_≡_, ap, ap₂, sym, _∙_}
 use native.Mathlib.Nat.{le-antisymm}
 use native.Mathlib.Omega.{arith}
@@ -17,7 +17,7 @@ use Rattle.bounds.specs.declared.BoundAnswer.the-variants.{Refused, Bound}
 use Rattle.bounds.specs.declared.Figures.{Figures}
 use Rattle.bounds.specs.Bounds.{Analysis, analysed, analysisOf, figuresMean, meaningOf, boundOf}
 use Rattle.bounds.proofs.Answers.{bound-analysed}
-use Rattle.listing.specs.Listing.{headLine, rowText, allLine, refusalText, reportText}
+use Rattle.listing.specs.Listing.{headLine, rowText, allLine, reportText}
 use Rattle.put.specs.Page.{joined}
 use Rattle.put.specs.Put.{Put}
 use Rattle.put.proofs.Puts.{put-then, put-as, put-most}
@@ -47,6 +47,6 @@ report-end t a b k h l m p q r =
     ∙ sym (picked (treeKeeps t) _ _ k))
     (put-then (put-then p q) r))
 
-pub report-broken : (t : Tree) → treeKeeps t ≡ false → reportText t ≡ refusalText 11 0
+pub report-broken : (t : Tree) → treeKeeps t ≡ false → reportText t ≡ []
 unfolding reportText
 report-broken t k = passed (treeKeeps t) _ _ k

@@ -87,14 +87,14 @@ fn put_report(t: Tree, out: &mut [u8]) -> usize
     put_all(out, next, all_meet)
 }
 
-// The report of a configuration, or the refusal 11.
+// The report of a configuration. One that breaks its rules is refused by 11: no byte is put, and `out` is left as it was.
 pub fn report_text(t: Tree, out: &mut [u8; 65536]) -> usize
     ensures { λ r. ⌜ Written (reportText t) (now (out .entry)) (now (out .exit)) r ⌝ }
 {
-    if tree_keeps(t) {
-        return put_report(t, out);
+    if !tree_keeps(t) {
+        return 0;
     }
-    put_refusal(out, 11, 0)
+    put_report(t, out)
 }
 
 // The line of a refusal.

@@ -1,6 +1,5 @@
-// The report of a tree file: the file read, and the report or the refusal put into a lent buffer.
+// The report of a tree file: the file read, and its report put into a lent buffer.
 use lines::FileAnswer;
-use listing::refusal_text;
 use listing::report_text;
 use model::number;
 use reader::read_tree;
@@ -14,7 +13,7 @@ pub struct Printed {
     pub line: u32,
 }
 
-// Reads the tree in `input` and writes its report into `out`, or the refusal's text.
+// Reads the tree in `input` and writes its report into `out`; a refusal leaves `out` as it was.
 pub fn report(input: &[u8], out: &mut [u8; 65536]) -> Printed
     ensures { λ r. ⌜ Printing (readTree (now (input .entry))) (now (out .entry)) (now (out .exit)) (r .bytes) (r .number) (r .line) ⌝ }
 {
@@ -30,22 +29,15 @@ pub fn report(input: &[u8], out: &mut [u8; 65536]) -> Printed
                 line: 0,
             }
         }
-        FileAnswer::Refused(r, line) => {
-            let number = number(r);
-            let n = refusal_text(number, line, out);
-            Printed {
-                bytes: n,
-                number: number,
-                line: line,
-            }
-        }
-        FileAnswer::Broken => {
-            let n = refusal_text(11, 0, out);
-            Printed {
-                bytes: n,
-                number: 11,
-                line: 0,
-            }
-        }
+        FileAnswer::Refused(r, line) => Printed {
+            bytes: 0,
+            number: number(r),
+            line: line,
+        },
+        FileAnswer::Broken => Printed {
+            bytes: 0,
+            number: 11,
+            line: 0,
+        },
     }
 }

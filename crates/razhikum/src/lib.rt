@@ -20,7 +20,7 @@ ghost use Rattle.reader.specs.TreeFile.{readTree};
 ghost use Rattle.plan.specs.Plan.{Printing};
 ghost use Rattle.razhikum.specs.Exports.{treeReading, traceReading, outcomeFrom, bufferFrom, rowFrom};
 
-// A report or a refusal as text: how many bytes of the page it has, and the refusal.
+// A report as text: how many bytes of the page it has; or the refusal, which puts none.
 #[repr(C)]
 pub struct Page {
     pub bytes: usize,
@@ -51,7 +51,7 @@ pub extern "C" fn razhikum_read_trace(tree: &[u8], trace: &[u8]) -> Reading
     reading_of(2, read_trace(x.tree, trace))
 }
 
-// The report of a tree file, or its refusal in one line, put at the beginning of `out`.
+// The report of a tree file, put at the beginning of `out`; a refusal is answered by number and line, and leaves `out` as it was.
 #[no_mangle]
 pub extern "C" fn razhikum_report(tree: &[u8], out: &mut [u8; 65536]) -> Page
     ensures { λ r. ⌜ Printing (readTree (now (tree .entry))) (now (out .entry)) (now (out .exit)) (r .bytes) (r .number) (r .line) ⌝ }

@@ -1,30 +1,70 @@
-// report: reads a tree file from standard input and writes the report of document 01 to standard output. A refusal is one
-// line there, and one line in words on standard error.
+// report [FILE]: reads a tree file, standard input without a name or with "-", and writes the report of document 01 to standard
+// output. A refusal is one line there, and one line in words on standard error.
+use input::Input;
 use libc::STDERR_FILENO;
 use libc::STDIN_FILENO;
-use libc::STDOUT_FILENO;
 
-// Whether bytes can be read from standard input: a directory may stand there, or nothing.
-fn is_readable() -> bool {
-    let mut byte = [0u8; 1];
-    let none: &mut [u8] = &mut byte[..0];
-    0 <= libc::read(STDIN_FILENO, none)
+// The refusal: the line of document 01, and for a person the file's name and what is wrong.
+fn refuse(name: &[u8], tree: &[u8], number: u8, line: u32) {
+    let mut page = [0u8; 65536];
+    let n = listing::refusal_text(number, line, &mut page);
+    input::write_out(&page[..n]);
+    let m = reasons::reason_text(false, tree, number, line, &mut page);
+    input::say_of(name, &page[..m]);
+}
+
+fn report_bytes(name: &[u8], tree: &[u8]) {
+    let mut page = [0u8; 65536];
+    let done = plan::report(tree, &mut page);
+    if done.number != 0 {
+        refuse(name, tree, done.number, done.line);
+        return;
+    }
+    let bytes = done.bytes;
+    input::write_out(&page[..bytes]);
+}
+
+fn report_file(name: &[u8]) {
+    // One byte more than a tree file may have shows a longer one.
+    let mut tree = [0u8; 65537];
+    let read = input::load(name, &mut tree);
+    let Input::Bytes(n) = read else {
+        return;
+    };
+    report_bytes(name, &tree[..n]);
+}
+
+fn say_usage() {
+    let mut page = [0u8; 65536];
+    let n = usage::report_usage(&mut page);
+    io::write_all(STDERR_FILENO, &page[..n]);
+}
+
+fn say_help() {
+    let mut page = [0u8; 65536];
+    let n = usage::report_help(&mut page);
+    input::write_out(&page[..n]);
 }
 
 fn main() {
-    if !is_readable() {
-        io::write_all(STDERR_FILENO, b"report: standard input cannot be read\n");
+    let count = os::arg_count();
+    let mut word = [0u8; 4096];
+    let n = os::arg(1, &mut word);
+    if usage::asks_help(&word[..n]) {
+        say_help();
         return;
     }
-    // One byte more than a tree file may have shows a longer one.
-    let mut input = [0u8; 65537];
-    let n = io::read_full(STDIN_FILENO, &mut input);
-    let mut out = [0u8; 65536];
-    let done = plan::report(&input[..n], &mut out);
-    let bytes = done.bytes;
-    io::write_all(STDOUT_FILENO, &out[..bytes]);
-    if done.number != 0 {
-        let m = journal::reason_text(done.number, done.line, &mut out);
-        io::write_all(STDERR_FILENO, &out[..m]);
+    if (2 < count) | usage::is_option(&word[..n]) {
+        say_usage();
+        return;
     }
+    if count == 2 {
+        report_file(&word[..n]);
+        return;
+    }
+    if libc::isatty(STDIN_FILENO) == 1 {
+        say_usage();
+        return;
+    }
+    report_file(b"-");
 }

@@ -1,194 +1,143 @@
 // simulate TREE TRACE [SLOTS]: runs the trace on the tree and writes a line for each slot used, and a last line that says
 // whether the run is done or stopped. A refusal is one line on standard output and one line in words on standard error.
+use answers::Outcome;
+use input::Input;
 use libc::STDERR_FILENO;
-use libc::STDOUT_FILENO;
-use lines::FileAnswer;
-use model::Tree;
-use model::number;
-use reader::read_tree;
-use runner::RunAnswer;
-use text::Field;
-ghost use Prim.Native.Nat.{_≤_, _<_};
-ghost use lib.ListN.{length};
+use simulation::Asked;
 
-// The argument SLOTS: how many slots, more than a run may have, or no number.
-enum Asked {
-    Slots(usize),
-    TooMany,
-    Malformed,
+fn say_usage() {
+    let mut page = [0u8; 65536];
+    let n = usage::simulate_usage(&mut page);
+    io::write_all(STDERR_FILENO, &page[..n]);
 }
 
-struct Loaded {
-    ok: bool,
-    bytes: usize,
+fn say_help() {
+    let mut page = [0u8; 65536];
+    let n = usage::simulate_help(&mut page);
+    input::write_out(&page[..n]);
 }
 
-fn usage() {
-    io::write_all(
-        STDERR_FILENO,
-        b"usage: simulate TREE TRACE [SLOTS], SLOTS 0 to 65536\n",
-    );
-}
-
-// Whether bytes can be read from an opened file: a directory opens, but a read of it fails.
-fn is_readable(fd: i32) -> bool {
-    let mut byte = [0u8; 1];
-    let none: &mut [u8] = &mut byte[..0];
-    0 <= fd && 0 <= libc::read(fd, none)
-}
-
-// Reads the file that argument i names, or says on standard error why it cannot be read.
-fn load(i: usize, buf: &mut [u8]) -> Loaded
-    ensures { λ r. ⌜ r .bytes ≤ length (now (buf .exit)) ⌝ }
-{
-    let mut name = [0u8; 4096];
-    let n = os::arg(i, &mut name);
-    let fd = os::open_read(&name[..n]);
-    if !is_readable(fd) {
-        os::fail(&name[..n]);
-        return Loaded {
-            ok: false,
-            bytes: 0,
-        };
+// The argument SLOTS, which is 65,536 where it is not given. The longest argument of Linux fits the array.
+fn slots_asked(count: usize) -> Asked {
+    if count < 4 {
+        return Asked::Slots(65536);
     }
-    let got = io::read_full(fd, buf);
-    libc::close(fd);
-    Loaded {
-        ok: true,
-        bytes: got,
-    }
-}
-
-fn slots_asked() -> Asked {
-    let mut word = [0u8; 64];
+    let mut word = [0u8; 131072];
     let n = os::arg(3, &mut word);
-    match text::read_field(&word[..n]) {
-        Field::Number(x) => {
-            if x <= 65536 {
-                return Asked::Slots(x as usize);
-            }
-            Asked::TooMany
+    simulation::slots_asked(&word[..n])
+}
+
+// Writes one page of the outcome's text; answers whether all of it was written.
+fn show_page(o: Outcome, served: &[u8], page: u32) -> bool {
+    let mut text = [0u8; 65536];
+    let n = simulation::page_text(o, served, page, &mut text);
+    input::write_out(&text[..n])
+}
+
+// The pages of the outcome's text, until one cannot be written: a run has at most 65.
+fn show(o: Outcome, served: &[u8]) {
+    let count = simulation::page_count(o, served);
+    let mut page: u32 = 0;
+    while page < 65 {
+        if count <= page as usize {
+            return;
         }
-        Field::Dash => Asked::Malformed,
-        Field::Malformed => Asked::Malformed,
+        if !show_page(o, served, page) {
+            return;
+        }
+        page += 1;
     }
 }
 
-// Writes the first n bytes, of which there are as many.
-fn write_part(fd: i32, bytes: &[u8], n: usize) {
-    if n <= bytes.len() {
-        io::write_all(fd, &bytes[..n]);
-    }
-}
-
-fn write_page(fd: i32, page: &[u8; 65536], n: usize) {
-    write_part(fd, page, n);
-}
-
-// A refusal: the line of document 01, and for a person the file that argument i names and what is wrong.
-fn refuse(i: usize, number: u8, line: u32) {
+// Says in words what was refused of the file of that name, a tree or, if `trace`, a trace.
+fn explain(name: &[u8], trace: bool, bytes: &[u8], number: u8, line: u32) {
     let mut page = [0u8; 65536];
-    let n = listing::refusal_text(number, line, &mut page);
-    write_page(STDOUT_FILENO, &page, n);
-    let mut name = [0u8; 4096];
-    let k = os::arg(i, &mut name);
-    io::write_all(STDERR_FILENO, &name[..k]);
-    io::write_all(STDERR_FILENO, b": ");
-    let m = journal::reason_text(number, line, &mut page);
-    write_page(STDERR_FILENO, &page, m);
+    let n = reasons::reason_text(trace, bytes, number, line, &mut page);
+    input::say_of(name, &page[..n]);
 }
 
-// One page of slot lines, from slot `first` on; answers the slot after them.
-fn show_page(served: &[u8], first: usize) -> usize
-    requires { ⌜ first < length (now served) ⌝ }
-    ensures { λ r. ⌜ (first < r) × (r ≤ length (now (served .entry))) ⌝ }
-{
-    let mut page = [0u8; 65536];
-    let f = journal::slots_text(served, first, &mut page);
-    write_page(STDOUT_FILENO, &page, f.bytes);
-    first + f.slots
-}
-
-// The lines of the slots, a page at a time, and the last line.
-fn show(served: &[u8], done: bool) {
-    let mut first = 0;
-    while first < served.len() {
-        first = show_page(served, first);
+// What was refused: the tree, then SLOTS, then the trace.
+fn explain_outcome(
+    o: Outcome,
+    slots: usize,
+    tree_name: &[u8],
+    tree: &[u8],
+    trace_name: &[u8],
+    trace: &[u8],
+) {
+    if o.kind == 2 {
+        explain(tree_name, false, tree, o.number, o.line);
+        return;
     }
-    let mut page = [0u8; 65536];
-    let n = journal::end_text(done, slots_of(served.len()), &mut page);
-    write_page(STDOUT_FILENO, &page, n);
-}
-
-// A run has at most 65,536 slots.
-fn slots_of(n: usize) -> u32 {
-    if n <= 65536 {
-        return n as u32;
+    if 65536 < slots {
+        explain(b"SLOTS", true, trace, o.number, o.line);
+        return;
     }
-    65536
+    explain(trace_name, true, trace, o.number, o.line);
 }
 
-fn show_used(served: &[u8], used: u32, done: bool) {
-    let n = used as usize;
-    if n <= served.len() {
-        show(&served[..n], done);
+// Runs over the buffer, of a byte for each slot asked.
+fn run_over(served: &mut [u8], tree_name: &[u8], tree: &[u8], trace_name: &[u8], trace: &[u8]) {
+    let o = razhikum::razhikum_run(tree, trace, served);
+    show(o, served);
+    if 2 <= o.kind {
+        explain_outcome(o, served.len(), tree_name, tree, trace_name, trace);
     }
 }
 
-fn run_trace(t: Tree, trace: &[u8], out: &mut [u8]) {
-    match runner::run(t, trace, out) {
-        RunAnswer::Refused(r, line) => refuse(2, number(r), line),
-        RunAnswer::Broken => refuse(1, 11, 0),
-        RunAnswer::Done(n) => show_used(out, n, true),
-        RunAnswer::Stopped(n) => show_used(out, n, false),
+// One slot more than a run may have shows that more were asked.
+fn run_slots(slots: usize, tree_name: &[u8], tree: &[u8], trace_name: &[u8], trace: &[u8]) {
+    let mut served = [0u8; 65537];
+    if slots <= 65537 {
+        run_over(&mut served[..slots], tree_name, tree, trace_name, trace);
     }
 }
 
-// Runs over a buffer of `slots` bytes, at most 65,536.
-fn run_slots(t: Tree, trace: &[u8], slots: usize) {
-    let mut out = io::large_buffer();
-    if slots <= 65536 {
-        run_trace(t, trace, &mut out[..slots]);
+// One byte more than a file may have shows a longer one.
+fn run_tree(slots: usize, tree_name: &[u8], tree: &[u8], trace_name: &[u8]) {
+    let mut trace = [0u8; 65537];
+    let read = input::load(trace_name, &mut trace);
+    let Input::Bytes(n) = read else {
+        return;
+    };
+    run_slots(slots, tree_name, tree, trace_name, &trace[..n]);
+}
+
+fn run_files(slots: usize, tree_name: &[u8], trace_name: &[u8]) {
+    let mut tree = [0u8; 65537];
+    let read = input::load(tree_name, &mut tree);
+    let Input::Bytes(n) = read else {
+        return;
+    };
+    run_tree(slots, tree_name, &tree[..n], trace_name);
+}
+
+// Whether the names can be two files: no option among them, and standard input at most once.
+fn are_files(tree_name: &[u8], trace_name: &[u8]) -> bool {
+    if usage::is_option(tree_name) | usage::is_option(trace_name) {
+        return false;
     }
+    !(input::is_dash(tree_name) & input::is_dash(trace_name))
 }
 
 fn main() {
     let count = os::arg_count();
-    if (count < 3) | (4 < count) {
-        usage();
+    let mut tree_name = [0u8; 4096];
+    let n = os::arg(1, &mut tree_name);
+    if usage::asks_help(&tree_name[..n]) {
+        say_help();
         return;
     }
-    let mut slots = Asked::Slots(65536);
-    if count == 4 {
-        slots = slots_asked();
-    }
-    if let Asked::Malformed = slots {
-        usage();
+    let mut trace_name = [0u8; 4096];
+    let m = os::arg(2, &mut trace_name);
+    let asked = slots_asked(count);
+    let Asked::Slots(slots) = asked else {
+        say_usage();
+        return;
+    };
+    if (count < 3) | (4 < count) | !are_files(&tree_name[..n], &trace_name[..m]) {
+        say_usage();
         return;
     }
-    // One byte more than a file may have shows a longer one.
-    let mut tree = [0u8; 65537];
-    let a = load(1, &mut tree);
-    if !a.ok {
-        return;
-    }
-    let mut trace = [0u8; 65537];
-    let b = load(2, &mut trace);
-    if !b.ok {
-        return;
-    }
-    let n = a.bytes;
-    let x = read_tree(&tree[..n]);
-    let answer = x.answer;
-    if let FileAnswer::Refused(r, line) = answer {
-        refuse(1, number(r), line);
-        return;
-    }
-    let m = b.bytes;
-    let t = x.tree;
-    match slots {
-        Asked::Slots(k) => run_slots(t, &trace[..m], k),
-        Asked::TooMany => refuse(3, 2, 0),
-        Asked::Malformed => usage(),
-    }
+    run_files(slots, &tree_name[..n], &trace_name[..m]);
 }

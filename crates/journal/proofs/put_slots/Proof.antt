@@ -10,7 +10,7 @@ use Rattle.journal.specs.Journal.{slotText}
 use Rattle.put.specs.Put.{Put}
 use Rattle.put.proofs.Puts.{put-none}
 use Rattle.put.proofs.Lines.{lines-none, lines-turn}
-use Rattle.journal.proofs.Pages.{slots-end}
+use Rattle.journal.proofs.Paged.{slots-end}
 use Rattle.journal.proofs.put_slots.Statement.{statement}
 use Rattle.journal.proofs.put_slots.Tie as tie
 

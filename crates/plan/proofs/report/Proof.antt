@@ -1,10 +1,7 @@
 -- `report` meets its contract: in each arm the text is that of the answer which the arm names.
-use mathlib.Core.Path.{refl, subst}
-use Prim.Native.Nat.{ℕ}
+use mathlib.Core.Path.{refl}
 use borrow.Author.Needs.{needs}
-use denote.Ref.{now}
-use Rattle.put.specs.Page.{Written}
-use Rattle.listing.specs.Listing.{refusalText}
+use Rattle.put.proofs.Puts.{written-none}
 use Rattle.plan.proofs.Prints.{prints}
 use Rattle.plan.proofs.report.Statement.{statement}
 use Rattle.plan.proofs.report.Tie as tie
@@ -15,13 +12,11 @@ returns c =
 
 returns-2 : tie.Need-returns-2
 returns-2 c =
-    prints (c .before .before .before .before .before .before .before .read-tree .result) _ (c .before .before .before .before .before .before .before .read-tree .ensures) _ (c .before .before .before .before .answer .given .1) _ _
-    (subst (λ (k : ℕ). Written (refusalText k (c .before .before .before .before .answer .given .0 .1 .0)) (now (c .before .before .before .before .before .before .before .before .before .args .out)) (c .refusal-text .last .1 .1 .0) (c .refusal-text .result)) (c .before .before .number .ensures) (c .refusal-text .ensures))
-    (c .before .before .number .ensures) refl
+    prints (c .before .before .before .before .before .read-tree .result) _ (c .before .before .before .before .before .read-tree .ensures) _ (c .before .before .answer .given .1) _ _ (written-none refl) (c .number .ensures) refl
 
 returns-3 : tie.Need-returns-3
 returns-3 c =
-    prints (c .before .before .before .before .before .read-tree .result) _ (c .before .before .before .before .before .read-tree .ensures) _ (c .before .before .enum-told2 .given .1) _ _ (c .refusal-text2 .ensures) refl refl
+    prints (c .before .before .before .read-tree .result) _ (c .before .before .before .read-tree .ensures) _ (c .enum-told2 .given .1) _ _ (written-none refl) refl refl
 
 pub report-spec : {M : Type 1} → statement M
-report-spec = tie.close (tie.spec (λ c κs. search needs) (λ c. search needs) (λ c κs. search needs) (λ c. search needs) (λ c κs. search needs) (λ c κs. search needs) (λ c. search needs) (λ c κs. search needs) returns returns-2 returns-3)
+report-spec = tie.close (tie.spec (λ c κs. search needs) (λ c. search needs) (λ c κs. search needs) (λ c. search needs) (λ c κs. search needs) (λ c. search needs) returns returns-2 returns-3)

@@ -1,0 +1,93 @@
+// Files read to their end and texts written, for every program. Only an answer of 0 is the end of a file: a read that fails is
+// no end. What cannot be read or written is said on standard error.
+use libc::STDERR_FILENO;
+use libc::STDIN_FILENO;
+use libc::STDOUT_FILENO;
+ghost use Prim.Native.Nat.{_≤_};
+ghost use lib.ListN.{length};
+ghost use Rattle.input.specs.Input.{sizeOf};
+
+// A file read to its end, or until the buffer is full; or a read failed.
+pub enum Input {
+    Bytes(usize),
+    Failed,
+}
+
+// Reads into the buffer until the end of the file or of the buffer: after a short read it reads again.
+pub fn read_all(fd: i32, buf: &mut [u8]) -> Input
+    ensures { λ r. ⌜ sizeOf r ≤ length (now (buf .exit)) ⌝ }
+{
+    let mut done = 0;
+    while done < buf.len() {
+        let got = libc::read(fd, &mut buf[done..]);
+        if got < 0 {
+            return Input::Failed;
+        }
+        let more = io::count(got, &buf[done..]);
+        if more == 0 {
+            return Input::Bytes(done);
+        }
+        done += more;
+    }
+    Input::Bytes(done)
+}
+
+// Reads what was opened as fd, and closes it; a descriptor below 0 is a file that did not open.
+fn read_opened(name: &[u8], fd: i32, buf: &mut [u8]) -> Input
+    ensures { λ r. ⌜ sizeOf r ≤ length (now (buf .exit)) ⌝ }
+{
+    if fd < 0 {
+        cannot_read(name);
+        return Input::Failed;
+    }
+    let got = read_all(fd, buf);
+    if let Input::Failed = got {
+        cannot_read(name);
+    }
+    libc::close(fd);
+    got
+}
+
+// Says which file cannot be read, and why.
+fn cannot_read(name: &[u8]) {
+    io::write_all(STDERR_FILENO, name);
+    os::fail(b" cannot be read");
+}
+
+// Reads the file of that name, standard input where the name is "-", or says why it cannot be read.
+pub fn load(name: &[u8], buf: &mut [u8]) -> Input
+    ensures { λ r. ⌜ sizeOf r ≤ length (now (buf .exit)) ⌝ }
+{
+    if is_dash(name) {
+        return read_opened(b"standard input", STDIN_FILENO, buf);
+    }
+    read_opened(name, os::open_read(name), buf)
+}
+
+// Whether the name is "-", which stands for standard input.
+pub fn is_dash(name: &[u8]) -> bool {
+    if name.len() == 1 {
+        return name[0] == b'-';
+    }
+    false
+}
+
+// Writes a text on standard output, or says why it cannot be written; answers whether all of it was.
+pub fn write_out(text: &[u8]) -> bool {
+    if io::write_all(STDOUT_FILENO, text) {
+        return true;
+    }
+    os::fail(b"standard output cannot be written");
+    false
+}
+
+// Says something of a file on standard error: its name, and what.
+pub fn say_of(name: &[u8], what: &[u8]) {
+    if is_dash(name) {
+        io::write_all(STDERR_FILENO, b"standard input");
+    } else {
+        io::write_all(STDERR_FILENO, name);
+    }
+    io::write_all(STDERR_FILENO, b": ");
+    io::write_all(STDERR_FILENO, what);
+}

@@ -1,0 +1,59 @@
+-- What is said of a line, from what the functions that find it ensure. By the clauses of the definitions.
+use Prim.Native.Nat.{ℕ, _+_, _-_, _≤_, _<_}
+use mathlib.Core.Bool.{Bool}
+use mathlib.Core.List.{List}
+use mathlib.Core.Path.{_≡_, ap, sym, subst, _∙_}
+use native.Mathlib.Nat.{zero-add}
+use native.Mathlib.Omega.{arith}
+use lib.Dec.{ltb}
+use lib.ListN.{length, take, drop, getD, length-drop}
+use lib.Seq.{take-all}
+use borrow.Author.Tests.{lt-ltb, le-ltb}
+use Rattle.folds.proofs.Folds.{picked, passed}
+use Rattle.text.specs.Text.{partLength}
+use Rattle.text.proofs.Parts.{part-most}
+use Rattle.lines.specs.declared.Kind.{Kind}
+use Rattle.lines.specs.declared.Kind.the-variants.{NoRecord, BusLine, IntLine, AccLine, OfferLine}
+use Rattle.lines.specs.declared.Form.{Form}
+use Rattle.lines.specs.Lines.{formOf}
+use Rattle.lines.proofs.Fields.{form-count}
+use Rattle.reasons.specs.Reasons.{firstField, outside, limitText, fieldText, valueText, sentences, partAt, has, fromPart, foundText, fromLine, causeText}
+
+pub first-field-most : (k : Kind) → firstField k ≤ 30
+first-field-most NoRecord = omega arith
+first-field-most BusLine = omega arith
+first-field-most IntLine = omega arith
+first-field-most AccLine = omega arith
+first-field-most OfferLine = omega arith
+
+-- a field of a record is one of ten
+pub field-below : (i : ℕ) (k : Kind) {F : Form} → F ≡ formOf k → i < F .count → i < 10
+field-below i k {F} e h = omega (arith, h, form-count k, ap (λ (G : Form). G .count) e)
+
+module _ (k : Kind) (v : List ℕ) (i : ℕ) (F : Form) (q : i ≡ outside k v) (r : F ≡ formOf k) where
+  counted : F .count ≡ formOf k .count
+  counted = ap (λ (G : Form). G .count) r
+
+  pub value-field : i < F .count → limitText k i (getD v i 0) (getD (F .lows) i 0) (getD (F .highs) i 0) ≡ valueText k v
+  unfolding valueText
+  value-field h =
+      ap (λ (G : Form). limitText k i (getD v i 0) (getD (G .lows) i 0) (getD (G .highs) i 0)) r
+      ∙ ap (fieldText k v) q
+      ∙ sym (picked _ _ _ (lt-ltb _ _ (subst (λ (j : ℕ). j < formOf k .count) q (subst (λ (n : ℕ). i < n) counted h))))
+
+  pub value-total : F .count ≤ i → partAt 10 2 sentences ≡ valueText k v
+  unfolding valueText
+  value-total h = sym (passed _ _ _ (le-ltb _ _ (subst (λ (j : ℕ). formOf k .count ≤ j) q (subst (λ (n : ℕ). n ≤ i) counted h))))
+
+pub rest-most : (r : List ℕ) (n : ℕ) → n ≡ 0 + partLength 10 (drop 0 r) → n ≤ length r
+rest-most r n e = omega (arith, part-most 10 r)
+
+-- the bytes from the line on, and the line in them, as the code finds them
+pub cause-of : (t : Bool) (s : List ℕ) (n l : ℕ) (k from m : ℕ) → k ≡ l - 1 → drop from s ≡ fromPart 10 k s
+    → m ≡ 0 + partLength 10 (drop 0 (take (length s - from) (drop from s)))
+    → foundText t n l (ltb m (length (take (length s - from) (drop from s)))) (take m (take (length s - from) (drop from s))) ≡ causeText t s n l
+cause-of t s n l k from m a b e =
+    let r = take (length s - from) (drop from s) in
+    let whole : r ≡ fromLine s l = take-all (length s - from) (drop from s) (simp length-drop (omega arith)) ∙ b ∙ ap (λ (j : ℕ). fromPart 10 j s) a in
+    ap (λ (j : ℕ). foundText t n l (ltb j (length r)) (take j r)) (e ∙ zero-add _)
+    ∙ ap (λ (x : List ℕ). foundText t n l (has 10 x) (take (partLength 10 x) x)) whole

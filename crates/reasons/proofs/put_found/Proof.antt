@@ -1,0 +1,27 @@
+-- `put_found` meets its contract: its tests are those of the definition, in its order.
+use borrow.Author.Needs.{needs}
+use mathlib.Core.Path.{_≡_, refl, ap, ap₂, sym, _∙_}
+use Prim.Native.Nat.{ℕ, _+_}
+use native.Mathlib.Omega.{arith}
+use Rattle.put.proofs.Puts.{put-none, put-then, put-most, put-as, put-laid}
+use borrow.Author.Tests.{eq-eqb, ne-eqb}
+use Rattle.folds.proofs.Folds.{picked, passed}
+use Rattle.lines.specs.declared.Line.{Line}
+use Rattle.reasons.specs.Reasons.{sentences, partAt, valueText, foundText}
+use Rattle.reasons.proofs.put_found.Statement.{statement}
+use Rattle.reasons.proofs.put_found.Tie as tie
+
+returns : tie.Need-returns
+unfolding foundText
+returns c = put-most (omega arith) (put-as (ap (λ (n : ℕ). partAt 10 n sentences) (c .before .before .before .shape-row .ensures) ∙ sym (picked _ _ _ (eq-eqb _ _ (c .before .before .before .before .before .if1 .taken)))) (c .before .before .put-sentence .ensures))
+
+returns-2 : tie.Need-returns-2
+unfolding foundText
+returns-2 c = put-as (ap (λ (r : Line). valueText (r .kind) (r .values)) (c .before .before .before .before .before .read-line .ensures) ∙ sym (passed _ _ _ (ne-eqb _ _ (c .before .before .before .before .before .before .before .if1 .left)) ∙ picked _ _ _ (c .before .before .before .before .before .before .if2 .taken))) (c .before .before .put-value .ensures)
+
+returns-3 : tie.Need-returns-3
+unfolding foundText
+returns-3 c = put-most (omega arith) (put-as (ap (λ (n : ℕ). partAt 10 n sentences) (c .before .before .before .number-row .ensures) ∙ sym (passed _ _ _ (ne-eqb _ _ (c .before .before .before .before .before .before .if1 .left)) ∙ passed _ _ _ (c .before .before .before .before .before .if2 .left))) (c .before .before .put-sentence2 .ensures))
+
+pub put-found-spec : {M : Type 1} → statement M
+put-found-spec = tie.close (tie.spec (λ c κs. search needs) (λ c κs. search needs) (λ c. search needs) returns (λ c κs. search needs) (λ c κs. search needs) (λ c. search needs) returns-2 (λ c κs. search needs) (λ c κs. search needs) (λ c. search needs) returns-3)

@@ -1,0 +1,46 @@
+-- What the program `simulate` asks and prints: the word SLOTS, and the text of a run's outcome (document 01: "It writes one byte
+-- a slot .. and reports done or stopped, and the number of slots used"; "A refusal prints one line only").
+--
+-- plainNumber w        the word w is a number: digits, at least one, "no sign, no leading zero except 0 itself"
+-- slotsAsked w         how many slots the word SLOTS asks for; 65,537, which a run refuses by 2, stands for every number above
+--                      65,536; or it is no number
+-- isRun o              the outcome o is that of a run, done or stopped, and no refusal
+-- used o bs            the bytes of the slots used, of the buffer bs
+-- simulationText o bs  what is printed of an outcome and the buffer: the slots and the end of a run, or a refusal's one line
+-- pageCount o          the pages that text is given in; simulationPage o bs i: page i of it, from 0
+use Prim.Native.Nat.{ℕ, min}
+use mathlib.Core.Bool.{Bool, _&&_, not}
+use mathlib.Core.List.{List}
+use lib.Dec.{ltb, eqb}
+use lib.ListN.{length, take}
+use Rattle.folds.specs.Fold.{pick}
+use Rattle.text.specs.Text.{allDigits, decimal, leadingZero}
+use Rattle.answers.specs.declared.Outcome.{Outcome}
+use Rattle.listing.specs.Listing.{refusalText}
+use Rattle.journal.specs.Journal.{runText, pages, pageText}
+use Rattle.simulation.specs.declared.Asked.{Asked}
+use Rattle.simulation.specs.declared.Asked.the-variants.{Slots, NoNumber}
+
+abbrev pub plainNumber : List ℕ → Bool
+plainNumber w = not (eqb (length w) 0) && not (leadingZero w) && allDigits w
+
+unfoldable pub slotsAsked : List ℕ → Asked
+slotsAsked w = pick (plainNumber w) (Slots (min (decimal w) 65537)) NoNumber
+
+abbrev pub isRun : Outcome → Bool
+isRun o = ltb (o .kind) 2
+
+abbrev pub isDone : Outcome → Bool
+isDone o = eqb (o .kind) 0
+
+abbrev pub used : Outcome → List ℕ → List ℕ
+used o bs = take (o .slots) bs
+
+unfoldable pub simulationText : Outcome → List ℕ → List ℕ
+simulationText o bs = pick (isRun o) (runText (used o bs) (isDone o)) (refusalText (o .number) (o .line))
+
+abbrev pub pageCount : Outcome → List ℕ → ℕ
+pageCount o bs = pick (isRun o) (pages (length (used o bs))) 1
+
+unfoldable pub simulationPage : Outcome → List ℕ → ℕ → List ℕ
+simulationPage o bs i = pick (isRun o) (pageText (used o bs) i (isDone o)) (refusalText (o .number) (o .line))

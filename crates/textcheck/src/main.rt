@@ -1,0 +1,140 @@
+// A program that writes every text the programs print: help and usage, the report and refusals of tree files, simulations of
+// refused, done and stopped runs by the word SLOTS, and refusals in words. The file `stdout` holds them, written apart from the
+// definitions.
+use libc::STDOUT_FILENO;
+use simulation::Asked;
+
+fn show(page: &[u8], n: usize) {
+    if n <= page.len() {
+        io::write_all(STDOUT_FILENO, &page[..n]);
+    }
+}
+
+fn show_page(page: &[u8; 65536], n: usize) {
+    show(page, n);
+}
+
+fn show_usage() {
+    let mut page = [0u8; 65536];
+    let n = usage::report_usage(&mut page);
+    show_page(&page, n);
+    let n = usage::report_help(&mut page);
+    show_page(&page, n);
+    let n = usage::simulate_usage(&mut page);
+    show_page(&page, n);
+    let n = usage::simulate_help(&mut page);
+    show_page(&page, n);
+}
+
+// The report; of a refused tree the first byte of the page, which is left as it was, and the refusal.
+fn report(tree: &[u8]) {
+    let mut page = [b'.'; 65536];
+    let r = plan::report(tree, &mut page);
+    if r.number == 0 {
+        show_page(&page, r.bytes);
+        return;
+    }
+    show_page(&page, 1);
+    let n = listing::refusal_text(r.number, r.line, &mut page);
+    show_page(&page, n);
+}
+
+// A refusal of the bytes in words.
+fn say(trace: bool, bytes: &[u8], number: u8, line: u32) {
+    let mut page = [0u8; 65536];
+    let n = reasons::reason_text(trace, bytes, number, line, &mut page);
+    show_page(&page, n);
+}
+
+// A wrong shape, line 1.
+fn say_shapes() {
+    say(false, b"\xef\xbb\xbfbus\t8\n", 1, 1);
+    say(false, b"bus\t8\r\n", 1, 1);
+    say(false, b"bus 8\n", 1, 1);
+    say(false, b"bus\t8", 1, 1);
+    say(false, b"\n", 1, 1);
+    say(false, b"buss\t8\n", 1, 1);
+    say(false, b"o\t0\t0\t1\n", 1, 1);
+    say(true, b"int\t0\t-\t-\t1\n", 1, 1);
+    say(false, b"int\t0\t-\t-\n", 1, 1);
+    say(true, b"o\t0\t01\t1\n", 1, 1);
+}
+
+// The fields of a line, each outside its limits where it can be: line 2.
+fn say_limits() {
+    say(false, b"\nbus\t0\t1\t4\t2\t2\t30\t25\t1\t1\t16\n", 2, 2);
+    say(false, b"\nbus\t8\t1\t4\t2\t2\t30\t25\t1\t1\t257\n", 2, 2);
+    say(false, b"\nint\t15\t0\t0\t1\n", 2, 2);
+    say(false, b"\nint\t1\t0\t0\t17\n", 2, 2);
+    say(false, b"\nacc\t32\t0\t0\t4\t2\t10\t5\t1000\t2000\n", 2, 2);
+    say(false, b"\nacc\t0\t0\t0\t32\t2\t10\t5\t1000\t2000\n", 2, 2);
+    say(false, b"\nacc\t0\t0\t0\t4\t2\t10\t5\t1000\t0\n", 2, 2);
+    say(true, b"\no\t4294967295\t0\t1\n", 2, 2);
+    say(true, b"\no\t0\t0\t17\n", 2, 2);
+    say(true, b"\no\t0\t0\t16\n", 2, 2);
+}
+
+// The other numbers, and the size of a file.
+fn say_numbers() {
+    let tree = b"bus\t8\n";
+    say(false, tree, 0, 1);
+    say(false, tree, 3, 1);
+    say(false, tree, 4, 1);
+    say(false, tree, 5, 1);
+    say(true, tree, 6, 1);
+    say(true, tree, 7, 1);
+    say(false, tree, 8, 0);
+    say(false, tree, 9, 0);
+    say(false, tree, 10, 0);
+    say(false, tree, 11, 0);
+    say(false, tree, 12, 1);
+    say(false, tree, 2, 0);
+}
+
+fn run_over(served: &mut [u8], tree: &[u8], trace: &[u8]) {
+    let o = razhikum::razhikum_run(tree, trace, served);
+    let mut page = [0u8; 65536];
+    let n = simulation::page_text(o, served, 0, &mut page);
+    show_page(&page, n);
+}
+
+fn simulate(tree: &[u8], trace: &[u8], word: &[u8]) {
+    let asked = simulation::slots_asked(word);
+    let Asked::Slots(k) = asked else {
+        io::write_all(STDOUT_FILENO, b"no number\n");
+        return;
+    };
+    let mut served = [0u8; 65537];
+    if k <= 65537 {
+        run_over(&mut served[..k], tree, trace);
+    }
+}
+
+fn simulate_words(tree: &[u8], trace: &[u8]) {
+    simulate(tree, trace, b"0");
+    simulate(tree, trace, b"1");
+    simulate(tree, trace, b"65536");
+    simulate(tree, trace, b"65537");
+    simulate(tree, trace, b"99999999999999999999999999");
+    simulate(tree, trace, b"");
+    simulate(tree, trace, b"00");
+    simulate(tree, trace, b"-1");
+    simulate(tree, trace, b"1x");
+}
+
+fn main() {
+    show_usage();
+    let tree =
+        b"bus\t8\t1\t4\t2\t2\t30\t25\t1\t1\t16\nint\t0\t-\t-\t1\nacc\t0\t0\t0\t4\t2\t10\t5\t1000\t2000\nacc\t1\t0\t3\t4\t2\t1\t0\t0\t100\n";
+    report(tree);
+    report(
+        b"bus\t8\t1\t4\t2\t2\t30\t25\t1\t1\t16\nint\t0\t-\t-\t1\nacc\t0\t0\t0\t33\t2\t10\t5\t1000\t2000\n",
+    );
+    report(b"");
+    simulate_words(tree, b"o\t0\t0\t1\no\t1\t1\t1\n");
+    simulate(b"x\n", b"", b"1");
+    simulate(tree, b"o\t0\t2\t1\n", b"1");
+    say_shapes();
+    say_limits();
+    say_numbers();
+}

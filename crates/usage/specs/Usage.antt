@@ -1,0 +1,40 @@
+-- What the programs say of themselves, and which words ask for it.
+--
+-- asksHelp w           the word asks for help; isOption w: it begins as an option does, and is not "-"
+-- reportUsage, simulateUsage   what is said where the arguments are wrong
+-- reportHelp, simulateHelp     what is said where help is asked for
+use Prim.Native.Nat.{ℕ}
+use mathlib.Core.Bool.{Bool, _&&_, _||_}
+use mathlib.Core.List.{List, _++_}
+use lib.Dec.{eqb, ltb}
+use lib.ListN.{length, getD}
+use Rattle.text.specs.Text.{same}
+use Rattle.put.specs.Page.{bytes}
+
+abbrev pub asksHelp : List ℕ → Bool
+asksHelp w = same w (bytes "-h") || same w (bytes "--help")
+
+abbrev pub isOption : List ℕ → Bool
+isOption w = ltb 1 (length w) && eqb (getD w 0 0) 45
+
+abbrev pub reportUsage : List ℕ
+reportUsage = bytes "usage: report [FILE]\nexample: report scanner.tree\n"
+
+abbrev pub reportHelp : List ℕ
+reportHelp =
+    bytes "report [FILE]: from a tree file, whether each accelerator's job meets its period at worst.\n"
+    ++ bytes "FILE is a tree file; standard input without one, or with -.\n"
+    ++ bytes "Columns: accelerator, level, share, interfering reads and writes, response and period in cycles, verdict.\n"
+    ++ bytes "A refused file prints \"refused\", the number of the cause and the line; standard error says it in words.\n"
+    ++ bytes "example: report scanner.tree\n"
+
+abbrev pub simulateUsage : List ℕ
+simulateUsage = bytes "usage: simulate TREE TRACE [SLOTS]\nexample: simulate scanner.tree scanner.trace 100\n"
+
+abbrev pub simulateHelp : List ℕ
+simulateHelp =
+    bytes "simulate TREE TRACE [SLOTS]: runs a trace of requests on a tree, and says who is served in each slot.\n"
+    ++ bytes "TREE and TRACE are files; one of the two may be -, standard input. SLOTS is 0 to 65536, or 65536 without one.\n"
+    ++ bytes "A line for each slot: its number, and the accelerator served or idle; then done or stopped, and the slots used.\n"
+    ++ bytes "A refused file prints \"refused\", the number of the cause and the line; standard error says it in words.\n"
+    ++ bytes "example: simulate scanner.tree scanner.trace 100\n"
