@@ -3,11 +3,14 @@
 -- isAccepted x          a reader's answer x is "accepted"
 -- fileRefused f x       0 if so, else f, the file that is refused
 -- readingOf f x         a reader's answer x as numbers, with f for the file that is refused: 1 the tree, 2 the trace
+-- acceptedCount x n     n accelerators where the tree's reading answers "accepted", else 0
+-- countOf x n           the number of accelerators n of the tree whose reading answers x, as numbers
 -- refusedBy k n l       an outcome of kind k, refused by number n at line l
 -- outcomeOf x           how a run ended, as numbers: kind 0 done, 1 stopped, 3 refused
 -- treeRefused x         the outcome where the tree's reading answers the refusal x: kind 2
 -- unbounded n l         no bounds, refused by number n at line l
--- rowOf x               what a bound answers, as numbers; 7 and 11 have no line
+-- rowOf x               what a bound answers, as numbers; yr and yw are the interference of its reads and of its writes; 7 and 11
+--                       have no line
 use Prim.Native.Nat.{ℕ}
 use mathlib.Core.Bool.{Bool, true, false}
 use Rattle.folds.specs.Fold.{pick}
@@ -17,6 +20,7 @@ use Rattle.lines.specs.declared.FileAnswer.the-variants.{Accepted, Refused, Bro
 use Rattle.runner.specs.Run.{Ending, refusedAt, broken, done, stopped}
 use Rattle.bounds.specs.Bounds.{BoundResult, refused, analysed}
 use Rattle.answers.specs.declared.Reading.{Reading}
+use Rattle.answers.specs.declared.Count.{Count}
 use Rattle.answers.specs.declared.Outcome.{Outcome}
 use Rattle.answers.specs.declared.Row.{Row}
 
@@ -30,6 +34,12 @@ fileRefused f x = pick (isAccepted x) 0 f
 
 abbrev pub readingOf : ℕ → FileAnswer → Reading
 readingOf f x = record { file = fileRefused f x; number = answerNumber x; line = answerLine x }
+
+abbrev pub acceptedCount : FileAnswer → ℕ → ℕ
+acceptedCount x n = pick (isAccepted x) n 0
+
+abbrev pub countOf : FileAnswer → ℕ → Count
+countOf x n = record { number = answerNumber x; line = answerLine x; accelerators = acceptedCount x n }
 
 abbrev pub refusedBy : ℕ → ℕ → ℕ → Outcome
 refusedBy k n l = record { kind = k; number = n; line = l; slots = 0 }
@@ -45,7 +55,7 @@ treeRefused x = refusedBy 2 (answerNumber x) (answerLine x)
 
 abbrev pub unbounded : ℕ → ℕ → Row
 unbounded n l =
-    record { number = n; line = l; level = 0; meets = false; share = 0; reads = 0; writes = 0; response = 0; period = 0 }
+    record { number = n; line = l; level = 0; meets = false; share = 0; yr = 0; yw = 0; response = 0; period = 0 }
 
 abbrev pub rowOf : BoundResult → Row
 rowOf (refused n) = unbounded n 0
@@ -56,8 +66,8 @@ rowOf (analysed r) =
       level = r .level;
       meets = r .meets;
       share = r .share;
-      reads = r .reads;
-      writes = r .writes;
+      yr = r .reads;
+      yw = r .writes;
       response = r .response;
       period = r .period;
     }

@@ -12,7 +12,7 @@ use runner::RunAnswer;
 ghost use mathlib.Core.Path.{_≡_};
 ghost use Rattle.runner.specs.Answers.{runMeans};
 ghost use Rattle.bounds.specs.Bounds.{meaningOf};
-ghost use Rattle.answers.specs.Numbers.{isAccepted, fileRefused, readingOf, outcomeOf, treeRefused, rowOf, unbounded};
+ghost use Rattle.answers.specs.Numbers.{isAccepted, fileRefused, readingOf, acceptedCount, countOf, outcomeOf, treeRefused, rowOf, unbounded};
 
 // What a reader answers. `file` says which file is refused: 0 neither, 1 the tree, 2 the trace.
 #[repr(C)]
@@ -32,7 +32,7 @@ pub struct Outcome {
     pub slots: u32,
 }
 
-// The bounds of an accelerator: all 0 and not met on a refusal.
+// The bounds of an accelerator, by the names of the report's columns: all 0 and not met on a refusal.
 #[repr(C)]
 pub struct Row {
     pub number: u8,
@@ -40,10 +40,18 @@ pub struct Row {
     pub level: u8,
     pub meets: bool,
     pub share: u64,
-    pub reads: u64,
-    pub writes: u64,
+    pub yr: u64,
+    pub yw: u64,
     pub response: u64,
     pub period: u64,
+}
+
+// How many accelerators a tree has: 0 on a refusal.
+#[repr(C)]
+pub struct Count {
+    pub number: u8,
+    pub line: u32,
+    pub accelerators: u8,
 }
 
 // Whether the file is accepted.
@@ -75,6 +83,27 @@ pub fn reading_of(file: u8, answer: FileAnswer) -> Reading
         file: file_refused(file, answer),
         number: answer_number(answer),
         line: answer_line(answer),
+    }
+}
+
+// How many accelerators an accepted tree has.
+fn accepted_count(answer: FileAnswer, accelerators: u8) -> u8
+    ensures { λ r. ⌜ r ≡ acceptedCount answer accelerators ⌝ }
+{
+    if is_accepted(answer) {
+        return accelerators;
+    }
+    0
+}
+
+// How many accelerators the tree of that answer has.
+pub fn count_of(answer: FileAnswer, accelerators: u8) -> Count
+    ensures { λ r. ⌜ r ≡ countOf answer accelerators ⌝ }
+{
+    Count {
+        number: answer_number(answer),
+        line: answer_line(answer),
+        accelerators: accepted_count(answer, accelerators),
     }
 }
 
@@ -132,8 +161,8 @@ pub fn unbounded(number: u8, line: u32) -> Row
         level: 0,
         meets: false,
         share: 0,
-        reads: 0,
-        writes: 0,
+        yr: 0,
+        yw: 0,
         response: 0,
         period: 0,
     }
@@ -151,8 +180,8 @@ pub fn row_of(answer: BoundAnswer) -> Row
             level: f.level,
             meets: f.meets,
             share: f.share,
-            reads: f.reads.0,
-            writes: f.writes.0,
+            yr: f.reads.0,
+            yw: f.writes.0,
             response: f.response.0,
             period: f.period.0,
         },

@@ -1,11 +1,13 @@
 -- What the exported functions answer, as numbers, from the definitions of document 01 that the libraries below cite.
 --
+-- version               1.0.0 as one number: 10,000 for the first figure, 100 for the second, 1 for the third
 -- treeReading q         the reading q of a tree file as numbers
 -- traceReading q s      the same for the trace s on that tree: a refused tree comes first
+-- countFrom q           the number of accelerators of the tree of reading q
 -- outcomeFrom q s d     the outcome of trace s on the tree of reading q over the buffer d
 -- bufferFrom q s d      the buffer d after it: a refused tree leaves it as it was
 -- rowFrom q a           the bounds of accelerator a on the tree of reading q
-use Prim.Native.Nat.{ℕ}
+use Prim.Native.Nat.{ℕ, _+_, _*_}
 use mathlib.Core.List.{List}
 use lib.ListN.{length}
 use Rattle.folds.specs.Fold.{pick}
@@ -15,15 +17,22 @@ use Rattle.placing.specs.declared.TreeRead.{TreeRead}
 use Rattle.runner.specs.Run.{ranOf, bufferAfter}
 use Rattle.bounds.specs.Bounds.{boundOf}
 use Rattle.answers.specs.declared.Reading.{Reading}
+use Rattle.answers.specs.declared.Count.{Count}
 use Rattle.answers.specs.declared.Outcome.{Outcome}
 use Rattle.answers.specs.declared.Row.{Row}
-use Rattle.answers.specs.Numbers.{isAccepted, readingOf, outcomeOf, treeRefused, unbounded, rowOf}
+use Rattle.answers.specs.Numbers.{isAccepted, readingOf, countOf, outcomeOf, treeRefused, unbounded, rowOf}
+
+abbrev pub version : ℕ
+version = 1 * 10000 + 0 * 100 + 0
 
 abbrev pub treeReading : TreeRead → Reading
 treeReading q = readingOf 1 (q .answer)
 
 abbrev pub traceReading : TreeRead → List ℕ → Reading
 traceReading q s = pick (isAccepted (q .answer)) (readingOf 2 (readTrace (q .tree) s)) (treeReading q)
+
+abbrev pub countFrom : TreeRead → Count
+countFrom q = countOf (q .answer) (q .tree .accs)
 
 abbrev pub outcomeFrom : TreeRead → List ℕ → List ℕ → Outcome
 outcomeFrom q s d = pick (isAccepted (q .answer)) (outcomeOf (ranOf (q .tree) s (length d))) (treeRefused (q .answer))

@@ -1,8 +1,11 @@
 // The planner for programs in C and Rust: what the static library exports, on numbers and byte slices. No function has a
-// `requires`: each answers every input, by a struct of numbers (`answers`). The header razhikum.h says the same to a C compiler.
+// `requires`: each answers every input, by a struct of numbers (`answers`). The header include/razhikum.h says the same to a C
+// compiler, and the package in rust/ to Rust.
+use answers::Count;
 use answers::Outcome;
 use answers::Reading;
 use answers::Row;
+use answers::count_of;
 use answers::is_accepted;
 use answers::outcome_of;
 use answers::reading_of;
@@ -18,7 +21,7 @@ use trace::read_trace;
 ghost use mathlib.Core.Path.{_≡_};
 ghost use Rattle.reader.specs.TreeFile.{readTree};
 ghost use Rattle.plan.specs.Plan.{Printing};
-ghost use Rattle.razhikum.specs.Exports.{treeReading, traceReading, outcomeFrom, bufferFrom, rowFrom};
+ghost use Rattle.razhikum.specs.Exports.{version, treeReading, traceReading, countFrom, outcomeFrom, bufferFrom, rowFrom};
 
 // A report as text: how many bytes of the page it has; or the refusal, which puts none.
 #[repr(C)]
@@ -26,6 +29,14 @@ pub struct Page {
     pub bytes: usize,
     pub number: u8,
     pub line: u32,
+}
+
+// The version of these functions and structs, as the header's RAZHIKUM_VERSION says it.
+#[no_mangle]
+pub extern "C" fn razhikum_version() -> u32
+    ensures { λ r. ⌜ r ≡ version ⌝ }
+{
+    10000
 }
 
 // Whether the tree file is accepted, or why and at which line it is refused.
@@ -49,6 +60,16 @@ pub extern "C" fn razhikum_read_trace(tree: &[u8], trace: &[u8]) -> Reading
         return reading_of(1, answer);
     }
     reading_of(2, read_trace(x.tree, trace))
+}
+
+// How many accelerators the tree file has: they are numbered from 0 on.
+#[no_mangle]
+pub extern "C" fn razhikum_count(tree: &[u8]) -> Count
+    ensures { λ r. ⌜ r ≡ countFrom (readTree (now (tree .entry))) ⌝ }
+{
+    let x = read_tree(tree);
+    let answer = x.answer;
+    count_of(answer, x.tree.accs)
 }
 
 // The report of a tree file, put at the beginning of `out`; a refusal is answered by number and line, and leaves `out` as it was.
