@@ -1,14 +1,15 @@
-/* The Razhikum planner as a static library, librazhikum.a, for x86-64.
+/* The Razhikum planner as a static library, librazhikum.a, for x86-64 under the System V calling convention (Linux, BSD).
  *
- * The rules, and the numbers of refusals, are those of document 01. Every function answers every input: none has a
- * condition on the values that it is given. What each answers is proved, refusals included.
+ * The rules, and the numbers of refusals, are those of docs/FORMAT.md and docs/MODEL.md. Every function answers every input:
+ * none has a condition on the values that it is given. What each answers is proved, refusals included.
  *
  * What a caller owes is only what C owes any function: a pointer is not null, not even with a length of 0, and has as many
  * bytes behind it as its length says; nothing else writes them during the call; and an `out` overlaps no other argument.
- * A file is passed as its bytes and their number. A file of more than 65,536 bytes is refused like any other.
+ * A file is passed as its bytes and their number. A file of more than RAZHIKUM_LIMIT bytes is refused like any other.
  *
- * In every answer `number` is the number of a refusal, or 0 where nothing is refused, and `line` its line, counted from 1,
- * or 0 where it has none (the size of a file or of a buffer; 7 and 11 of a call).
+ * In every answer `number` is the number of a refusal (enum razhikum_refusal), or 0 where nothing is refused, and `line` its
+ * line, counted from 1, or 0 where it has none (the size of a file or of a buffer; 7 and 11 of a call). A refusal leaves every
+ * `out` as it was.
  */
 #ifndef RAZHIKUM_H
 #define RAZHIKUM_H
@@ -21,20 +22,47 @@
 extern "C" {
 #endif
 
+/* The version of this header: 10000 for each first figure, 100 for each second, 1 for each third. 10000 is 1.0.0. */
+#define RAZHIKUM_VERSION 10000
+
+/* The version of the archive. Where it is not RAZHIKUM_VERSION, header and archive do not belong together. */
+uint32_t razhikum_version(void);
+
 /* The size of the page that razhikum_report writes on. */
 #define RAZHIKUM_PAGE 65536
 
-/* The most slots of a run: a larger buffer is refused by 2, with line 0. */
+/* The most bytes of a file: a larger one is refused by RAZHIKUM_RANGE, with line 0. */
+#define RAZHIKUM_LIMIT 65536
+
+/* The most slots of a run: a larger buffer is refused by RAZHIKUM_RANGE, with line 0. */
 #define RAZHIKUM_SLOTS 65536
 
 /* The byte of an idle slot. */
 #define RAZHIKUM_IDLE 255
 
+/* The number of a refusal (docs/FORMAT.md, F45). A tree file is refused by 1 to 5, a trace file by 1, 2, 6 or 7, a bound by 7
+ * where the tree has no such accelerator. 8 to 10 answer calls of the machine, which are not exported; 11 answers a
+ * configuration that no file gives. */
+enum razhikum_refusal {
+    RAZHIKUM_ACCEPTED = 0,
+    RAZHIKUM_SHAPE = 1,       /* a line of wrong shape: name, count of fields, a malformed number, a missing last LF */
+    RAZHIKUM_RANGE = 2,       /* a value, a total or a size outside its limits */
+    RAZHIKUM_ORDER = 3,       /* a record out of order, misnumbered, on an unknown interconnect, or missing */
+    RAZHIKUM_PORT_TAKEN = 4,  /* a port already taken */
+    RAZHIKUM_LEVEL = 5,       /* a level above 4 */
+    RAZHIKUM_FALLING = 6,     /* a trace slot smaller than in the line before */
+    RAZHIKUM_UNKNOWN = 7,     /* no such accelerator */
+    RAZHIKUM_OUTSTANDING = 8, /* phi transactions of the accelerator are outstanding */
+    RAZHIKUM_BUDGET = 9,      /* the accelerator's budget of this window is used */
+    RAZHIKUM_LAST_SLOT = 10,  /* the slot count is at its end */
+    RAZHIKUM_BROKEN = 11      /* the configuration or the state breaks its rules */
+};
+
 /* razhikum_reading.file: which file is refused. */
-enum { RAZHIKUM_FILE_NONE = 0, RAZHIKUM_FILE_TREE = 1, RAZHIKUM_FILE_TRACE = 2 };
+enum razhikum_file { RAZHIKUM_FILE_NONE = 0, RAZHIKUM_FILE_TREE = 1, RAZHIKUM_FILE_TRACE = 2 };
 
 /* razhikum_outcome.kind: how a run ended. The last stands for a refused trace and for a buffer that is too large. */
-enum {
+enum razhikum_kind {
     RAZHIKUM_DONE = 0,
     RAZHIKUM_STOPPED = 1,
     RAZHIKUM_TREE_REFUSED = 2,
@@ -48,7 +76,14 @@ typedef struct {
     uint32_t line;
 } razhikum_reading;
 
-/* A text put on a page: how many bytes it has, and the refusal that it tells. */
+/* How many accelerators a tree has: 0 on a refusal. */
+typedef struct {
+    uint8_t number;
+    uint32_t line;
+    uint8_t accelerators;
+} razhikum_counted;
+
+/* A report put on a page: how many bytes it has, 0 on a refusal. */
 typedef struct {
     size_t bytes;
     uint8_t number;
@@ -63,16 +98,17 @@ typedef struct {
     uint32_t slots;
 } razhikum_outcome;
 
-/* The bounds of an accelerator: its level, whether it meets its period, its share, the interference of its reads and of
- * its writes in slots, its response and its period in clock cycles. On a refusal all of these are 0. */
+/* The bounds of an accelerator, by the names of the report's columns: its level, whether it meets its period, its share, the
+ * interference of its reads (yr) and of its writes (yw) in slots, its response and its period in clock cycles. On a refusal
+ * all of these are 0. */
 typedef struct {
     uint8_t number;
     uint32_t line;
     uint8_t level;
     bool meets;
     uint64_t share;
-    uint64_t reads;
-    uint64_t writes;
+    uint64_t yr;
+    uint64_t yw;
     uint64_t response;
     uint64_t period;
 } razhikum_row;
@@ -84,8 +120,11 @@ razhikum_reading razhikum_read_tree(const uint8_t *tree, size_t tree_bytes);
  * first. */
 razhikum_reading razhikum_read_trace(const uint8_t *tree, size_t tree_bytes, const uint8_t *trace, size_t trace_bytes);
 
-/* Puts the report of a tree file, or its refusal as one line, at the beginning of `out`, which has RAZHIKUM_PAGE bytes.
- * The bytes past the text keep their contents. */
+/* How many accelerators a tree file has. They are numbered from 0 on. */
+razhikum_counted razhikum_count(const uint8_t *tree, size_t tree_bytes);
+
+/* Puts the report of a tree file at the beginning of `out`, which has RAZHIKUM_PAGE bytes. The bytes past the text keep their
+ * contents. A refusal is answered by number and line and leaves the page as it was: `bytes` is 0 then. */
 razhikum_page razhikum_report(const uint8_t *tree, size_t tree_bytes, uint8_t *out);
 
 /* Runs a trace on a tree and writes one byte a slot into `out`: the number of the accelerator served, or RAZHIKUM_IDLE. The

@@ -1,13 +1,17 @@
-// Links the proved static library, which `rt staticlib razhikum` writes.
-use std::path::Path;
+//! Links the proved static library, which `rt staticlib razhikum` writes: `target/staticlib` of this repository, or the folder
+//! that RAZHIKUM_LIB_DIR names.
+use std::path::{Path, PathBuf};
 
 fn main() {
-    let folder = Path::new(env!("CARGO_MANIFEST_DIR")).join("../target/staticlib");
+    println!("cargo::rerun-if-env-changed=RAZHIKUM_LIB_DIR");
+    let of_repository = || Path::new(env!("CARGO_MANIFEST_DIR")).join("../target/staticlib");
+    let folder = std::env::var_os("RAZHIKUM_LIB_DIR").map_or_else(of_repository, PathBuf::from);
     let archive = folder.join("librazhikum.a");
     println!("cargo::rerun-if-changed={}", archive.display());
     if !archive.exists() {
         println!(
-            "cargo::error=target/staticlib/librazhikum.a is missing: run `rt staticlib razhikum` in the repository first"
+            "cargo::error={} is missing: run `rt staticlib razhikum` in the repository, or name its folder in RAZHIKUM_LIB_DIR",
+            archive.display()
         );
         return;
     }

@@ -1,6 +1,4 @@
-//! The proved library (`library`), an independent implementation of document 01 (`peer`), and the inputs on which they are
-//! compared and timed.
-pub mod answers;
+//! An independent implementation of document 01 (`peer`), and the inputs on which it and the proved library (the package
+//! `razhikum`) are compared and timed.
 pub mod inputs;
-pub mod library;
 pub mod peer;

@@ -1,7 +1,7 @@
 //! Times library and peer side by side, and how the times grow.
-use razhikum_bench::answers::PAGE;
+use razhikum::PAGE;
 use razhikum_bench::inputs::{busy_trace, deep_tree, full_tree, middle_tree, small_tree, wide_tree};
-use razhikum_bench::{library, peer};
+use razhikum_bench::peer;
 use std::hint::black_box;
 use std::path::Path;
 use std::process::{Command, Stdio};
@@ -75,7 +75,7 @@ fn reading_row(what: &str, tree: &[u8]) -> f64 {
     row(
         what,
         &mut || {
-            let _ = black_box(library::read_tree(black_box(tree)));
+            let _ = black_box(razhikum::read_tree(black_box(tree)));
         },
         &mut || {
             let _ = black_box(peer::read::read_tree(black_box(tree)));
@@ -85,11 +85,11 @@ fn reading_row(what: &str, tree: &[u8]) -> f64 {
 
 /// The trace reader. The library reads the tree in the same call, and so does the peer here.
 fn trace_row(what: &str, tree: &[u8], trace: &[u8]) -> f64 {
-    library::read_trace(tree, trace).expect("a sound trace");
+    razhikum::read_trace(tree, trace).expect("a sound trace");
     row(
         what,
         &mut || {
-            let _ = black_box(library::read_trace(black_box(tree), black_box(trace)));
+            let _ = black_box(razhikum::read_trace(black_box(tree), black_box(trace)));
         },
         &mut || {
             let read = peer::read::read_tree(black_box(tree)).expect("a sound tree");
@@ -106,7 +106,7 @@ fn bounds_row(what: &str, tree: &[u8]) -> f64 {
         what,
         &mut || {
             for a in 0..n {
-                let _ = black_box(library::bound(black_box(tree), a));
+                let _ = black_box(razhikum::bound(black_box(tree), a));
             }
         },
         &mut || {
@@ -123,7 +123,7 @@ fn report_row(what: &str, tree: &[u8]) -> f64 {
     row(
         what,
         &mut || {
-            let _ = black_box(library::report(black_box(tree), &mut page));
+            let _ = black_box(razhikum::report(black_box(tree), &mut page));
         },
         &mut || {
             let _ = black_box(peer::report::report(black_box(tree), &mut text));
@@ -135,14 +135,14 @@ fn report_row(what: &str, tree: &[u8]) -> f64 {
 fn run_row(what: &str, tree: &[u8], slots: u32) -> f64 {
     let trace = busy_trace(tree, slots);
     let (mut ours, mut theirs) = (vec![0; slots as usize], vec![0; slots as usize]);
-    let ending = library::run(tree, &trace, &mut ours).expect("a sound trace");
+    let ending = razhikum::run(tree, &trace, &mut ours).expect("a sound trace");
     assert_eq!(Ok(ending), peer::run::run(tree, &trace, &mut theirs));
     assert_eq!(ours, theirs);
     assert!(!ours.contains(&255), "an idle slot");
     row(
         what,
         &mut || {
-            let _ = black_box(library::run(black_box(tree), black_box(&trace), &mut ours));
+            let _ = black_box(razhikum::run(black_box(tree), black_box(&trace), &mut ours));
         },
         &mut || {
             let _ = black_box(peer::run::run(black_box(tree), black_box(&trace), &mut theirs));

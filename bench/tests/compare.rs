@@ -3,10 +3,10 @@
 mod common;
 
 use common::simple::{self, Budget};
-use razhikum_bench::answers::{Ending, FileRefused, PAGE};
+use razhikum::{Ending, FileRefused, PAGE};
 use razhikum_bench::inputs::{damage_bytes, damage_lines, random_trace, random_tree, text, Random};
+use razhikum_bench::peer;
 use razhikum_bench::peer::read::{read_trace, read_tree};
-use razhikum_bench::{library, peer};
 use std::collections::BTreeMap;
 
 const TREES: usize = 1_000_000;
@@ -58,25 +58,27 @@ fn tree_file(random: &mut Random) -> Vec<u8> {
 }
 
 fn compare_tree(file: &[u8], random: &mut Random, counts: &mut Counts, page: &mut [u8; PAGE]) {
-    let read = read_tree(file).map(|_| ());
-    check("tree reader", library::read_tree(file), read, &[file]);
+    let tree = read_tree(file);
+    let read = tree.as_ref().map(|_| ()).map_err(|e| *e);
+    check("tree reader", razhikum::read_tree(file), read, &[file]);
+    check("count", razhikum::count(file), tree.map(|t| t.accelerators.len() as u8), &[file]);
     let a = if random.one_in(4) { random.below(256) } else { random.below(8) } as u8;
     let of_peer = peer::bounds::bound(file, a);
-    check("bound", library::bound(file, a), of_peer, &[file]);
+    check("bound", razhikum::bound(file, a), of_peer, &[file]);
 
     // The bytes past the text keep what was there: of most pages the next few thousand are compared, of some all.
     let filled = random.below(256) as u8;
     let room = if random.one_in(500) { PAGE } else { 4_096 };
     page[..room].fill(filled);
-    let (bytes, answer) = library::report(file, page);
+    let answer = razhikum::report(file, page).map(<[u8]>::len);
     let mut expected = Vec::new();
-    check("report", answer, peer::report::report(file, &mut expected), &[file]);
-    check("report's bytes", bytes, expected.len(), &[file]);
+    let of_peer = peer::report::report(file, &mut expected);
+    check("report", answer, of_peer.map(|()| expected.len()), &[file]);
     expected.resize(room, filled);
     check("report's text", &page[..room], &expected[..], &[file]);
     counts.add(match read {
         Ok(()) => "accepted".into(),
-        Err(refused) => format!("refused {}", refused.number),
+        Err(refused) => format!("refused {}", refused.cause.number()),
     });
 }
 
@@ -88,7 +90,7 @@ fn compare_trees() -> usize {
         let file = tree_file(&mut random);
         compare_tree(&file, &mut random, &mut counts, &mut page);
     }
-    counts.print("tree files: reader, a bound, the report");
+    counts.print("tree files: reader, count, a bound, the report");
     TREES
 }
 
@@ -125,8 +127,8 @@ fn run_answer(answer: &Result<Ending, FileRefused>) -> String {
     match answer {
         Ok(Ending::Done(_)) => "done".into(),
         Ok(Ending::Stopped(_)) => "stopped".into(),
-        Err(FileRefused::Tree(r)) => format!("tree refused {}", r.number),
-        Err(FileRefused::Trace(r)) => format!("trace or buffer refused {}", r.number),
+        Err(FileRefused::Tree(r)) => format!("tree refused {}", r.cause.number()),
+        Err(FileRefused::Trace(r)) => format!("trace or buffer refused {}", r.cause.number()),
     }
 }
 
@@ -137,10 +139,10 @@ fn compare_run(tree: &[u8], trace: &[u8], slots: usize, counts: &mut Counts) -> 
         .and_then(|t| read_trace(t.accelerators.len(), trace).map_err(FileRefused::Trace));
     let files = [tree, trace];
     let reading = read.as_ref().map(|_| ()).map_err(|e| *e);
-    check("trace reader", library::read_trace(tree, trace), reading, &files);
+    check("trace reader", razhikum::read_trace(tree, trace), reading, &files);
     let filled = (slots % 256) as u8;
     let (mut ours, mut theirs) = (vec![filled; slots], vec![filled; slots]);
-    let answer = library::run(tree, trace, &mut ours);
+    let answer = razhikum::run(tree, trace, &mut ours);
     check("run", answer, peer::run::run(tree, trace, &mut theirs), &files);
     check("run's bytes", &ours, &theirs, &files);
     counts.add(run_answer(&answer));

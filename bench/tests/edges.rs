@@ -1,6 +1,5 @@
 //! The edge files of crates/readcheck, whose answers the proved program is held to, read by the peer and by the library.
-use razhikum_bench::answers::Refused;
-use razhikum_bench::library;
+use razhikum::{FileRefused, Refused};
 use razhikum_bench::peer::read::{read_trace, read_tree};
 
 /// A trace is read on the tree of document 01's report, which is the first file.
@@ -10,7 +9,7 @@ acc\t0\t0\t0\t4\t2\t10\t5\t1000\t2000\nacc\t1\t0\t3\t4\t2\t1\t0\t0\t100\n";
 fn answer<T>(name: &str, read: Result<T, Refused>, figures: impl Fn(T) -> (u64, u64)) -> String {
     match read.map(figures) {
         Ok((a, b)) => format!("{name}\taccepted\t{a}\t{b}"),
-        Err(r) => format!("{name}\trefused\t{}\t{}", r.number, r.line),
+        Err(r) => format!("{name}\trefused\t{}\t{}", r.cause.number(), r.line),
     }
 }
 
@@ -34,13 +33,12 @@ fn edge_files() {
         let peer = if kind == "t" {
             let figures =
                 |t: razhikum_bench::peer::read::Tree| (t.interconnects.len() as u64, t.accelerators.len() as u64);
-            assert_eq!(library::read_tree(file), read_tree(file).map(|_| ()), "{name}");
+            assert_eq!(razhikum::read_tree(file), read_tree(file).map(|_| ()), "{name}");
             answer(name, read_tree(file), figures)
         } else {
             let read = read_trace(2, file);
-            let refused = razhikum_bench::answers::FileRefused::Trace;
-            let peer = read.as_ref().map(|_| ()).map_err(|r| refused(*r));
-            assert_eq!(library::read_trace(TREE, file), peer, "{name}");
+            let peer = read.as_ref().map(|_| ()).map_err(|r| FileRefused::Trace(*r));
+            assert_eq!(razhikum::read_trace(TREE, file), peer, "{name}");
             answer(name, read, |requests| {
                 let sum = requests.iter().map(|r| u64::from(r.count)).sum();
                 (requests.len() as u64, sum)

@@ -1,6 +1,6 @@
 //! Figures of document 01 ("Figures to check by") and the limits on sizes, by library and peer alike.
-use razhikum_bench::answers::{Ending, FileRefused, Refused, PAGE};
-use razhikum_bench::{library, peer};
+use razhikum::{Ending, FileRefused, Refused, PAGE};
+use razhikum_bench::peer;
 
 const BUS: &str = "bus 16 1 4 2 2 30 25 1 1 16\nint 0 - - 1\n";
 
@@ -10,7 +10,7 @@ fn file(spaced: &str) -> Vec<u8> {
 
 fn shares(tree: &[u8], expected: &[u64]) {
     for (a, share) in expected.iter().enumerate() {
-        let bound = library::bound(tree, a as u8).expect("a bound");
+        let bound = razhikum::bound(tree, a as u8).expect("a bound");
         assert_eq!(bound.share, *share);
         assert_eq!(Ok(bound), peer::bounds::bound(tree, a as u8));
     }
@@ -18,7 +18,7 @@ fn shares(tree: &[u8], expected: &[u64]) {
 
 fn run(tree: &[u8], trace: &[u8], slots: usize) -> (Result<Ending, FileRefused>, Vec<u8>) {
     let (mut out, mut other) = (vec![99; slots], vec![99; slots]);
-    let ending = library::run(tree, trace, &mut out);
+    let ending = razhikum::run(tree, trace, &mut out);
     assert_eq!(ending, peer::run::run(tree, trace, &mut other));
     assert_eq!(out, other);
     (ending, out)
@@ -52,8 +52,8 @@ fn the_report() {
         "acc level share yr yw resp period verdict\n0 1 2 10 5 2460 2000 late\n1 1 2 1 0 100 100 meets\nall late\n",
     );
     let mut page = Box::new([0; PAGE]);
-    let (bytes, answer) = library::report(&tree, &mut page);
-    assert_eq!((&page[..bytes], answer), (&expected[..], Ok(())));
+    assert_eq!(razhikum::report(&tree, &mut page), Ok(&expected[..]));
+    assert_eq!(razhikum::count(&tree), Ok(2));
     let mut text = Vec::new();
     assert_eq!(peer::report::report(&tree, &mut text), Ok(()));
     assert_eq!(text, expected);
@@ -63,7 +63,7 @@ fn the_report() {
 #[test]
 fn sizes_and_totals() {
     let tree = file(&format!("{BUS}acc 0 0 0 4 8 1 1 0 1\n"));
-    let too_large = Err(FileRefused::Trace(Refused { number: 2, line: 0 }));
+    let too_large = Err(FileRefused::Trace(Refused::by(2, 0)));
     let full = file("o 0 0 1\n").repeat(8_192);
     assert_eq!(full.len(), 65_536);
     assert_eq!(run(&tree, &full, 4).0, Ok(Ending::Stopped(4)));
@@ -71,6 +71,6 @@ fn sizes_and_totals() {
     assert_eq!(run(&tree, b"", 65_536).0, Ok(Ending::Done(0)));
     assert_eq!(run(&tree, b"x", 65_537).0, too_large);
     let total = file("o 0 0 16\n").repeat(4_096);
-    let over = Refused { number: 2, line: 4_096 };
+    let over = Refused::by(2, 4_096);
     assert_eq!(run(&tree, &total, 4).0, Err(FileRefused::Trace(over)));
 }

@@ -1,40 +1,165 @@
-//! Answers in the terms of document 01, which the library's wrapper and the peer both give.
+//! What the planner answers, in the terms of `docs/FORMAT.md` and `docs/MODEL.md`.
+use core::fmt;
 
-/// A refusal: its number in document 01's table, and its line, 0 where it has none.
-#[derive(Clone, Copy, Debug, PartialEq, Eq)]
+/// Why a file or a call is refused (`docs/FORMAT.md`, F45). Each cause has a number: [`Cause::number`], and back by `from`.
+#[derive(Clone, Copy, Debug, PartialEq, Eq, Hash)]
+pub enum Cause {
+    /// 1: a line of wrong shape: record name, count of fields, a malformed number, a missing last LF.
+    Shape,
+    /// 2: a value, a total or a size outside its limits.
+    Range,
+    /// 3: a record out of order, misnumbered, on an unknown interconnect, or missing.
+    Order,
+    /// 4: a port already taken.
+    PortTaken,
+    /// 5: a level above 4.
+    Level,
+    /// 6: a trace slot smaller than in the line before.
+    Falling,
+    /// 7: no such accelerator.
+    Unknown,
+    /// 8: phi transactions of the accelerator are outstanding. No function here answers it.
+    Outstanding,
+    /// 9: the accelerator's budget of this window is used. No function here answers it.
+    Budget,
+    /// 10: the slot count is at its end. No function here answers it.
+    LastSlot,
+    /// 11: the configuration or the state breaks its rules. No file gives such a configuration.
+    Broken,
+    /// A number that is none of these, so that every number has its cause. The archive of this version answers none.
+    Other(u8),
+}
+
+impl From<u8> for Cause {
+    fn from(number: u8) -> Cause {
+        match number {
+            1 => Cause::Shape,
+            2 => Cause::Range,
+            3 => Cause::Order,
+            4 => Cause::PortTaken,
+            5 => Cause::Level,
+            6 => Cause::Falling,
+            7 => Cause::Unknown,
+            8 => Cause::Outstanding,
+            9 => Cause::Budget,
+            10 => Cause::LastSlot,
+            11 => Cause::Broken,
+            other => Cause::Other(other),
+        }
+    }
+}
+
+impl Cause {
+    /// The number of this cause, as the archive and the programs answer it.
+    pub const fn number(self) -> u8 {
+        match self {
+            Cause::Shape => 1,
+            Cause::Range => 2,
+            Cause::Order => 3,
+            Cause::PortTaken => 4,
+            Cause::Level => 5,
+            Cause::Falling => 6,
+            Cause::Unknown => 7,
+            Cause::Outstanding => 8,
+            Cause::Budget => 9,
+            Cause::LastSlot => 10,
+            Cause::Broken => 11,
+            Cause::Other(other) => other,
+        }
+    }
+}
+
+impl fmt::Display for Cause {
+    fn fmt(&self, f: &mut fmt::Formatter<'_>) -> fmt::Result {
+        f.write_str(match self {
+            Cause::Shape => "a line of wrong shape",
+            Cause::Range => "a value, a total or a size outside its limits",
+            Cause::Order => "a record out of order, misnumbered, on an unknown interconnect, or missing",
+            Cause::PortTaken => "a port already taken",
+            Cause::Level => "a level above 4",
+            Cause::Falling => "a slot smaller than in the line before",
+            Cause::Unknown => "no such accelerator",
+            Cause::Outstanding => "as many transactions outstanding as phi allows",
+            Cause::Budget => "the budget of this window used",
+            Cause::LastSlot => "the slot count at its end",
+            Cause::Broken => "a configuration or a state that breaks its rules",
+            Cause::Other(_) => "an unknown cause",
+        })
+    }
+}
+
+/// A refusal: its cause, and its line, counted from 1, or 0 where it has none (the size of a file or of a buffer; a call).
+#[derive(Clone, Copy, Debug, PartialEq, Eq, Hash)]
 pub struct Refused {
-    pub number: u8,
+    /// Why.
+    pub cause: Cause,
+    /// Where.
     pub line: u32,
 }
 
-/// A refusal of a call with two files: the tree comes first. The size of the output buffer counts to the trace.
-#[derive(Clone, Copy, Debug, PartialEq, Eq)]
+impl Refused {
+    /// The refusal of this number at this line.
+    pub fn by(number: u8, line: u32) -> Refused {
+        Refused { cause: Cause::from(number), line }
+    }
+}
+
+impl fmt::Display for Refused {
+    fn fmt(&self, f: &mut fmt::Formatter<'_>) -> fmt::Result {
+        write!(f, "refused by {}", self.cause.number())?;
+        if self.line > 0 {
+            write!(f, " at line {}", self.line)?;
+        }
+        write!(f, ": {}", self.cause)
+    }
+}
+
+impl core::error::Error for Refused {}
+
+/// A refusal of a call with two files: a tree that is refused comes first. The size of the output buffer counts to the trace.
+#[derive(Clone, Copy, Debug, PartialEq, Eq, Hash)]
 pub enum FileRefused {
+    /// The tree file is refused.
     Tree(Refused),
+    /// The tree file is accepted; the trace file, or the size of the output buffer, is refused.
     Trace(Refused),
 }
 
+impl fmt::Display for FileRefused {
+    fn fmt(&self, f: &mut fmt::Formatter<'_>) -> fmt::Result {
+        match self {
+            FileRefused::Tree(refused) => write!(f, "tree {refused}"),
+            FileRefused::Trace(refused) => write!(f, "trace {refused}"),
+        }
+    }
+}
+
+impl core::error::Error for FileRefused {}
+
 /// How a run ended, with the number of slots used.
-#[derive(Clone, Copy, Debug, PartialEq, Eq)]
+#[derive(Clone, Copy, Debug, PartialEq, Eq, Hash)]
 pub enum Ending {
+    /// Everything that the trace asks for is served.
     Done(u32),
+    /// The buffer is full, and something is left.
     Stopped(u32),
 }
 
-/// The bounds of one accelerator.
-#[derive(Clone, Copy, Debug, PartialEq, Eq)]
+/// The bounds of one accelerator, by the names of the report's columns.
+#[derive(Clone, Copy, Debug, PartialEq, Eq, Hash)]
 pub struct Bound {
+    /// The level of the interconnect that it is on; the root has level 1.
     pub level: u8,
+    /// Within how many slots a transaction with none of its own before it is served.
     pub share: u64,
-    pub reads: u64,
-    pub writes: u64,
+    /// The interference of its reads, in slots.
+    pub yr: u64,
+    /// The interference of its writes, in slots.
+    pub yw: u64,
+    /// The response of a job, in clock cycles: an upper bound on its time, waiting for a new window left out.
     pub response: u64,
+    /// Its period, in clock cycles.
     pub period: u64,
+    /// Whether the response is at most the period.
     pub meets: bool,
 }
-
-/// The page that a report is put on.
-pub const PAGE: usize = 65_536;
-
-/// The most bytes that a file or an output buffer may have.
-pub const LIMIT: usize = 65_536;

@@ -1,66 +1,63 @@
-//! The static library `librazhikum.a` for Rust: slices in, enums and structs out. No function of the library has a
-//! `requires`, so every call is safe: what C passes as a pointer and a length comes from a slice here.
-use crate::answers::{Bound, Ending, FileRefused, Refused, PAGE};
+//! The Razhikum planner for Rust: whether the blocks of a tree of interconnects meet their periods, and which block is served in
+//! which slot. The work is done by the proved static library `librazhikum.a`, which `rt staticlib razhikum` writes for x86-64;
+//! this package wraps it: slices in, enums and structs out.
+//!
+//! No function of the library has a condition on the values that it is given, so every call is safe and answers every input,
+//! files of any bytes included. What C passes as a pointer and a length comes from a slice here. Files are those of
+//! `docs/FORMAT.md`; what is computed is in `docs/MODEL.md`. The stack that a call needs is said in `include/razhikum.h`.
+//!
+//! Any number of threads may call at the same time: the library has no memory of its own. It writes its caller's stack and the
+//! buffer that the call lends, and nothing else.
+//!
+//! ```
+//! let tree = b"bus\t8\t1\t4\t2\t2\t30\t25\t1\t1\t16\n\
+//!              int\t0\t-\t-\t1\n\
+//!              acc\t0\t0\t0\t4\t2\t10\t5\t1000\t2000\n\
+//!              acc\t1\t0\t3\t4\t2\t1\t0\t0\t100\n";
+//! assert_eq!(razhikum::count(tree)?, 2);
+//! let camera = razhikum::bound(tree, 0)?;
+//! assert_eq!((camera.share, camera.yr, camera.yw), (2, 10, 5));
+//! assert_eq!((camera.response, camera.period, camera.meets), (2460, 2000, false));
+//!
+//! let mut served = [0; 4];
+//! let ending = razhikum::run(tree, b"o\t0\t0\t2\no\t0\t1\t1\n", &mut served)?;
+//! assert_eq!(ending, razhikum::Ending::Done(3));
+//! assert_eq!(served[..3], [0, 1, 0]);
+//!
+//! let refused = razhikum::bound(tree, 2).unwrap_err();
+//! assert_eq!(refused.cause, razhikum::Cause::Unknown);
+//! # Ok::<(), Box<dyn std::error::Error>>(())
+//! ```
+#![no_std]
+#![warn(missing_docs)]
 
-/// The structs and functions of `include/razhikum.h`.
-mod raw {
-    #[repr(C)]
-    pub struct Reading {
-        pub file: u8,
-        pub number: u8,
-        pub line: u32,
-    }
+mod answers;
+mod raw;
 
-    #[repr(C)]
-    pub struct Page {
-        pub bytes: usize,
-        pub number: u8,
-        pub line: u32,
-    }
+pub use answers::{Bound, Cause, Ending, FileRefused, Refused};
 
-    #[repr(C)]
-    pub struct Outcome {
-        pub kind: u8,
-        pub number: u8,
-        pub line: u32,
-        pub slots: u32,
-    }
+/// The version of this wrapper: 10,000 for each first figure, 100 for each second, 1 for each third.
+pub const VERSION: u32 = 10_000;
 
-    #[repr(C)]
-    pub struct Row {
-        pub number: u8,
-        pub line: u32,
-        pub level: u8,
-        pub meets: bool,
-        pub share: u64,
-        pub reads: u64,
-        pub writes: u64,
-        pub response: u64,
-        pub period: u64,
-    }
+/// The size of the page that a report is put on, in bytes.
+pub const PAGE: usize = 65_536;
 
-    extern "C" {
-        pub fn razhikum_read_tree(tree: *const u8, tree_bytes: usize) -> Reading;
-        pub fn razhikum_read_trace(tree: *const u8, tree_bytes: usize, trace: *const u8, trace_bytes: usize)
-            -> Reading;
-        pub fn razhikum_report(tree: *const u8, tree_bytes: usize, out: *mut [u8; 65_536]) -> Page;
-        pub fn razhikum_run(
-            tree: *const u8,
-            tree_bytes: usize,
-            trace: *const u8,
-            trace_bytes: usize,
-            out: *mut u8,
-            out_bytes: usize,
-        ) -> Outcome;
-        pub fn razhikum_bound(tree: *const u8, tree_bytes: usize, accelerator: u8) -> Row;
-    }
-}
+/// The most bytes that a file, and the most slots that a run's buffer may have.
+pub const LIMIT: usize = 65_536;
+
+/// The byte of an idle slot.
+pub const IDLE: u8 = 255;
 
 fn refusal(number: u8, line: u32) -> Result<(), Refused> {
     match number {
         0 => Ok(()),
-        _ => Err(Refused { number, line }),
+        _ => Err(Refused::by(number, line)),
     }
+}
+
+/// The version of the archive that is linked. Where it is not [`VERSION`], wrapper and archive do not belong together.
+pub fn version() -> u32 {
+    unsafe { raw::razhikum_version() }
 }
 
 /// Whether a tree file is accepted.
@@ -72,7 +69,7 @@ pub fn read_tree(tree: &[u8]) -> Result<(), Refused> {
 /// Whether a tree file and, on its tree, a trace file are accepted.
 pub fn read_trace(tree: &[u8], trace: &[u8]) -> Result<(), FileRefused> {
     let r = unsafe { raw::razhikum_read_trace(tree.as_ptr(), tree.len(), trace.as_ptr(), trace.len()) };
-    let why = Refused { number: r.number, line: r.line };
+    let why = Refused::by(r.number, r.line);
     match r.file {
         0 => Ok(()),
         1 => Err(FileRefused::Tree(why)),
@@ -80,18 +77,28 @@ pub fn read_trace(tree: &[u8], trace: &[u8]) -> Result<(), FileRefused> {
     }
 }
 
-/// Puts the report of a tree file, or its refusal as one line, at the beginning of `page`; how many bytes that are.
-pub fn report(tree: &[u8], page: &mut [u8; PAGE]) -> (usize, Result<(), Refused>) {
-    let r = unsafe { raw::razhikum_report(tree.as_ptr(), tree.len(), page) };
-    (r.bytes, refusal(r.number, r.line))
+/// How many accelerators a tree file has. They are numbered from 0 on.
+pub fn count(tree: &[u8]) -> Result<u8, Refused> {
+    let r = unsafe { raw::razhikum_count(tree.as_ptr(), tree.len()) };
+    refusal(r.number, r.line)?;
+    Ok(r.accelerators)
 }
 
-/// Runs a trace on a tree and writes one byte a slot: the accelerator's number, or 255 for idle.
+/// Puts the report of a tree file at the beginning of `page`, and gives that part of it. The bytes past it keep their contents;
+/// on a refusal all do.
+pub fn report<'a>(tree: &[u8], page: &'a mut [u8; PAGE]) -> Result<&'a [u8], Refused> {
+    let r = unsafe { raw::razhikum_report(tree.as_ptr(), tree.len(), page.as_mut_ptr()) };
+    refusal(r.number, r.line)?;
+    Ok(&page[..r.bytes])
+}
+
+/// Runs a trace on a tree and writes one byte a slot into `out`: the accelerator's number, or [`IDLE`]. The bytes past the slots
+/// used keep their contents; on a refusal all do.
 pub fn run(tree: &[u8], trace: &[u8], out: &mut [u8]) -> Result<Ending, FileRefused> {
     let r = unsafe {
         raw::razhikum_run(tree.as_ptr(), tree.len(), trace.as_ptr(), trace.len(), out.as_mut_ptr(), out.len())
     };
-    let why = Refused { number: r.number, line: r.line };
+    let why = Refused::by(r.number, r.line);
     match r.kind {
         0 => Ok(Ending::Done(r.slots)),
         1 => Ok(Ending::Stopped(r.slots)),
@@ -100,15 +107,16 @@ pub fn run(tree: &[u8], trace: &[u8], out: &mut [u8]) -> Result<Ending, FileRefu
     }
 }
 
-/// The bounds of an accelerator of a tree file.
+/// The bounds of an accelerator of a tree file: refused as the tree is, or by [`Cause::Unknown`] where the tree has no such
+/// accelerator.
 pub fn bound(tree: &[u8], accelerator: u8) -> Result<Bound, Refused> {
     let r = unsafe { raw::razhikum_bound(tree.as_ptr(), tree.len(), accelerator) };
     refusal(r.number, r.line)?;
     Ok(Bound {
         level: r.level,
         share: r.share,
-        reads: r.reads,
-        writes: r.writes,
+        yr: r.yr,
+        yw: r.yw,
         response: r.response,
         period: r.period,
         meets: r.meets,

@@ -1,6 +1,6 @@
 //! Capacity, share, interference, response and verdict ("Bounds").
-use crate::answers::{Bound, Refused};
 use crate::peer::read::{read_tree, Port, Tree};
+use razhikum::{Bound, Refused};
 
 /// What may be outstanding beneath each interconnect: the sum of phi down to the accelerators.
 fn capacities(tree: &Tree) -> [u64; 15] {
@@ -51,8 +51,8 @@ fn bound_with(tree: &Tree, beneath: &[u64; 15], a: usize) -> Bound {
     let level = tree.interconnects[accelerator.interconnect as usize].level;
     let l = u64::from(level);
     let share = share(tree, beneath, a);
-    let reads = accelerator.reads * (share - 1);
-    let writes = accelerator.writes * (share - 1);
+    let yr = accelerator.reads * (share - 1);
+    let yw = accelerator.writes * (share - 1);
     let words = bus.burst * bus.td;
     let alone_read = bus.ta + l * bus.da + bus.pr + l * bus.dd + words;
     let alone_write = bus.ta + l * bus.da.max(bus.dd) + words + bus.pw + bus.tb + l * bus.db;
@@ -60,10 +60,10 @@ fn bound_with(tree: &Tree, beneath: &[u64; 15], a: usize) -> Bound {
     let slot_write = bus.ta + words + bus.pw + bus.tb;
     let response = accelerator.computing
         + accelerator.reads * alone_read
-        + reads * slot_read
+        + yr * slot_read
         + accelerator.writes * alone_write
-        + writes * slot_write;
-    Bound { level, share, reads, writes, response, period: accelerator.period, meets: response <= accelerator.period }
+        + yw * slot_write;
+    Bound { level, share, yr, yw, response, period: accelerator.period, meets: response <= accelerator.period }
 }
 
 /// The bounds of all accelerators, rising by number.
@@ -76,7 +76,7 @@ pub fn bounds(tree: &Tree) -> impl Iterator<Item = Bound> + '_ {
 pub fn bound(text: &[u8], accelerator: u8) -> Result<Bound, Refused> {
     let tree = read_tree(text)?;
     if usize::from(accelerator) >= tree.accelerators.len() {
-        return Err(Refused { number: 7, line: 0 });
+        return Err(Refused::by(7, 0));
     }
     Ok(bound_with(&tree, &capacities(&tree), accelerator.into()))
 }

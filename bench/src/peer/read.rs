@@ -1,5 +1,5 @@
 //! The readers of tree and trace files ("The tree on paper", "What is refused").
-use crate::answers::{Refused, LIMIT};
+use razhikum::{Refused, LIMIT};
 
 #[derive(Clone, Copy, Debug, Default)]
 pub struct Bus {
@@ -274,23 +274,22 @@ fn int_fields(cursor: &mut Cursor) -> Option<IntFields> {
 
 pub fn read_tree(text: &[u8]) -> Result<Tree, Refused> {
     if text.len() > LIMIT {
-        return Err(Refused { number: VALUE, line: 0 });
+        return Err(Refused::by(VALUE, 0));
     }
     let mut cursor = Cursor { text, at: 0 };
     let mut reading = Reading::default();
     let mut line = 1;
     while !cursor.is_at_end() {
-        reading.line(&mut cursor).map_err(|number| Refused { number, line })?;
+        reading.line(&mut cursor).map_err(|number| Refused::by(number, line))?;
         line += 1;
     }
-    let number = ORDER;
-    reading.finish().ok_or(Refused { number, line })
+    reading.finish().ok_or(Refused::by(ORDER, line))
 }
 
 /// The requests of a trace on a tree of so many accelerators.
 pub fn read_trace(accelerators: usize, text: &[u8]) -> Result<Vec<Request>, Refused> {
     if text.len() > LIMIT {
-        return Err(Refused { number: VALUE, line: 0 });
+        return Err(Refused::by(VALUE, 0));
     }
     let mut cursor = Cursor { text, at: 0 };
     let mut requests = Vec::with_capacity(text.len() / 8);
@@ -298,7 +297,8 @@ pub fn read_trace(accelerators: usize, text: &[u8]) -> Result<Vec<Request>, Refu
     let mut last = 0;
     let mut line = 1;
     while !cursor.is_at_end() {
-        let request = offer(&mut cursor, accelerators, last, &mut totals).map_err(|number| Refused { number, line })?;
+        let request =
+            offer(&mut cursor, accelerators, last, &mut totals).map_err(|number| Refused::by(number, line))?;
         last = request.slot;
         requests.push(request);
         line += 1;

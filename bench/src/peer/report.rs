@@ -1,7 +1,7 @@
 //! The text of the report program (the end of "Figures to check by").
-use crate::answers::Refused;
 use crate::peer::bounds::bounds;
 use crate::peer::read::read_tree;
+use razhikum::Refused;
 
 fn put_number(out: &mut Vec<u8>, mut n: u64) {
     let mut digits = [0; 20];
@@ -32,25 +32,15 @@ fn verdict(meets: bool) -> &'static [u8] {
     }
 }
 
-/// Writes the report of a tree file, or its refusal as one line, into `out`, in place of what is there.
+/// Writes the report of a tree file into `out`, in place of what is there; nothing on a refusal.
 pub fn report(text: &[u8], out: &mut Vec<u8>) -> Result<(), Refused> {
     out.clear();
-    let tree = match read_tree(text) {
-        Ok(tree) => tree,
-        Err(refused) => {
-            out.extend_from_slice(b"refused\t");
-            put_number(out, refused.number.into());
-            out.push(b'\t');
-            put_number(out, refused.line.into());
-            out.push(b'\n');
-            return Err(refused);
-        }
-    };
+    let tree = read_tree(text)?;
     out.extend_from_slice(b"acc\tlevel\tshare\tyr\tyw\tresp\tperiod\tverdict\n");
     let mut all = true;
     for (a, b) in bounds(&tree).enumerate() {
         let level = b.level.into();
-        let row = [a as u64, level, b.share, b.reads, b.writes, b.response, b.period];
+        let row = [a as u64, level, b.share, b.yr, b.yw, b.response, b.period];
         put_numbers(out, &row);
         out.extend_from_slice(verdict(b.meets));
         all &= b.meets;

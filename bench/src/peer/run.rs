@@ -1,7 +1,7 @@
 //! The runner ("Turns", last paragraph).
-use crate::answers::{Ending, FileRefused, Refused, LIMIT};
 use crate::peer::machine::Machine;
 use crate::peer::read::{read_trace, read_tree, Request, Tree};
+use razhikum::{Ending, FileRefused, Refused, LIMIT};
 
 /// Runs the requests from the fresh state, one byte a slot.
 pub fn run_requests(tree: &Tree, requests: &[Request], out: &mut [u8]) -> Ending {
@@ -32,7 +32,7 @@ pub fn run_requests(tree: &Tree, requests: &[Request], out: &mut [u8]) -> Ending
 pub fn run(tree: &[u8], trace: &[u8], out: &mut [u8]) -> Result<Ending, FileRefused> {
     let tree = read_tree(tree).map_err(FileRefused::Tree)?;
     if out.len() > LIMIT {
-        return Err(FileRefused::Trace(Refused { number: 2, line: 0 }));
+        return Err(FileRefused::Trace(Refused::by(2, 0)));
     }
     let requests = read_trace(tree.accelerators.len(), trace).map_err(FileRefused::Trace)?;
     Ok(run_requests(&tree, &requests, out))

@@ -1,6 +1,6 @@
 //! A simulator that is plain to see to be right, and slow: queues of single transactions, and every sum taken anew in each
 //! slot.
-use razhikum_bench::answers::Ending;
+use razhikum::Ending;
 use razhikum_bench::peer::read::{Port, Request, Tree};
 use std::collections::VecDeque;
 
