@@ -1,4 +1,8 @@
-/* Calls the static library from C: the report of document 01, a run of four slots, a bound and a refusal. */
+/* Calls the static library from C: the report of a tree, the bounds of each accelerator, a run, and a refusal.
+ *
+ *     cc -Iinclude include/example.c target/staticlib/librazhikum.a -o example
+ */
+#include <inttypes.h>
 #include <stdio.h>
 #include <string.h>
 
@@ -11,26 +15,41 @@ static const char TREE[] =
     "acc\t1\t0\t3\t4\t2\t1\t0\t0\t100\n";
 static const char TRACE[] = "o\t0\t0\t2\no\t0\t1\t1\n";
 
+static void show_bounds(const uint8_t *tree, size_t tree_bytes) {
+    razhikum_counted count = razhikum_count(tree, tree_bytes);
+    for (uint8_t a = 0; a < count.accelerators; a++) {
+        razhikum_row row = razhikum_bound(tree, tree_bytes, a);
+        printf("accelerator %u: response %" PRIu64 ", period %" PRIu64 ", %s\n", a, row.response, row.period,
+               row.meets ? "meets" : "late");
+    }
+}
+
+static void show_run(const uint8_t *tree, size_t tree_bytes) {
+    uint8_t served[4];
+    razhikum_outcome run =
+        razhikum_run(tree, tree_bytes, (const uint8_t *)TRACE, strlen(TRACE), served, sizeof served);
+    for (uint32_t slot = 0; slot < run.slots; slot++) {
+        printf("slot %" PRIu32 ": accelerator %u\n", slot, served[slot]);
+    }
+    printf("%s\n", run.kind == RAZHIKUM_DONE ? "done" : "stopped or refused");
+}
+
 int main(void) {
     static uint8_t page[RAZHIKUM_PAGE];
     const uint8_t *tree = (const uint8_t *)TREE;
-    const uint8_t *trace = (const uint8_t *)TRACE;
     size_t tree_bytes = strlen(TREE);
-
+    if (razhikum_version() != RAZHIKUM_VERSION) {
+        fputs("razhikum.h and librazhikum.a are of different versions\n", stderr);
+        return 1;
+    }
     razhikum_page report = razhikum_report(tree, tree_bytes, page);
     fwrite(page, 1, report.bytes, stdout);
-
-    uint8_t served[4];
-    razhikum_outcome run = razhikum_run(tree, tree_bytes, trace, strlen(TRACE), served, sizeof served);
-    for (uint32_t slot = 0; slot < run.slots; slot++) {
-        printf("slot %u: accelerator %u\n", slot, served[slot]);
-    }
-    printf("%s\n", run.kind == RAZHIKUM_DONE ? "done" : "stopped or refused");
-
-    razhikum_row bound = razhikum_bound(tree, tree_bytes, 0);
-    printf("accelerator 0: share %llu, response %llu\n", (unsigned long long)bound.share, (unsigned long long)bound.response);
+    show_bounds(tree, tree_bytes);
+    show_run(tree, tree_bytes);
 
     razhikum_reading cut = razhikum_read_tree(tree, tree_bytes - 1);
-    printf("without the last LF: refused %u at line %u\n", cut.number, cut.line);
+    if (cut.number == RAZHIKUM_SHAPE) {
+        printf("without its last LF the tree is refused by %u at line %" PRIu32 "\n", cut.number, cut.line);
+    }
     return 0;
 }

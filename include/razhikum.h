@@ -1,4 +1,4 @@
-/* The Razhikum planner as a static library, librazhikum.a, for x86-64 under the System V calling convention (Linux, BSD).
+/* The Razhikum planner as a static library, librazhikum.a, for x86-64 under Linux.
  *
  * The rules, and the numbers of refusals, are those of docs/FORMAT.md and docs/MODEL.md. Every function answers every input:
  * none has a condition on the values that it is given. What each answers is proved, refusals included.
@@ -6,6 +6,10 @@
  * What a caller owes is only what C owes any function: a pointer is not null, not even with a length of 0, and has as many
  * bytes behind it as its length says; nothing else writes them during the call; and an `out` overlaps no other argument.
  * A file is passed as its bytes and their number. A file of more than RAZHIKUM_LIMIT bytes is refused like any other.
+ *
+ * Any number of threads may call at the same time, also on the same files: the archive has no writable data and no heap. It
+ * calls nothing outside but memcpy and memset, and writes nothing but its caller's stack, its answer and `out`. Two calls at the
+ * same time must not have the same `out`.
  *
  * In every answer `number` is the number of a refusal (enum razhikum_refusal), or 0 where nothing is refused, and `line` its
  * line, counted from 1, or 0 where it has none (the size of a file or of a buffer; 7 and 11 of a call). A refusal leaves every
@@ -112,6 +116,19 @@ typedef struct {
     uint64_t response;
     uint64_t period;
 } razhikum_row;
+
+/* The stack that each call needs, in bytes, its caller's frame included: the most that include/stack.c measures, rounded up to
+ * 1,024. How deep a call goes depends on the levels of the tree, at most 4, and on the digits of a number, and on nothing else of
+ * the files; stack.c has trees at that limit. */
+enum razhikum_stack {
+    RAZHIKUM_STACK_VERSION = 1024,
+    RAZHIKUM_STACK_READ_TREE = 18432,
+    RAZHIKUM_STACK_READ_TRACE = 18432,
+    RAZHIKUM_STACK_COUNT = 18432,
+    RAZHIKUM_STACK_REPORT = 21504,
+    RAZHIKUM_STACK_RUN = 23552,
+    RAZHIKUM_STACK_BOUND = 20480
+};
 
 /* Reads a tree file: accepted, or refused by 1 to 5. */
 razhikum_reading razhikum_read_tree(const uint8_t *tree, size_t tree_bytes);

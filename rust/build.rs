@@ -1,5 +1,5 @@
 //! Links the proved static library, which `rt staticlib razhikum` writes: `target/staticlib` of this repository, or the folder
-//! that RAZHIKUM_LIB_DIR names.
+//! that RAZHIKUM_LIB_DIR names by a full path.
 use std::path::{Path, PathBuf};
 
 fn main() {
@@ -15,6 +15,8 @@ fn main() {
         );
         return;
     }
+    // For tests/header.rs, which tests the same archive from C.
+    println!("cargo::rustc-env=RAZHIKUM_ARCHIVE={}", archive.display());
     println!("cargo::rustc-link-search=native={}", folder.display());
     println!("cargo::rustc-link-lib=static=razhikum");
 }

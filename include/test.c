@@ -1,0 +1,261 @@
+/* Holds header and archive together: the layout of each struct by offsets, the version, every number that a file can be refused by,
+ * and the values that the archive answers in each field, so that two columns exchanged would be seen. Compiled as C and as C++.
+ * include/test.sh builds and runs it.
+ */
+#include <assert.h>
+#include <stdio.h>
+#include <stdlib.h>
+#include <string.h>
+
+#include "razhikum.h"
+
+/* What the archive uses: fields in the order of the Rattle structs, each at the next multiple of its own size. */
+#define FIELD(type, field, at, bytes)                                         \
+    static_assert(offsetof(type, field) == (at), #type "." #field " is elsewhere"); \
+    static_assert(sizeof(((type *)0)->field) == (bytes), #type "." #field " has another size")
+
+FIELD(razhikum_reading, file, 0, 1);
+FIELD(razhikum_reading, number, 1, 1);
+FIELD(razhikum_reading, line, 4, 4);
+static_assert(sizeof(razhikum_reading) == 8, "razhikum_reading has another size");
+FIELD(razhikum_counted, number, 0, 1);
+FIELD(razhikum_counted, line, 4, 4);
+FIELD(razhikum_counted, accelerators, 8, 1);
+static_assert(sizeof(razhikum_counted) == 12, "razhikum_counted has another size");
+FIELD(razhikum_page, bytes, 0, 8);
+FIELD(razhikum_page, number, 8, 1);
+FIELD(razhikum_page, line, 12, 4);
+static_assert(sizeof(razhikum_page) == 16, "razhikum_page has another size");
+FIELD(razhikum_outcome, kind, 0, 1);
+FIELD(razhikum_outcome, number, 1, 1);
+FIELD(razhikum_outcome, line, 4, 4);
+FIELD(razhikum_outcome, slots, 8, 4);
+static_assert(sizeof(razhikum_outcome) == 12, "razhikum_outcome has another size");
+FIELD(razhikum_row, number, 0, 1);
+FIELD(razhikum_row, line, 4, 4);
+FIELD(razhikum_row, level, 8, 1);
+FIELD(razhikum_row, meets, 9, 1);
+FIELD(razhikum_row, share, 16, 8);
+FIELD(razhikum_row, yr, 24, 8);
+FIELD(razhikum_row, yw, 32, 8);
+FIELD(razhikum_row, response, 40, 8);
+FIELD(razhikum_row, period, 48, 8);
+static_assert(sizeof(razhikum_row) == 56, "razhikum_row has another size");
+
+static unsigned long compared;
+
+static void same(const char *what, unsigned long long found, unsigned long long expected) {
+    compared++;
+    if (found != expected) {
+        printf("%s: %llu in place of %llu\n", what, found, expected);
+        exit(1);
+    }
+}
+
+/* A file's bytes, from its folder or from a text with spaces for tabs. */
+typedef struct {
+    size_t bytes;
+    uint8_t text[RAZHIKUM_LIMIT + 1];
+} file;
+
+static file tree, trace;
+static uint8_t page[RAZHIKUM_PAGE], served[RAZHIKUM_SLOTS + 1];
+
+static void load(file *into, const char *folder, const char *name) {
+    char path[4096];
+    snprintf(path, sizeof path, "%s/%s", folder, name);
+    FILE *from = fopen(path, "rb");
+    if (from == NULL) {
+        perror(path);
+        exit(1);
+    }
+    into->bytes = fread(into->text, 1, sizeof into->text, from);
+    fclose(from);
+}
+
+static void spaced(file *into, const char *text) {
+    into->bytes = strlen(text);
+    for (size_t i = 0; i < into->bytes; i++) {
+        into->text[i] = (uint8_t)(text[i] == ' ' ? '\t' : text[i]);
+    }
+}
+
+static void is_row(unsigned a, unsigned level, unsigned share, unsigned yr, unsigned yw, unsigned response, unsigned period) {
+    razhikum_row r = razhikum_bound(tree.text, tree.bytes, (uint8_t)a);
+    same("row number", r.number, RAZHIKUM_ACCEPTED);
+    same("row line", r.line, 0);
+    same("level", r.level, level);
+    same("share", r.share, share);
+    same("yr", r.yr, yr);
+    same("yw", r.yw, yw);
+    same("response", r.response, response);
+    same("period", r.period, period);
+    same("meets", r.meets, response <= period);
+}
+
+static void is_row_refused(unsigned a, unsigned number, unsigned line) {
+    razhikum_row r = razhikum_bound(tree.text, tree.bytes, (uint8_t)a);
+    same("row number", r.number, number);
+    same("row line", r.line, line);
+    same("figures of a refused row", r.level + r.share + r.yr + r.yw + r.response + r.period + r.meets, 0);
+}
+
+/* The number at this place of a report's line, which is then behind the tab after it. */
+static unsigned long long number_at(const char **at) {
+    unsigned long long value = 0;
+    while (**at >= '0' && **at <= '9') {
+        value = value * 10 + (unsigned long long)(**at - '0');
+        (*at)++;
+    }
+    same("a tab after a number", (unsigned char)**at, '\t');
+    (*at)++;
+    return value;
+}
+
+/* Each line of the report says what the row of the same accelerator says. */
+static void rows_are_the_report(void) {
+    razhikum_page report = razhikum_report(tree.text, tree.bytes, page);
+    same("report's number", report.number, RAZHIKUM_ACCEPTED);
+    same("report's line", report.line, 0);
+    same("report ends in LF", page[report.bytes - 1], '\n');
+    page[report.bytes - 1] = 0;
+    razhikum_counted count = razhikum_count(tree.text, tree.bytes);
+    same("count's number", count.number, RAZHIKUM_ACCEPTED);
+    same("count's line", count.line, 0);
+    const char *at = strchr((const char *)page, '\n') + 1;
+    for (unsigned a = 0; a < count.accelerators; a++) {
+        razhikum_row r = razhikum_bound(tree.text, tree.bytes, (uint8_t)a);
+        same("acc", number_at(&at), a);
+        same("level", r.level, number_at(&at));
+        same("share", r.share, number_at(&at));
+        same("yr", r.yr, number_at(&at));
+        same("yw", r.yw, number_at(&at));
+        same("response", r.response, number_at(&at));
+        same("period", r.period, number_at(&at));
+        same("verdict", r.meets, *at == 'm');
+        at = strchr(at, '\n') + 1;
+    }
+    same("the report's last line", (unsigned long long)strncmp(at, "all\t", 4), 0);
+    is_row_refused(count.accelerators, RAZHIKUM_UNKNOWN, 0);
+}
+
+static void is_outcome(size_t room, unsigned kind, unsigned number, unsigned line, unsigned slots) {
+    memset(served, 99, sizeof served);
+    razhikum_outcome o = razhikum_run(tree.text, tree.bytes, trace.text, trace.bytes, served, room);
+    same("kind", o.kind, kind);
+    same("number", o.number, number);
+    same("line", o.line, line);
+    same("slots", o.slots, slots);
+    for (size_t i = slots; i < sizeof served; i++) {
+        same("a byte past the slots used", served[i], 99);
+    }
+}
+
+static void is_trace(unsigned which, unsigned number, unsigned line) {
+    razhikum_reading r = razhikum_read_trace(tree.text, tree.bytes, trace.text, trace.bytes);
+    same("file", r.file, which);
+    same("number", r.number, number);
+    same("line", r.line, line);
+}
+
+/* Every call refuses the tree alike, and the report leaves its page as it was. */
+static void tree_is_refused(unsigned number, unsigned line) {
+    razhikum_reading r = razhikum_read_tree(tree.text, tree.bytes);
+    same("file", r.file, RAZHIKUM_FILE_TREE);
+    same("number", r.number, number);
+    same("line", r.line, line);
+    is_trace(RAZHIKUM_FILE_TREE, number, line);
+    is_outcome(8, RAZHIKUM_TREE_REFUSED, number, line, 0);
+    is_row_refused(0, number, line);
+    razhikum_counted count = razhikum_count(tree.text, tree.bytes);
+    same("count's number", count.number, number);
+    same("count's line", count.line, line);
+    same("accelerators of a refused tree", count.accelerators, 0);
+    memset(page, 99, sizeof page);
+    razhikum_page report = razhikum_report(tree.text, tree.bytes, page);
+    same("bytes of a refused report", report.bytes, 0);
+    same("report's number", report.number, number);
+    same("report's line", report.line, line);
+    for (size_t i = 0; i < sizeof page; i++) {
+        same("the page of a refused report", page[i], 99);
+    }
+}
+
+#define BUS "bus 8 1 4 2 2 30 25 1 1 16\n"
+#define ROOT "int 0 - - 1\n"
+#define ACCS "acc 0 0 0 4 2 10 5 1000 2000\nacc 1 0 3 4 2 1 0 0 100\n"
+
+static void refused_trees(void) {
+    spaced(&trace, "");
+    spaced(&tree, BUS ROOT "acc 0 0 0 4 2 10 5 1000 2000");
+    tree_is_refused(RAZHIKUM_SHAPE, 3);
+    spaced(&tree, BUS "int 0 - - 17\n");
+    tree_is_refused(RAZHIKUM_RANGE, 2);
+    spaced(&tree, BUS ROOT ACCS);
+    memset(tree.text + tree.bytes, '\n', sizeof tree.text - tree.bytes);
+    tree.bytes = RAZHIKUM_LIMIT + 1;
+    tree_is_refused(RAZHIKUM_RANGE, 0);
+    spaced(&tree, "");
+    tree_is_refused(RAZHIKUM_ORDER, 1);
+    spaced(&tree, BUS ROOT ACCS "acc 2 0 3 4 2 1 0 0 100\n");
+    tree_is_refused(RAZHIKUM_PORT_TAKEN, 5);
+    spaced(&tree, BUS ROOT "int 1 0 0 1\nint 2 1 0 1\nint 3 2 0 1\nint 4 3 0 1\n");
+    tree_is_refused(RAZHIKUM_LEVEL, 6);
+}
+
+static void traces(void) {
+    spaced(&tree, BUS ROOT ACCS);
+    spaced(&trace, "o 0 0 2\no 0 1 1\n");
+    is_trace(RAZHIKUM_FILE_NONE, RAZHIKUM_ACCEPTED, 0);
+    is_outcome(4, RAZHIKUM_DONE, RAZHIKUM_ACCEPTED, 0, 3);
+    same("slot 0", served[0], 0);
+    same("slot 1", served[1], 1);
+    same("slot 2", served[2], 0);
+    is_outcome(2, RAZHIKUM_STOPPED, RAZHIKUM_ACCEPTED, 0, 2);
+    is_outcome(RAZHIKUM_SLOTS + 1, RAZHIKUM_TRACE_REFUSED, RAZHIKUM_RANGE, 0, 0);
+    spaced(&trace, "o 2 1 1\n");
+    is_outcome(4, RAZHIKUM_DONE, RAZHIKUM_ACCEPTED, 0, 3);
+    same("an idle slot", served[0], RAZHIKUM_IDLE);
+    spaced(&trace, "o 5 0 1\no 5 0 1\no 4 0 1\n");
+    is_trace(RAZHIKUM_FILE_TRACE, RAZHIKUM_FALLING, 3);
+    is_outcome(8, RAZHIKUM_TRACE_REFUSED, RAZHIKUM_FALLING, 3, 0);
+    spaced(&trace, "o 5 0 1\no 5 2 1\n");
+    is_trace(RAZHIKUM_FILE_TRACE, RAZHIKUM_UNKNOWN, 2);
+    is_outcome(8, RAZHIKUM_TRACE_REFUSED, RAZHIKUM_UNKNOWN, 2, 0);
+}
+
+/* The figures are those of docs/MODEL.md, M54 to M63, worked out by hand. */
+static void examples(const char *folder) {
+    spaced(&tree, BUS ROOT ACCS);
+    same("accelerators", razhikum_count(tree.text, tree.bytes).accelerators, 2);
+    is_row(0, 1, 2, 10, 5, 2460, 2000);
+    is_row(1, 1, 2, 1, 0, 100, 100);
+    rows_are_the_report();
+    load(&tree, folder, "scanner30.tree");
+    load(&trace, folder, "scanner30-read.trace");
+    same("accelerators", razhikum_count(tree.text, tree.bytes).accelerators, 3);
+    is_row(0, 2, 15, 1120, 0, 59360, 30000);
+    is_row(1, 1, 3, 16, 0, 1676, 20000);
+    is_row(2, 2, 15, 0, 336, 16768, 100000);
+    rows_are_the_report();
+    is_trace(RAZHIKUM_FILE_NONE, RAZHIKUM_ACCEPTED, 0);
+    load(&tree, folder, "full.tree");
+    load(&trace, folder, "full.trace");
+    same("accelerators", razhikum_count(tree.text, tree.bytes).accelerators, 32);
+    rows_are_the_report();
+    is_outcome(RAZHIKUM_SLOTS, RAZHIKUM_STOPPED, RAZHIKUM_ACCEPTED, 0, RAZHIKUM_SLOTS);
+    same("an idle slot of the full tree", memchr(served, RAZHIKUM_IDLE, RAZHIKUM_SLOTS) != NULL, 0);
+}
+
+int main(int arguments, char **words) {
+    if (arguments != 2) {
+        fputs("usage: test EXAMPLES\n", stderr);
+        return 1;
+    }
+    same("version of header and archive", razhikum_version(), RAZHIKUM_VERSION);
+    examples(words[1]);
+    traces();
+    refused_trees();
+    printf("%lu values, no difference\n", compared);
+    return 0;
+}
