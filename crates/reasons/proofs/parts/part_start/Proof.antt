@@ -5,7 +5,7 @@ use Prim.Native.Nat.{ℕ, _≤_, _-_, _+_}
 use native.Mathlib.Omega.{arith}
 use lib.ListN.{length, drop}
 use borrow.Author.Needs.{needs}
-use Rattle.reasons.specs.Reasons.{fromPart}
+use Rattle.reasons.specs.Words.{fromPart}
 use Rattle.reasons.proofs.Starts.{part-next, part-on, part-here, part-past}
 use Rattle.reasons.proofs.parts.part_start.Statement.{statement}
 use Rattle.reasons.proofs.parts.part_start.Tie as tie
