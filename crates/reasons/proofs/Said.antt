@@ -20,7 +20,8 @@ use Rattle.lines.specs.Lines.{formOf}
 use Rattle.lines.specs.LineText.{mayStand}
 use Rattle.lines.proofs.Fields.{form-count}
 use Rattle.reasons.specs.Words.{firstField, fromPart, sentence}
-use Rattle.reasons.specs.Reasons.{fieldBytes, readable, unread, unreadText, malformedText, outside, limitText, fieldText, totalText, valueText, has, foundText, fromLine, slotBefore, causeText}
+use Rattle.reasons.specs.Reasons.{fieldBytes, readable, unread, unreadText, malformedText, outside, limitText, fieldText, totalText}
+use Rattle.reasons.specs.Reasons.{valueText, has, foundText, fromLine, slotBefore, causeText}
 
 pub first-field-most : (k : Kind) → firstField k ≤ 30
 first-field-most NoRecord = omega arith
@@ -49,8 +50,8 @@ module _ (k : Kind) (v : List ℕ) (i : ℕ) (F : Form) (q : i ≡ outside k v) 
   value-total h = sym (passed _ _ _ (le-ltb _ _ (subst (λ (j : ℕ). formOf k .count ≤ j) q (subst (λ (n : ℕ). n ≤ i) counted h))))
 
 -- a field that is read, and the first one that may not stand
-pub read-at : (f : Form) (b : List ℕ) (i : ℕ) (x : Field) (p : List ℕ) (r : Bool) → r ≡ mayStand (getD (f .dashes) i false) x → x ≡ fieldOf p → p ≡ fieldBytes b i
-    → r ≡ readable f b i
+pub read-at : (f : Form) (b : List ℕ) (i : ℕ) (x : Field) (p : List ℕ) (r : Bool)
+    → r ≡ mayStand (getD (f .dashes) i false) x → x ≡ fieldOf p → p ≡ fieldBytes b i → r ≡ readable f b i
 read-at f b i x p r u v w = u ∙ ap (mayStand (getD (f .dashes) i false)) (v ∙ ap fieldOf w)
 
 module _ (k : Kind) (b : List ℕ) (i : ℕ) (F : Form) (q : i ≡ unread k b) (r : F ≡ formOf k) where

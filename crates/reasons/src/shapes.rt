@@ -159,14 +159,7 @@ fn put_no_record(out: &mut [u8], at: usize, name: &[u8]) -> usize
 }
 
 // Sentence j of a wrong shape, of the bytes l, which have this record and this count of fields.
-pub fn put_fault(
-    out: &mut [u8],
-    at: usize,
-    j: usize,
-    kind: Kind,
-    count: usize,
-    l: &[u8],
-) -> usize
+pub fn put_fault(out: &mut [u8], at: usize, j: usize, kind: Kind, count: usize, l: &[u8]) -> usize
     ensures { λ r. ⌜ Put 40322 (now (out .entry)) at (faultText j kind count (now (l .entry))) (now (out .exit)) r ⌝ }
 {
     let f = form_of(kind);

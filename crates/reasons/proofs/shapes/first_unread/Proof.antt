@@ -22,13 +22,42 @@ loop-holds : tie.Need-loop-holds Inv-loop μ-loop
 loop-holds c = (subst (λ (f : Form). f .count ≤ 10) (sym (c .form-of .ensures)) (form-count (c .before .before .args .kind)), omega arith, failing-start _ _)
 
 returns : tie.Need-returns Inv-loop μ-loop
-returns c = sym (ap (λ (f : Form). firstFailing 0 (f .count) (readable f (c .before .before .before .before .before .before .before .before .before .args .l .now))) (sym (c .before .before .before .before .before .before .before .form-of .ensures)) ∙ c .before .before .before .before .before .before .loop .inv .2 ∙ failing-here _ _ _ (c .before .before .before .before .before .loop-test .taken) (sym (read-at (c .before .before .before .before .before .before .before .form-of .result) (c .before .before .before .before .before .before .before .before .before .args .l .now) (c .before .before .before .before .before .before .loop .i) _ _ _ (c .before .may-stand .ensures) (c .before .before .before .read-field .ensures) (c .before .before .before .before .part .ensures .0)) ∙ not-true _ (c .if1 .taken)))
+returns c =
+    let args = c .before .before .before .before .before .before .before .before .before .args in
+    let form-of = c .before .before .before .before .before .before .before .form-of in
+    let loop = c .before .before .before .before .before .before .loop in
+    let loop-test = c .before .before .before .before .before .loop-test in
+    let part = c .before .before .before .before .part in
+    let read-field = c .before .before .before .read-field in
+    let may-stand = c .before .may-stand in
+    sym (ap (λ (f : Form). firstFailing 0 (f .count) (readable f (args .l .now))) (sym (form-of .ensures)) ∙ loop .inv .2
+    ∙ failing-here _ _ _ (loop-test .taken) (sym (read-at (form-of .result) (args .l .now) (loop .i) _ _ _ (may-stand .ensures) (read-field .ensures)
+    (part .ensures .0)) ∙ not-true _ (c .if1 .taken)))
 
 loop-again : tie.Need-loop-again Inv-loop μ-loop
-loop-again c = (c .before .before .before .before .before .before .loop .inv .0, omega arith, c .before .before .before .before .before .before .loop .inv .2 ∙ failing-on _ _ _ (c .before .before .before .before .before .loop-test .taken) (sym (read-at (c .before .before .before .before .before .before .before .form-of .result) (c .before .before .before .before .before .before .before .before .before .args .l .now) (c .before .before .before .before .before .before .loop .i) _ _ _ (c .before .may-stand .ensures) (c .before .before .before .read-field .ensures) (c .before .before .before .before .part .ensures .0)) ∙ not-false _ (c .if1 .left)))
+loop-again c =
+    let args = c .before .before .before .before .before .before .before .before .before .args in
+    let form-of = c .before .before .before .before .before .before .before .form-of in
+    let loop = c .before .before .before .before .before .before .loop in
+    let loop-test = c .before .before .before .before .before .loop-test in
+    let part = c .before .before .before .before .part in
+    let read-field = c .before .before .before .read-field in
+    let may-stand = c .before .may-stand in (
+      loop .inv .0,
+      omega arith,
+      loop .inv .2 ∙ failing-on _ _ _ (loop-test .taken) (sym (read-at (form-of .result) (args .l .now) (loop .i) _ _ _
+          (may-stand .ensures) (read-field .ensures) (part .ensures .0)) ∙ not-false _ (c .if1 .left)),
+    )
 
 returns-2 : tie.Need-returns-2 Inv-loop μ-loop
-returns-2 c = sym (ap (λ (f : Form). firstFailing 0 (f .count) (readable f (c .before .before .before .before .args .l .now))) (sym (c .before .before .form-of .ensures)) ∙ c .before .loop .inv .2 ∙ failing-none _ _ _ (c .loop-test .left))
+returns-2 c =
+    let args = c .before .before .before .before .args in
+    let form-of = c .before .before .form-of in
+    let loop = c .before .loop in
+    sym (ap (λ (f : Form). firstFailing 0 (f .count) (readable f (args .l .now))) (sym (form-of .ensures)) ∙ loop .inv .2
+    ∙ failing-none _ _ _ (c .loop-test .left))
 
 pub first-unread-spec : {M : Type 1} → statement M
-first-unread-spec = tie.close (tie.spec Inv-loop μ-loop (λ c κs. search needs) loop-holds (λ c. search needs) (λ c κs. search needs) (λ c κs. search needs) (λ c. search needs) (λ c κs. search needs) returns (λ c. search needs) (λ c. search needs) loop-again returns-2)
+first-unread-spec =
+    tie.close (tie.spec Inv-loop μ-loop (λ c κs. search needs) loop-holds (λ c. search needs) (λ c κs. search needs) (λ c κs. search needs)
+    (λ c. search needs) (λ c κs. search needs) returns (λ c. search needs) (λ c. search needs) loop-again returns-2)

@@ -15,19 +15,45 @@ use Rattle.reasons.proofs.shapes.put_fault.Tie as tie
 
 returns : tie.Need-returns
 unfolding faultText
-returns c = put-most (omega arith) (put-as (ap (λ (x : List ℕ). quoted x ++ sentence 18 0 0) (c .before .before .before .part .ensures .0) ∙ sym (picked _ _ _ (eq-eqb _ _ (c .before .before .before .before .before .if1 .taken)))) (c .before .before .put-no-record .ensures))
+returns c =
+    let if1 = c .before .before .before .before .before .if1 in
+    let part = c .before .before .before .part in
+    let put-no-record = c .before .before .put-no-record in
+    put-most (omega arith) (put-as (ap (λ (x : List ℕ). quoted x ++ sentence 18 0 0) (part .ensures .0)
+    ∙ sym (picked _ _ _ (eq-eqb _ _ (if1 .taken)))) (put-no-record .ensures))
 
 returns-2 : tie.Need-returns-2
 unfolding faultText
-returns-2 c = put-most (omega arith) (put-as (ap (λ (f : Form). recordSays (c .before .before .before .before .before .before .before .before .before .args .kind) 21 (f .count) (c .before .before .before .before .before .before .before .before .before .args .count)) (c .before .before .before .before .before .before .form-of .ensures) ∙ sym (passed _ _ _ (ne-eqb _ _ (c .before .before .before .before .before .if1 .left)) ∙ picked _ _ _ (eq-eqb _ _ (c .before .before .before .before .if2 .taken)))) (c .before .before .put-of-record .ensures))
+returns-2 c =
+    let args = c .before .before .before .before .before .before .before .before .before .args in
+    let form-of = c .before .before .before .before .before .before .form-of in
+    let if1 = c .before .before .before .before .before .if1 in
+    let if2 = c .before .before .before .before .if2 in
+    let put-of-record = c .before .before .put-of-record in
+    put-most (omega arith) (put-as (ap (λ (f : Form). recordSays (args .kind) 21 (f .count) (args .count)) (form-of .ensures)
+    ∙ sym (passed _ _ _ (ne-eqb _ _ (if1 .left)) ∙ picked _ _ _ (eq-eqb _ _ (if2 .taken)))) (put-of-record .ensures))
 
 returns-3 : tie.Need-returns-3
 unfolding faultText
-returns-3 c = put-as (sym (passed _ _ _ (ne-eqb _ _ (c .before .before .before .before .before .before .if1 .left)) ∙ passed _ _ _ (ne-eqb _ _ (c .before .before .before .before .before .if2 .left)) ∙ picked _ _ _ (eq-eqb _ _ (c .before .before .before .before .if3 .taken)))) (c .before .before .put-malformed .ensures)
+returns-3 c =
+    let if1 = c .before .before .before .before .before .before .if1 in
+    let if2 = c .before .before .before .before .before .if2 in
+    let if3 = c .before .before .before .before .if3 in
+    let put-malformed = c .before .before .put-malformed in
+    put-as (sym (passed _ _ _ (ne-eqb _ _ (if1 .left)) ∙ passed _ _ _ (ne-eqb _ _ (if2 .left))
+    ∙ picked _ _ _ (eq-eqb _ _ (if3 .taken)))) (put-malformed .ensures)
 
 returns-4 : tie.Need-returns-4
 unfolding faultText
-returns-4 c = put-most (omega arith) (put-as (sym (passed _ _ _ (ne-eqb _ _ (c .before .before .before .before .before .before .if1 .left)) ∙ passed _ _ _ (ne-eqb _ _ (c .before .before .before .before .before .if2 .left)) ∙ passed _ _ _ (ne-eqb _ _ (c .before .before .before .before .if3 .left)))) (c .before .before .put-sentence .ensures))
+returns-4 c =
+    let if1 = c .before .before .before .before .before .before .if1 in
+    let if2 = c .before .before .before .before .before .if2 in
+    let if3 = c .before .before .before .before .if3 in
+    let put-sentence = c .before .before .put-sentence in
+    put-most (omega arith) (put-as (sym (passed _ _ _ (ne-eqb _ _ (if1 .left)) ∙ passed _ _ _ (ne-eqb _ _ (if2 .left))
+    ∙ passed _ _ _ (ne-eqb _ _ (if3 .left)))) (put-sentence .ensures))
 
 pub put-fault-spec : {M : Type 1} → statement M
-put-fault-spec = tie.close (tie.spec (λ c κs. search needs) (λ c κs. search needs) (λ c κs. search needs) (λ c. search needs) returns (λ c κs. search needs) (λ c. search needs) returns-2 (λ c κs. search needs) (λ c. search needs) returns-3 (λ c κs. search needs) (λ c. search needs) returns-4)
+put-fault-spec =
+    tie.close (tie.spec (λ c κs. search needs) (λ c κs. search needs) (λ c κs. search needs) (λ c. search needs) returns (λ c κs. search needs)
+    (λ c. search needs) returns-2 (λ c κs. search needs) (λ c. search needs) returns-3 (λ c κs. search needs) (λ c. search needs) returns-4)

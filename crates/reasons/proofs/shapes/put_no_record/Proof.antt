@@ -6,7 +6,10 @@ use Rattle.reasons.proofs.shapes.put_no_record.Statement.{statement}
 use Rattle.reasons.proofs.shapes.put_no_record.Tie as tie
 
 returns : tie.Need-returns
-returns c = put-most (omega arith) (put-then (c .before .before .before .before .before .before .put-quoted .ensures) (c .before .before .put-sentence .ensures))
+returns c =
+    let put-quoted = c .before .before .before .before .before .before .put-quoted in
+    let put-sentence = c .before .before .put-sentence in
+    put-most (omega arith) (put-then (put-quoted .ensures) (put-sentence .ensures))
 
 pub put-no-record-spec : {M : Type 1} → statement M
 put-no-record-spec = tie.close (tie.spec (λ c κs. search needs) (λ c κs. search needs) (λ c. search needs) returns)

@@ -10,7 +10,16 @@ use Rattle.reasons.proofs.shapes.put_unread.Statement.{statement}
 use Rattle.reasons.proofs.shapes.put_unread.Tie as tie
 
 returns : tie.Need-returns
-returns c = put-most (omega arith) (put-then (put-then (c .before .before .before .before .before .before .before .before .before .before .before .before .put-field-name .ensures) (c .before .before .before .before .before .before .before .before .put-quoted .ensures)) (put-as (ap (λ (n : ℕ). sentence n 0 0) (c .before .before .before .not-number .ensures ∙ ap notNumber (c .before .before .before .before .read-field .ensures))) (c .before .before .put-sentence .ensures)))
+returns c =
+    let put-field-name = c .before .before .before .before .before .before .before .before .before .before .before .before .put-field-name in
+    let put-quoted = c .before .before .before .before .before .before .before .before .put-quoted in
+    let read-field = c .before .before .before .before .read-field in
+    let not-number = c .before .before .before .not-number in
+    let put-sentence = c .before .before .put-sentence in
+    put-most (omega arith) (put-then (put-then (put-field-name .ensures) (put-quoted .ensures)) (put-as (ap (λ (n : ℕ). sentence n 0 0) (not-number .ensures
+    ∙ ap notNumber (read-field .ensures))) (put-sentence .ensures)))
 
 pub put-unread-spec : {M : Type 1} → statement M
-put-unread-spec = tie.close (tie.spec (λ c κs. search needs) (λ c κs. search needs) (λ c κs. search needs) (λ c κs. search needs) (λ c κs. search needs) (λ c. search needs) returns)
+put-unread-spec =
+    tie.close (tie.spec (λ c κs. search needs) (λ c κs. search needs) (λ c κs. search needs) (λ c κs. search needs) (λ c κs. search needs)
+    (λ c. search needs) returns)

@@ -12,7 +12,10 @@ returns : tie.Need-returns
 returns c = put-as (sym (picked _ _ _ (eq-eqb _ _ (c .before .before .before .before .if1 .taken)))) (c .before .before .put-number .ensures)
 
 returns-2 : tie.Need-returns-2
-returns-2 c = put-most (omega arith) (put-as (sym (passed _ _ _ (ne-eqb _ _ (c .before .before .before .before .if1 .left)))) (c .before .before .put-byte .ensures))
+returns-2 c =
+    let if1 = c .before .before .before .before .if1 in
+    let put-byte = c .before .before .put-byte in
+    put-most (omega arith) (put-as (sym (passed _ _ _ (ne-eqb _ _ (if1 .left)))) (put-byte .ensures))
 
 pub put-marked-spec : {M : Type 1} → statement M
 put-marked-spec = tie.close (tie.spec (λ c κs. search needs) (λ c. search needs) returns (λ c κs. search needs) (λ c. search needs) returns-2)

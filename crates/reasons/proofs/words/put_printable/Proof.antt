@@ -21,11 +21,20 @@ loop-holds : tie.Need-loop-holds Inv-loop μ-loop
 loop-holds c = (rests-all _ _ _ _, search needs, refl)
 
 loop-again : tie.Need-loop-again Inv-loop μ-loop
-loop-again c = 
-    let s = c .before .before .before .before .before .before .before .before .before .before .args .s .now in
-    let i = c .before .before .before .before .before .before .before .loop .i in
-    let next = ap (λ (b : ℕ). (b ∷ []) ++ map printable (drop (i + 1) s)) (sym (c .before .before .before .printable .ensures)) in
-    (rests-turn _ (c .before .before .before .before .before .before .before .loop .inv .0) _ (omega arith) (printed-next s i (c .before .before .before .before .before .before .loop-test .taken) ∙ next) (c .before .before .put-byte .ensures), search needs, c .before .before .put-byte .kept .0 ∙ c .before .before .before .before .before .before .before .loop .inv .2)
+loop-again c =
+    let args = c .before .before .before .before .before .before .before .before .before .before .args in
+    let loop = c .before .before .before .before .before .before .before .loop in
+    let loop-test = c .before .before .before .before .before .before .loop-test in
+    let printable-place = c .before .before .before .printable in
+    let put-byte = c .before .before .put-byte in
+    let s = args .s .now in
+    let i = loop .i in
+    let next = ap (λ (b : ℕ). (b ∷ []) ++ map printable (drop (i + 1) s)) (sym (printable-place .ensures)) in (
+      rests-turn _ (loop .inv .0) _ (omega arith) (printed-next s i (loop-test .taken) ∙ next) (put-byte .ensures),
+      search needs,
+      put-byte .kept .0
+          ∙ loop .inv .2,
+    )
 
 same-length : tie.Need-same-length Inv-loop μ-loop
 same-length c = c .before .loop .inv .2
@@ -34,4 +43,6 @@ returns : tie.Need-returns Inv-loop μ-loop
 returns c = put-most (c .before .loop .inv .1) (rests-done _ (c .before .loop .inv .0) (printed-end _ _ (c .loop-test .left)))
 
 pub put-printable-spec : {M : Type 1} → statement M
-put-printable-spec = tie.close (tie.spec Inv-loop μ-loop loop-holds (λ c. search needs) (λ c κs. search needs) (λ c κs. search needs) (λ c. search needs) (λ c. search needs) loop-again same-length returns)
+put-printable-spec =
+    tie.close (tie.spec Inv-loop μ-loop loop-holds (λ c. search needs) (λ c κs. search needs) (λ c κs. search needs) (λ c. search needs)
+    (λ c. search needs) loop-again same-length returns)

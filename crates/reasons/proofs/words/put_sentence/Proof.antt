@@ -11,7 +11,11 @@ use Rattle.reasons.proofs.words.put_sentence.Tie as tie
 
 returns : tie.Need-returns
 unfolding sentence
-returns c = put-most (omega (arith, c .before .before .before .part .ensures .1)) (put-as (ap (λ (l : List ℕ). filled l (c .before .before .before .before .before .before .before .before .args .x) (c .before .before .before .before .before .before .before .before .args .y)) (c .before .before .before .part .ensures .0)) (c .before .before .put-filled .ensures))
+returns c =
+    let args = c .before .before .before .before .before .before .before .before .args in
+    let part = c .before .before .before .part in
+    let put-filled = c .before .before .put-filled in
+    put-most (omega (arith, part .ensures .1)) (put-as (ap (λ (l : List ℕ). filled l (args .x) (args .y)) (part .ensures .0)) (put-filled .ensures))
 
 pub put-sentence-spec : {M : Type 1} → statement M
 put-sentence-spec = tie.close (tie.spec (λ c κs. search needs) (λ c κs. search needs) (λ c. search needs) returns)
