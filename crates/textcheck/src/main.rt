@@ -46,7 +46,7 @@ fn say(trace: bool, bytes: &[u8], number: u8, line: u32) {
     show_page(&page, n);
 }
 
-// A wrong shape: what is most likely wrong; the name, the counts or the field; a line of no wrong shape.
+// A wrong shape: what is most likely wrong, the name, the counts.
 fn say_shapes() {
     say(false, b"\xef\xbb\xbfbus\t8\n", 1, 1);
     say(false, b"bus\t8\r\n", 1, 1);
@@ -62,6 +62,11 @@ fn say_shapes() {
     say(false, b"int\t0\t-\t-\n", 1, 1);
     say(false, b"\nacc\t0\t0\t0\t4\t2\t10\t5\t1000\n", 1, 2);
     say(true, b"o\t0\t0\t1\t\n", 1, 1);
+    say_fields();
+}
+
+// A field that may not stand, and a line of no wrong shape.
+fn say_fields() {
     say(false, b"\nacc\t0\t0\t0\tx7\t2\t10\t5\t1000\t2000\n", 1, 2);
     say(false, b"\nacc\t0\t0\t0\t4\t2\t10\t5\t1000\t-\n", 1, 2);
     say(false, b"int\t-\t-\t-\t1\n", 1, 1);
@@ -72,8 +77,8 @@ fn say_shapes() {
     say(true, b"o\t0\t0\t1\n", 1, 1);
 }
 
-// The fields of a line, each outside its limits where it can be, line 2; a total; a value that is in its limits.
-fn say_limits() {
+// The fields of a bus line, each outside its limits: line 2.
+fn say_bus_limits() {
     say(false, b"\nbus\t0\t1\t4\t2\t2\t30\t25\t1\t1\t16\n", 2, 2);
     say(false, b"\nbus\t8\t256\t4\t2\t2\t30\t25\t1\t1\t16\n", 2, 2);
     say(false, b"\nbus\t8\t1\t256\t2\t2\t30\t25\t1\t1\t16\n", 2, 2);
@@ -84,10 +89,16 @@ fn say_limits() {
     say(false, b"\nbus\t8\t1\t4\t2\t2\t30\t25\t0\t1\t16\n", 2, 2);
     say(false, b"\nbus\t8\t1\t4\t2\t2\t30\t25\t1\t0\t16\n", 2, 2);
     say(false, b"\nbus\t8\t1\t4\t2\t2\t30\t25\t1\t1\t257\n", 2, 2);
+}
+
+fn say_int_limits() {
     say(false, b"\nint\t15\t0\t0\t1\n", 2, 2);
     say(false, b"\nint\t1\t15\t0\t1\n", 2, 2);
     say(false, b"\nint\t1\t0\t8\t1\n", 2, 2);
     say(false, b"\nint\t1\t0\t0\t17\n", 2, 2);
+}
+
+fn say_acc_limits() {
     say(false, b"\nacc\t32\t0\t0\t4\t2\t10\t5\t1000\t2000\n", 2, 2);
     say(false, b"\nacc\t0\t15\t0\t4\t2\t10\t5\t1000\t2000\n", 2, 2);
     say(false, b"\nacc\t0\t0\t8\t4\t2\t10\t5\t1000\t2000\n", 2, 2);
@@ -107,6 +118,13 @@ fn say_limits() {
         2,
     );
     say(false, b"\nacc\t0\t0\t0\t4\t2\t10\t5\t1000\t0\n", 2, 2);
+}
+
+// The fields of every record; a total; a line that is in its limits.
+fn say_limits() {
+    say_bus_limits();
+    say_int_limits();
+    say_acc_limits();
     say(true, b"\no\t4294967295\t0\t1\n", 2, 2);
     say(true, b"\no\t0\t0\t17\n", 2, 2);
     say(true, b"\no\t0\t3\t16\n", 2, 2);
