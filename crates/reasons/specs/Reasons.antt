@@ -4,6 +4,7 @@
 --
 -- has b l              the byte b stands in l
 -- fits t k             record k may stand in a tree or, if t, in a trace
+-- isRecord k           record k may stand in a tree or in a trace
 -- recordFault t r      which sentence tells a wrong shape of the line r, by its record and fields
 -- shapeRow t n e l     which sentence tells a wrong shape of the bytes l of line n, in a tree or, if t, in a trace; e says that LF
 --                      ends the line

@@ -36,7 +36,9 @@ partAt sep k s = take (partLength sep (fromPart sep k s)) (fromPart sep k s)
 
 abbrev pub sentences : List ℕ
 sentences =
+    -- 0
     bytes "no refusal has this number\n"
+    -- 1 to 11: the cause of that number in general
     ++ bytes "wrong shape: record name, field count, malformed number or missing last LF\n"
     ++ bytes "a value is outside its limits, or a total is over its limit\n"
     ++ bytes "wrong order or numbering, an interconnect that no line before names, \"-\" against the root rule, or a missing record\n"
@@ -48,25 +50,31 @@ sentences =
     ++ bytes "budget of this window used\n"
     ++ bytes "slot count is 4294967295\n"
     ++ bytes "configuration or state breaks its rules\n"
+    -- 12: the number 2 without a line
     ++ bytes "above 65536, the limit of a file's bytes and of SLOTS\n"
+    -- 13 to 17: a wrong shape, by the bytes of the line
     ++ bytes "a byte order mark stands before the record name\n"
     ++ bytes "a CR stands in the line, which ends in LF alone\n"
     ++ bytes "a space stands in the line, whose fields are parted by one tab\n"
     ++ bytes "the last line does not end in LF\n"
     ++ bytes "the line is empty\n"
+    -- 18 to 23: a wrong shape, by record and fields; what was found stands before 18, 22 and 23, a record name before 21
     ++ bytes " is no record: a tree has bus, int and acc, a trace has o\n"
     ++ bytes "this is a line of a trace, in place of a tree\n"
     ++ bytes "this is a line of a tree, in place of a trace\n"
     ++ bytes " has # fields, and # were found\n"
     ++ bytes " is no number: decimal, 1 to 10 digits, no sign, no leading zero\n"
     ++ bytes " stands only for parent and port of int 0\n"
+    -- 24 to 28: said of a field
     ++ bytes "the counts of accelerator # total more than 65535\n"
     ++ bytes "# of interconnect # is already taken by a line before\n"
     ++ bytes "below interconnect # the level would be 5, and 4 is the highest\n"
     ++ bytes "# is smaller than # in the line before\n"
     ++ bytes "the tree has no accelerator #\n"
+    -- 29 to 31: said of a record; 32: of the end of a file
     ++ bytes ": wrong order: one bus line comes first, and no other\n"
-    ++ bytes " #: wrong order: int lines are 0, 1, 2 and on without a gap, after the bus line and before the acc lines; parent and port are \"-\" on int 0 alone, and a parent is smaller than its child\n"
+    ++ bytes " #: wrong order: int lines are 0, 1, 2 and on without a gap, after the bus line and before the acc lines; "
+    ++ bytes "parent and port are \"-\" on int 0 alone, and a parent is smaller than its child\n"
     ++ bytes " #: wrong order: acc lines come after the int lines, each number once, on an interconnect that an int line names\n"
     ++ bytes "the file ends too early: the bus line, int 0, an acc line, or an acc number below the highest is missing\n"
 

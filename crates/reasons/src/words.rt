@@ -83,7 +83,8 @@ pub fn put_sentence(out: &mut [u8], at: usize, j: usize, x: u64, y: u64) -> usiz
         # is smaller than # in the line before\n\
         the tree has no accelerator #\n\
         : wrong order: one bus line comes first, and no other\n\
-        \x20#: wrong order: int lines are 0, 1, 2 and on without a gap, after the bus line and before the acc lines; parent and port are \"-\" on int 0 alone, and a parent is smaller than its child\n\
+        \x20#: wrong order: int lines are 0, 1, 2 and on without a gap, after the bus line and before the acc lines; \
+        parent and port are \"-\" on int 0 alone, and a parent is smaller than its child\n\
         \x20#: wrong order: acc lines come after the int lines, each number once, on an interconnect that an int line names\n\
         the file ends too early: the bus line, int 0, an acc line, or an acc number below the highest is missing\n";
     put_filled(out, at, part(sentences, 10, j), x, y)
