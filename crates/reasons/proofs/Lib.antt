@@ -1,2 +1,3 @@
 pub mod Starts
+pub mod Rests
 pub mod Said

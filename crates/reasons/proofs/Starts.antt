@@ -14,7 +14,8 @@ use Rattle.text.specs.Text.{partLength}
 use Rattle.text.proofs.Parts.{part-fits}
 use Rattle.lines.specs.declared.Kind.{Kind}
 use Rattle.lines.specs.declared.Kind.the-variants.{NoRecord, BusLine, OfferLine}
-use Rattle.reasons.specs.Reasons.{fromPart, partAt, fits, firstFailing}
+use Rattle.reasons.specs.Words.{fromPart, partAt}
+use Rattle.reasons.specs.Reasons.{fits, firstFailing}
 
 module _ (sep : ℕ) (s : List ℕ) (i : ℕ) (h : i < length s) where
   at-byte : (k : ℕ) → fromPart sep k (drop i s) ≡ fromPart sep k (getD s i 0 ∷ drop (i + 1) s)

@@ -3,7 +3,7 @@ use text::part_end;
 ghost use mathlib.Core.Path.{_≡_};
 ghost use Prim.Native.Nat.{_≤_};
 ghost use lib.ListN.{length, drop};
-ghost use Rattle.reasons.specs.Reasons.{fromPart, partAt};
+ghost use Rattle.reasons.specs.Words.{fromPart, partAt};
 
 // Where part k of s begins: past k separators, or at the end of s.
 pub fn part_start(s: &[u8], sep: u8, k: usize) -> usize

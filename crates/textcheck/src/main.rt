@@ -46,7 +46,7 @@ fn say(trace: bool, bytes: &[u8], number: u8, line: u32) {
     show_page(&page, n);
 }
 
-// A wrong shape, line 1.
+// A wrong shape: what is most likely wrong, the name, the counts.
 fn say_shapes() {
     say(false, b"\xef\xbb\xbfbus\t8\n", 1, 1);
     say(false, b"bus\t8\r\n", 1, 1);
@@ -54,41 +54,118 @@ fn say_shapes() {
     say(false, b"bus\t8", 1, 1);
     say(false, b"\n", 1, 1);
     say(false, b"buss\t8\n", 1, 1);
+    say(false, b"abcdefghijklmnopqrstuvwxyz\n", 1, 1);
+    say(false, b"b\x1f!~\x7f\xff\t8\n", 1, 1);
     say(false, b"o\t0\t0\t1\n", 1, 1);
     say(true, b"int\t0\t-\t-\t1\n", 1, 1);
+    say(false, b"bus\n", 1, 1);
     say(false, b"int\t0\t-\t-\n", 1, 1);
-    say(true, b"o\t0\t01\t1\n", 1, 1);
+    say(false, b"\nacc\t0\t0\t0\t4\t2\t10\t5\t1000\n", 1, 2);
+    say(true, b"o\t0\t0\t1\t\n", 1, 1);
+    say_fields();
 }
 
-// The fields of a line, each outside its limits where it can be: line 2.
-fn say_limits() {
+// A field that may not stand, and a line of no wrong shape.
+fn say_fields() {
+    say(false, b"\nacc\t0\t0\t0\tx7\t2\t10\t5\t1000\t2000\n", 1, 2);
+    say(false, b"\nacc\t0\t0\t0\t4\t2\t10\t5\t1000\t-\n", 1, 2);
+    say(false, b"int\t-\t-\t-\t1\n", 1, 1);
+    say(false, b"int\t0\t-\t-1\t1\n", 1, 1);
+    say(true, b"o\t0\t01\t1\n", 1, 1);
+    say(true, b"o\t0\t0\t\n", 1, 1);
+    say(true, b"o\t123456789012345678901\t0\t1\n", 1, 1);
+    say(true, b"o\t0\t0\t1\n", 1, 1);
+}
+
+// The fields of a bus line, each outside its limits: line 2.
+fn say_bus_limits() {
     say(false, b"\nbus\t0\t1\t4\t2\t2\t30\t25\t1\t1\t16\n", 2, 2);
+    say(false, b"\nbus\t8\t256\t4\t2\t2\t30\t25\t1\t1\t16\n", 2, 2);
+    say(false, b"\nbus\t8\t1\t256\t2\t2\t30\t25\t1\t1\t16\n", 2, 2);
+    say(false, b"\nbus\t8\t1\t4\t256\t2\t30\t25\t1\t1\t16\n", 2, 2);
+    say(false, b"\nbus\t8\t1\t4\t2\t256\t30\t25\t1\t1\t16\n", 2, 2);
+    say(false, b"\nbus\t8\t1\t4\t2\t2\t4096\t25\t1\t1\t16\n", 2, 2);
+    say(false, b"\nbus\t8\t1\t4\t2\t2\t30\t4096\t1\t1\t16\n", 2, 2);
+    say(false, b"\nbus\t8\t1\t4\t2\t2\t30\t25\t0\t1\t16\n", 2, 2);
+    say(false, b"\nbus\t8\t1\t4\t2\t2\t30\t25\t1\t0\t16\n", 2, 2);
     say(false, b"\nbus\t8\t1\t4\t2\t2\t30\t25\t1\t1\t257\n", 2, 2);
+}
+
+fn say_int_limits() {
     say(false, b"\nint\t15\t0\t0\t1\n", 2, 2);
+    say(false, b"\nint\t1\t15\t0\t1\n", 2, 2);
+    say(false, b"\nint\t1\t0\t8\t1\n", 2, 2);
     say(false, b"\nint\t1\t0\t0\t17\n", 2, 2);
+}
+
+fn say_acc_limits() {
     say(false, b"\nacc\t32\t0\t0\t4\t2\t10\t5\t1000\t2000\n", 2, 2);
+    say(false, b"\nacc\t0\t15\t0\t4\t2\t10\t5\t1000\t2000\n", 2, 2);
+    say(false, b"\nacc\t0\t0\t8\t4\t2\t10\t5\t1000\t2000\n", 2, 2);
     say(false, b"\nacc\t0\t0\t0\t32\t2\t10\t5\t1000\t2000\n", 2, 2);
+    say(false, b"\nacc\t0\t0\t0\t4\t0\t10\t5\t1000\t2000\n", 2, 2);
+    say(false, b"\nacc\t0\t0\t0\t4\t2\t65536\t5\t1000\t2000\n", 2, 2);
+    say(
+        false,
+        b"\nacc\t0\t0\t0\t4\t2\t10\t65536\t1000\t2000\n",
+        2,
+        2,
+    );
+    say(
+        false,
+        b"\nacc\t0\t0\t0\t4\t2\t10\t5\t4294967296\t2000\n",
+        2,
+        2,
+    );
     say(false, b"\nacc\t0\t0\t0\t4\t2\t10\t5\t1000\t0\n", 2, 2);
+}
+
+// The fields of every record; a total; a line that is in its limits.
+fn say_limits() {
+    say_bus_limits();
+    say_int_limits();
+    say_acc_limits();
     say(true, b"\no\t4294967295\t0\t1\n", 2, 2);
     say(true, b"\no\t0\t0\t17\n", 2, 2);
-    say(true, b"\no\t0\t0\t16\n", 2, 2);
+    say(true, b"\no\t0\t3\t16\n", 2, 2);
+    say(false, b"\nint\t0\t-\t-\t1\n", 2, 2);
 }
 
-// The other numbers, and the size of a file.
+// The other numbers of a file, by the record that is refused and in general.
+fn say_places() {
+    let bus = b"bus\t8\t1\t4\t2\t2\t30\t25\t1\t1\t16\n";
+    let offers = b"o\t5\t0\t1\no\t3\t6\t1\n";
+    say(false, bus, 3, 1);
+    say(false, b"int\t3\t1\t6\t1\n", 3, 1);
+    say(false, b"acc\t7\t0\t1\t4\t2\t10\t5\t1000\t2000\n", 3, 1);
+    say(false, bus, 3, 2);
+    say(false, b"", 3, 1);
+    say(true, offers, 3, 1);
+    say(false, b"int\t3\t1\t6\t1\n", 4, 1);
+    say(false, b"acc\t7\t0\t1\t4\t2\t10\t5\t1000\t2000\n", 4, 1);
+    say(false, bus, 4, 1);
+    say(false, b"int\t5\t4\t0\t1\n", 5, 1);
+    say(false, bus, 5, 1);
+    say(true, offers, 6, 2);
+    say(false, bus, 6, 1);
+    say(true, offers, 7, 2);
+    say(false, bus, 7, 1);
+}
+
+// Numbers that name no line of a file, and those of a file without a line.
 fn say_numbers() {
     let tree = b"bus\t8\n";
+    say_places();
     say(false, tree, 0, 1);
-    say(false, tree, 3, 1);
-    say(false, tree, 4, 1);
-    say(false, tree, 5, 1);
-    say(true, tree, 6, 1);
-    say(true, tree, 7, 1);
     say(false, tree, 8, 0);
     say(false, tree, 9, 0);
     say(false, tree, 10, 0);
     say(false, tree, 11, 0);
     say(false, tree, 12, 1);
+    say(false, tree, 255, 0);
+    say(false, tree, 1, 0);
     say(false, tree, 2, 0);
+    say(false, tree, 3, 0);
 }
 
 fn run_over(served: &mut [u8], tree: &[u8], trace: &[u8]) {

@@ -14,7 +14,13 @@ returns c =
 
 returns-2 : tie.Need-returns-2
 returns-2 c =
-    put-as (sym (passed _ _ _ (ne-eqb _ _ (c .before .before .before .before .before .before .before .before .before .before .before .before .before .before .if1 .left)))) (put-then (c .before .before .before .before .before .before .before .before .before .before .before .put-bytes .ensures) (put-then (c .before .before .before .before .before .before .before .put-number .ensures) (c .before .before .put-bytes2 .ensures)))
+    let if1 = c .before .before .before .before .before .before .before .before .before .before .before .before .before .before .if1 in
+    let put-bytes = c .before .before .before .before .before .before .before .before .before .before .before .put-bytes in
+    let put-number = c .before .before .before .before .before .before .before .put-number in
+    let put-bytes2 = c .before .before .put-bytes2 in
+    put-as (sym (passed _ _ _ (ne-eqb _ _ (if1 .left)))) (put-then (put-bytes .ensures) (put-then (put-number .ensures) (put-bytes2 .ensures)))
 
 pub put-place-spec : {M : Type 1} → statement M
-put-place-spec = tie.close (tie.spec returns (λ c. search needs) (λ c κs. search needs) (λ c κs. search needs) (λ c. search needs) (λ c κs. search needs) (λ c. search needs) returns-2)
+put-place-spec =
+    tie.close (tie.spec returns (λ c. search needs) (λ c κs. search needs) (λ c κs. search needs) (λ c. search needs) (λ c κs. search needs)
+    (λ c. search needs) returns-2)

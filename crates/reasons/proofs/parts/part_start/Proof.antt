@@ -5,7 +5,7 @@ use Prim.Native.Nat.{ℕ, _≤_, _-_, _+_}
 use native.Mathlib.Omega.{arith}
 use lib.ListN.{length, drop}
 use borrow.Author.Needs.{needs}
-use Rattle.reasons.specs.Reasons.{fromPart}
+use Rattle.reasons.specs.Words.{fromPart}
 use Rattle.reasons.proofs.Starts.{part-next, part-on, part-here, part-past}
 use Rattle.reasons.proofs.parts.part_start.Statement.{statement}
 use Rattle.reasons.proofs.parts.part_start.Tie as tie
@@ -24,14 +24,24 @@ returns c = (search needs, sym (c .before .before .loop .inv .1 ∙ part-here _ 
 
 loop-again : tie.Need-loop-again Inv-loop μ-loop
 loop-again c =
-    let l = c .before .before .before .before .loop in
-    let h = c .before .before .before .loop-test .taken in
-    let d = c .before .before .if1 .left in
-    let a = c .before .before .before .before .before .args in
-    (omega arith, l .inv .1 ∙ ⊎-elim (λ w. part-next (a .sep) _ _ h _ d (w .0 .taken) ∙ ap (λ (n : ℕ). fromPart (a .sep) n (drop (l .i + 1) (a .s .now))) (sym (w .1))) (λ w. part-on (a .sep) _ _ h _ d (w .0 .left) ∙ ap (λ (n : ℕ). fromPart (a .sep) n (drop (l .i + 1) (a .s .now))) (sym (w .1))) (c .if2 .came))
+    let args = c .before .before .before .before .before .args in
+    let loop = c .before .before .before .before .loop in
+    let loop-test = c .before .before .before .loop-test in
+    let if1 = c .before .before .if1 in
+    let l = loop in
+    let h = loop-test .taken in
+    let d = if1 .left in
+    let a = args in (
+      omega arith,
+      l .inv .1 ∙ ⊎-elim (λ w. part-next (a .sep) _ _ h _ d (w .0 .taken)
+          ∙ ap (λ (n : ℕ). fromPart (a .sep) n (drop (l .i + 1) (a .s .now))) (sym (w .1))) (λ w. part-on (a .sep) _ _ h _ d (w .0 .left)
+          ∙ ap (λ (n : ℕ). fromPart (a .sep) n (drop (l .i + 1) (a .s .now))) (sym (w .1))) (c .if2 .came),
+    )
 
 returns-2 : tie.Need-returns-2 Inv-loop μ-loop
 returns-2 c = (search needs, sym (c .before .loop .inv .1 ∙ part-past _ _ _ _ (c .loop-test .left)))
 
 pub part-start-spec : {M : Type 1} → statement M
-part-start-spec = tie.close (tie.spec Inv-loop μ-loop loop-holds returns (λ c. search needs) (λ c. search needs) (λ c. search needs) (λ c. search needs) loop-again returns-2)
+part-start-spec =
+    tie.close (tie.spec Inv-loop μ-loop loop-holds returns (λ c. search needs) (λ c. search needs) (λ c. search needs)
+    (λ c. search needs) loop-again returns-2)

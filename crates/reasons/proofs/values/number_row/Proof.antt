@@ -1,0 +1,15 @@
+-- `number_row` meets its contract: its test is that of the definition.
+use mathlib.Core.Path.{sym}
+use borrow.Author.Tests.{lt-ltb, le-ltb}
+use Rattle.folds.proofs.Folds.{picked, passed}
+use Rattle.reasons.proofs.values.number_row.Statement.{statement}
+use Rattle.reasons.proofs.values.number_row.Tie as tie
+
+returns : tie.Need-returns
+returns c = sym (picked _ _ _ (lt-ltb _ _ (c .if1 .taken)))
+
+returns-2 : tie.Need-returns-2
+returns-2 c = sym (passed _ _ _ (le-ltb _ _ (c .if1 .left)))
+
+pub number-row-spec : {M : Type 1} → statement M
+number-row-spec = tie.close (tie.spec returns returns-2)

@@ -1,0 +1,15 @@
+-- `put_of_record` meets its contract: the name, and then the sentence.
+use borrow.Author.Needs.{needs}
+use native.Mathlib.Omega.{arith}
+use Rattle.put.proofs.Puts.{put-then, put-most}
+use Rattle.reasons.proofs.words.put_of_record.Statement.{statement}
+use Rattle.reasons.proofs.words.put_of_record.Tie as tie
+
+returns : tie.Need-returns
+returns c =
+    let put-record = c .before .before .before .before .before .before .put-record in
+    let put-sentence = c .before .before .put-sentence in
+    put-most (omega arith) (put-then (put-record .ensures) (put-sentence .ensures))
+
+pub put-of-record-spec : {M : Type 1} → statement M
+put-of-record-spec = tie.close (tie.spec (λ c κs. search needs) (λ c κs. search needs) (λ c. search needs) returns)
