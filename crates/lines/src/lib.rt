@@ -179,7 +179,7 @@ fn dashes_kept(kind: Kind, dashes: [bool; 10]) -> bool
     ok
 }
 
-fn is_record(kind: Kind) -> bool
+pub fn is_record(kind: Kind) -> bool
     ensures { λ r. ⌜ r ≡ isRecord kind ⌝ }
 {
     match kind {

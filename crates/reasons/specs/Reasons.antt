@@ -4,7 +4,6 @@
 --
 -- has b l              the byte b stands in l
 -- fits t k             record k may stand in a tree or, if t, in a trace
--- isRecord k           record k may stand in a tree or in a trace
 -- recordFault t r      which sentence tells a wrong shape of the line r, by its record and fields
 -- shapeRow t n e l     which sentence tells a wrong shape of the bytes l of line n, in a tree or, if t, in a trace; e says that LF
 --                      ends the line
@@ -33,7 +32,7 @@
 -- placeText l          the line that is refused; nothing for line 0
 -- reasonText t s n l   the refusal of the file s by number n at line l, in words for a person
 use Prim.Native.Nat.{ℕ, zero, suc, _+_, _-_}
-use mathlib.Core.Bool.{Bool, true, false, _&&_, _||_, not}
+use mathlib.Core.Bool.{Bool, true, false, _&&_, not}
 use mathlib.Core.List.{List, [], _++_}
 use lib.Dec.{ltb, eqb}
 use lib.ListN.{length, getD, take}
@@ -47,7 +46,7 @@ use Rattle.lines.specs.declared.Kind.{Kind}
 use Rattle.lines.specs.declared.Kind.the-variants.{NoRecord, BusLine, IntLine, AccLine, OfferLine}
 use Rattle.lines.specs.declared.Line.{Line}
 use Rattle.lines.specs.declared.Form.{Form}
-use Rattle.lines.specs.Lines.{lineOf, formOf, limitKept, valueAt, inTree, inTrace}
+use Rattle.lines.specs.Lines.{lineOf, formOf, limitKept, valueAt, inTree, inTrace, isRecord}
 use Rattle.lines.specs.LineText.{mayStand}
 use Rattle.reasons.specs.Words.{fromPart, partAt, sentence, fieldName, quoted, recordSays, fieldSays}
 
@@ -56,9 +55,6 @@ has b l = ltb (partLength b l) (length l)
 
 abbrev pub fits : Bool → Kind → Bool
 fits t k = pick t (inTrace k) (inTree k)
-
-abbrev pub isRecord : Kind → Bool
-isRecord k = fits true k || fits false k
 
 unfoldable pub recordFault : Bool → Line → ℕ
 recordFault t r =

@@ -7,6 +7,7 @@ use crate::words::put_sentence;
 use lines::Kind;
 use lines::Line;
 use lines::form_of;
+use lines::is_record;
 use lines::read_line;
 use text::Field;
 use text::part_end;
@@ -54,7 +55,7 @@ fn record_fault(trace: bool, r: Line) -> usize
 {
     let kind = r.kind;
     let f = form_of(kind);
-    if !(fits(true, kind) | fits(false, kind)) {
+    if !is_record(kind) {
         return 18;
     }
     if !fits(trace, kind) {
