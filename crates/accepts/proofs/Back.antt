@@ -13,7 +13,7 @@ use lib.ListN.{length, getD}
 use borrow.Author.Tests.{lt-ltb, le-ltb, eq-eqb, ne-eqb, ltb-true, eqb-true, ltb-false, leb-false, not-false, not-true}
 use Rattle.text.specs.Text.{lines, unended}
 use Rattle.text.specs.Write.{decimalText, dash, fieldText, numbers, rows, lineText, fileText}
-use Rattle.text.proofs.Back.{file-back}
+use Rattle.text.proofs.Back.{file-back, nothing}
 use Rattle.model.specs.declared.Tree.{Tree}
 use Rattle.model.specs.declared.Bus.{Bus}
 use Rattle.model.specs.declared.Interconnect.{Interconnect}
@@ -326,10 +326,6 @@ begun-step B (bus-stands b h z q) m = bus-window b h
 begun-step B (root-stands g b d k m z q) n = k
 begun-step B (child-stands j p x g y v k m z d b c r f w q) n = k
 begun-step B (acc-stands v e k o f q) n = B n
-
-pub nothing : (r : List ℕ) → length r ≡ 0 → r ≡ []
-nothing [] z = refl
-nothing (b ∷ r) z = absurd (omega arith)
 
 -- the end of the file
 given-same : (t u : Tree) → given t ≡ given u → t ≡ u

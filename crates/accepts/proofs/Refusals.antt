@@ -13,6 +13,7 @@ use borrow.Author.Tests.{lt-ltb, le-ltb, le-leb, eq-eqb, ne-eqb, eqb-true}
 use Rattle.text.specs.declared.Field.{Field}
 use Rattle.text.specs.declared.Field.the-variants.{Number}
 use Rattle.text.specs.Text.{lines, unended}
+use Rattle.text.proofs.Back.{nothing}
 use Rattle.model.specs.declared.Tree.{Tree}
 use Rattle.model.specs.declared.Refusal.{Refusal}
 use Rattle.model.specs.declared.Refusal.the-variants.{Shape, Limit, Order, Taken, Level}
@@ -41,7 +42,7 @@ use Rattle.accepts.specs.TreeText.{busValues, accValues}
 use Rattle.accepts.specs.TreeRefused.{Stands, bus-stands, root-stands, child-stands, acc-stands, Leads, leads-none, leads-more, inOrder, free, low, lineRules, LineBreaks, not-ended, missing, not-shaped, breaks, TreeBreaks, TreeRefused, too-long, at-line}
 use Rattle.accepts.proofs.Written.{rootEntry, root-read}
 use Rattle.accepts.proofs.Complete.{bus-fields, line-given}
-use Rattle.accepts.proofs.Back.{stepped, line-first, nothing}
+use Rattle.accepts.proofs.Back.{stepped, line-first}
 
 -- the tests of a line are the rules in their order
 module _ (n : ℕ) where

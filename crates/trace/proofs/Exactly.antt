@@ -12,7 +12,7 @@ use borrow.Author.Tests.{leb-true, ltb-true, lt-ltb, eqb-true, le-leb, eq-eqb}
 use Rattle.text.specs.Text.{lines, unended}
 use Rattle.text.specs.Write.{numbers, rows, fileText}
 use Rattle.text.proofs.Written.{Clean, clean-append, fields-clean, AllClean, all-none, all-more, lines-read}
-use Rattle.text.proofs.Back.{file-back}
+use Rattle.text.proofs.Back.{file-back, nothing}
 use Rattle.model.specs.declared.Tree.{Tree}
 use Rattle.model.specs.declared.Refusal.{Refusal}
 use Rattle.model.specs.declared.Refusal.the-variants.{Shape}
@@ -98,10 +98,6 @@ module _ (accs : ℕ) (m : accs ≤ 32) (r : Request) (e : inRange accs r ≡ tr
   request-read last totals h k =
       ap (offerLine accs last totals) (request-line r range-digits)
       ∙ offer-good accs last totals (offerOf (r .slot) (r .accelerator) (r .count)) (offer-shaped (r .slot) (r .accelerator) (r .count)) range-limits (range-facts accs r e .1) h k
-
-pub nothing : (u : List ℕ) → length u ≡ 0 → u ≡ []
-nothing [] z = refl
-nothing (b ∷ u) z = absurd (omega arith)
 
 -- an accepted trace is written by its requests
 lines-written : (ls : List (List ℕ)) (n accs last : ℕ) (totals u : List ℕ) → readOffers n accs last totals ls u ≡ Accepted

@@ -11,6 +11,7 @@ use lib.Dec.{leb, ltb, eqb}
 use lib.ListN.{length, getD, length-set}
 use borrow.Author.Tests.{leb-true, ltb-true, le-leb, lt-leb, lt-ltb, le-ltb, eq-eqb, ne-eqb}
 use Rattle.text.specs.Text.{lines, unended}
+use Rattle.text.proofs.Back.{nothing}
 use Rattle.model.specs.declared.Tree.{Tree}
 use Rattle.model.specs.declared.Refusal.{Refusal}
 use Rattle.model.specs.declared.Refusal.the-variants.{Shape, Limit, Falling, Unknown}
@@ -33,7 +34,7 @@ use Rattle.trace.specs.OfferText.{offerOf}
 use Rattle.trace.proofs.Offers.{isOfferLine, offer-shaped}
 use Rattle.trace.proofs.Traces.{Good, offer-shape, offer-says, trace-size, trace-start}
 use Rattle.trace.proofs.Requests.{good-range, added-total, added-fits}
-use Rattle.trace.proofs.Exactly.{request-written, request-digits, request-line, request-read, range-facts, own-fits, none, nothing}
+use Rattle.trace.proofs.Exactly.{request-written, request-digits, request-line, request-read, range-facts, own-fits, none}
 
 abbrev sums : List ℕ → ℕ → ℕ
 sums totals a = getD totals a 0

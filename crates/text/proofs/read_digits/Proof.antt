@@ -1,12 +1,12 @@
--- `read_digits` meets its contract: what was read, moved up by the places that are left, and the rest make the number.
+-- `read_digits` meets its contract: what was read, moved up by the places that are passed, and the rest make the number.
 use mathlib.Core.Path.{_≡_, refl, ap, sym, _∙_}
 use Prim.Native.Nat.{_≤_, _<_, _-_, _+_, _*_, _^_}
 use native.Mathlib.Omega.{arith}
 use lib.ListN.{length, drop, getD}
 use borrow.Author.Needs.{needs}
+use Rattle.folds.proofs.Folds.{picked, passed}
 use Rattle.text.specs.Text.{allDigits, decimal}
 use Rattle.text.proofs.Digits.{digits-low, digits-high, digits-next, digits-end, decimal-end, decimal-next, below-ten, ten-fits}
-use Rattle.text.proofs.Parts.{taken, left}
 use Rattle.text.specs.declared.Field.the-variants.{Number}
 use Rattle.text.proofs.read_digits.Statement.{statement}
 use Rattle.text.proofs.read_digits.Tie as tie
@@ -23,11 +23,11 @@ loop-holds c = (search needs, search needs, refl, omega arith)
 
 returns : tie.Need-returns Inv-loop μ-loop
 returns c =
-    sym (left _ _ _ (c .before .before .before .loop .inv .2 ∙ digits-low (c .before .before .before .before .before .args .s .now) (c .before .before .before .loop .i) (search needs) (c .if1 .taken)))
+    sym (passed _ _ _ (c .before .before .before .loop .inv .2 ∙ digits-low (c .before .before .before .before .before .args .s .now) (c .before .before .before .loop .i) (search needs) (c .if1 .taken)))
 
 returns-2 : tie.Need-returns-2 Inv-loop μ-loop
 returns-2 c =
-    sym (left _ _ _ (c .before .before .before .before .loop .inv .2 ∙ digits-high (c .before .before .before .before .before .before .args .s .now) (c .before .before .before .before .loop .i) (search needs) (c .before .if1 .left) (c .if2 .taken)))
+    sym (passed _ _ _ (c .before .before .before .before .loop .inv .2 ∙ digits-high (c .before .before .before .before .before .before .args .s .now) (c .before .before .before .before .loop .i) (search needs) (c .before .if1 .left) (c .if2 .taken)))
 
 mul-value : tie.Need-mul-value Inv-loop μ-loop
 mul-value c =
@@ -54,7 +54,7 @@ returns-3 : tie.Need-returns-3 Inv-loop μ-loop
 returns-3 c =
     let s = c .before .before .before .args .s .now in
     let i = c .before .loop .i in
-    sym (taken _ _ _ (c .before .loop .inv .2 ∙ digits-end s i (search needs)) ∙ ap Number (c .before .loop .inv .3 ∙ decimal-end s i (c .before .loop .value) (search needs)))
+    sym (picked _ _ _ (c .before .loop .inv .2 ∙ digits-end s i (search needs)) ∙ ap Number (c .before .loop .inv .3 ∙ decimal-end s i (c .before .loop .value) (search needs)))
 
 pub read-digits-spec : {M : Type 1} → statement M
 read-digits-spec = tie.close (tie.spec Inv-loop μ-loop loop-holds (λ c. search needs) returns returns-2 mul-value (λ c κs. search needs) add-value (λ c. search needs) (λ c. search needs) loop-again returns-3)
