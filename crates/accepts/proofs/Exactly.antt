@@ -29,21 +29,12 @@ use Rattle.accepts.specs.TreeText.{busText, intText, accText, treeText, 
 use Rattle.accepts.proofs.Kept.{never-refused}
 use Rattle.accepts.proofs.Order.{Reordered, unchanged, exchanged, later, also, any-order}
 use Rattle.accepts.proofs.Complete.{text-given, text-clean}
-use Rattle.accepts.proofs.Back.{read-written}
+use Rattle.accepts.proofs.Back.{tick, tick-same, tick-other, read-written}
 
 -- the numbers bs without the first a
 remove : ℕ → List ℕ → List ℕ
 remove a [] = []
 remove a (b ∷ bs) = pick (eqb a b) bs (b ∷ remove a bs)
-
-abbrev tick : ℕ → ℕ → ℕ
-tick a b = pick (eqb a b) 1 0
-
-tick-same : (a b : ℕ) → a ≡ b → tick a b ≡ 1
-tick-same a b e = picked _ _ _ (eq-eqb a b e)
-
-tick-other : (a b : ℕ) → (a ≡ b → ⊥) → tick a b ≡ 0
-tick-other a b d = passed _ _ _ (ne-eqb a b d)
 
 times-remove : (a x : ℕ) (bs : List ℕ) → 0 < times a bs → times x bs ≡ tick x a + times x (remove a bs)
 unfolding times remove
