@@ -37,6 +37,7 @@ use Rattle.model.specs.Builders.{withBus, carrying}
 use Rattle.records.specs.Records.{emptyTree, busOf, withPort, withInterconnect, withRoot, withChild, accOf, withAcc}
 use Rattle.placing.specs.Placing.{refusedAt, given, busLine, intInOrder, rootRule, childLine, intLine, accLine, complete, finish, recordLine, treeLine}
 use Rattle.reader.specs.TreeFile.{onward, readLines, readTree}
+use Rattle.reader.proofs.Files.{tree-size, tree-start}
 use Rattle.lines.proofs.Limits.{least, most}
 
 -- the limits of an accelerator's fields, and that its place is right
@@ -777,14 +778,10 @@ kept-lines (l ∷ ls) n t u P e = go (treeLine n t (lineOf l) .answer) refl (kep
 
 -- "An accepted tree is a configuration that keeps its rules"
 pub accepted-keeps : (s : List ℕ) → readTree s .answer ≡ Accepted → treeKeeps (readTree s .tree) ≡ true
-unfolding readTree
-accepted-keeps s e = go (ltb 65536 (length s)) refl
-  where
-    read : TreeRead
-    read = readLines 1 emptyTree (lines s) (unended s)
-
-    go : (c : Bool) → ltb 65536 (length s) ≡ c → treeKeeps (pick (ltb 65536 (length s)) (refusedAt Limit 0) read .tree) ≡ true
-    go true f = never-refused _ Limit 0 (sym (ap (λ (r : TreeRead). r .answer) (picked _ _ read f)) ∙ e)
-    go false f =
-        let q = passed _ (refusedAt Limit 0) read f in
-        ap (λ (r : TreeRead). treeKeeps (r .tree)) q ∙ kept-lines (lines s) 1 emptyTree (unended s) partial-empty (sym (ap (λ (r : TreeRead). r .answer) q) ∙ e)
+accepted-keeps s e = elim (decLt 65536 (length s)) [
+  | yes h ↦ never-refused _ Limit 0 (sym (ap (λ (r : TreeRead). r .answer) (tree-size s h)) ∙ e)
+  | no h ↦
+      let q = tree-start s (omega arith) in
+      ap (λ (r : TreeRead). treeKeeps (r .tree)) q
+      ∙ kept-lines (lines s) 1 emptyTree (unended s) partial-empty (sym (ap (λ (r : TreeRead). r .answer) q) ∙ e)
+]
