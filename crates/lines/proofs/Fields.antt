@@ -55,11 +55,17 @@ push-count l Dash = refl
 push-count l (Number x) = refl
 
 -- past the tenth a field is only counted
-pub dash-past : (l : Line) → length (l .dashes) ≤ l .count → record { kind = l .kind; count = l .count + 1; malformed = l .malformed; dashes = l .dashes; values = l .values } ≡ push l Dash
-dash-past l h = ap (λ (d : List Bool). record { kind = l .kind; count = l .count + 1; malformed = l .malformed; dashes = d; values = l .values }) (sym (set-out (l .dashes) (l .count) true h))
+pub dash-past : (l : Line) → length (l .dashes) ≤ l .count
+    → record { kind = l .kind; count = l .count + 1; malformed = l .malformed; dashes = l .dashes; values = l .values } ≡ push l Dash
+dash-past l h =
+    ap (λ (d : List Bool). record { kind = l .kind; count = l .count + 1; malformed = l .malformed; dashes = d; values = l .values })
+    (sym (set-out (l .dashes) (l .count) true h))
 
-pub number-past : (l : Line) (x : ℕ) → length (l .values) ≤ l .count → record { kind = l .kind; count = l .count + 1; malformed = l .malformed; dashes = l .dashes; values = l .values } ≡ push l (Number x)
-number-past l x h = ap (λ (v : List ℕ). record { kind = l .kind; count = l .count + 1; malformed = l .malformed; dashes = l .dashes; values = v }) (sym (set-out (l .values) (l .count) x h))
+pub number-past : (l : Line) (x : ℕ) → length (l .values) ≤ l .count
+    → record { kind = l .kind; count = l .count + 1; malformed = l .malformed; dashes = l .dashes; values = l .values } ≡ push l (Number x)
+number-past l x h =
+    ap (λ (v : List ℕ). record { kind = l .kind; count = l .count + 1; malformed = l .malformed; dashes = l .dashes; values = v })
+    (sym (set-out (l .values) (l .count) x h))
 
 -- the fields after the one that ends at e
 abbrev pub later : List ℕ → ℕ → List Field
@@ -69,7 +75,8 @@ pub line-begun : (s : List ℕ) (e : ℕ) → e ≡ 0 + partLength 9 (drop 0 s) 
 unfolding lineOf
 line-begun s e q = ap lineFrom (part-next 9 s 0 e (omega arith) q)
 
-pub line-next : (s : List ℕ) (r : Line) (e d : ℕ) → e < length s → d ≡ (e + 1) + partLength 9 (drop (e + 1) s) → pushed r (later s e) ≡ pushed (push r (fieldOf (take (d - (e + 1)) (drop (e + 1) s)))) (later s d)
+pub line-next : (s : List ℕ) (r : Line) (e d : ℕ) → e < length s → d ≡ (e + 1) + partLength 9 (drop (e + 1) s)
+    → pushed r (later s e) ≡ pushed (push r (fieldOf (take (d - (e + 1)) (drop (e + 1) s)))) (later s d)
 unfolding pushed
 line-next s r e d h q = ap (λ (ps : List (List ℕ)). pushed r (map fieldOf ps)) (picked _ _ _ (lt-ltb _ _ h) ∙ part-next 9 s (e + 1) d (omega arith) q)
 

@@ -20,7 +20,8 @@ use Rattle.text.specs.Text.{parts, behind, butLast, final, lines, unende
 use Rattle.text.specs.Write.{decimalText, dash, fieldsText, lineText, fileText}
 use Rattle.text.proofs.Parts.{first-part}
 use Rattle.text.proofs.Decimal.{decimal-one, decimal-more}
-use Rattle.text.proofs.Written.{Clean, clean-none, clean-more, AllClean, all-none, all-more, append-nil, fields-read, lines-read-on, decimal-last, number-read}
+use Rattle.text.proofs.Written.{Clean, clean-none, clean-more, AllClean, all-none, all-more}
+use Rattle.text.proofs.Written.{append-nil, fields-read, lines-read-on, decimal-last, number-read}
 
 -- parts, each after a separator; rejoin: the first without one
 after : ℕ → List (List ℕ) → List ℕ
@@ -45,7 +46,7 @@ parts-back : (sep : ℕ) (s : List ℕ) → rejoin sep (parts sep s) ≡ s
 unfolding parts rejoin after
 parts-back sep [] = refl
 parts-back sep (b ∷ s) = elim (ℕ-discrete b sep) [
-  | yes e ↦ ap (rejoin sep) (picked _ _ _ (eq-eqb b sep e)) ∙ rejoin-after sep (parts sep s) (first-part sep s) ∙ ap₂ (λ (x : ℕ) (y : List ℕ). x ∷ y) (sym e) (parts-back sep s)
+  | yes e ↦ ap (rejoin sep) (picked _ _ _ (eq-eqb b sep e)) ∙ rejoin-after sep (parts sep s) (first-part sep s) ∙ ap₂ _∷_ (sym e) (parts-back sep s)
   | no d ↦ ap (rejoin sep) (passed _ _ _ (ne-eqb b sep d)) ∙ rejoin-behind sep b (parts sep s) ∙ ap (λ (y : List ℕ). b ∷ y) (parts-back sep s)
 ]
 
@@ -110,8 +111,10 @@ last-apart (p ∷ (q ∷ ps)) (all-more C A) = let i = last-apart (q ∷ ps) A i
 pub lines-exactly : (s : List ℕ) (ls : List (List ℕ)) (e : List ℕ)
     → ((lines s ≡ ls) × (unended s ≡ e)) ↔ ((s ≡ fileText ls ++ e) × AllClean 10 ls × Clean 10 e)
 lines-exactly s ls e = (
-  λ h. let c = last-apart (parts 10 s) (parts-apart 10 s) in
-      (text-back s ∙ ap₂ (λ (xs : List (List ℕ)) (x : List ℕ). fileText xs ++ x) (h .0) (h .1), subst (AllClean 10) (h .0) (c .0), subst (Clean 10) (h .1) (c .1)),
+  λ h.
+      let c = last-apart (parts 10 s) (parts-apart 10 s) in
+      let t = ap₂ (λ (xs : List (List ℕ)) (x : List ℕ). fileText xs ++ x) (h .0) (h .1) in
+      (text-back s ∙ t, subst (AllClean 10) (h .0) (c .0), subst (Clean 10) (h .1) (c .1)),
   λ h. let r = lines-read-on (h .1) (h .2) in (ap lines (h .0) ∙ r .0, ap unended (h .0) ∙ r .1),
 )
 

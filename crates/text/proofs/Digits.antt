@@ -19,7 +19,8 @@ pub same-end : (a b : List ℕ) (i : ℕ) → length a ≤ i → length b ≤ i 
 unfolding same
 same-end a b i h k = rw (drop-of-length-le a h, drop-of-length-le b k)
 
-pub same-next : (a b : List ℕ) (i : ℕ) → i < length a → i < length b → getD a i 0 ≡ getD b i 0 → same (drop i a) (drop i b) ≡ same (drop (i + 1) a) (drop (i + 1) b)
+pub same-next : (a b : List ℕ) (i : ℕ) → i < length a → i < length b → getD a i 0 ≡ getD b i 0
+    → same (drop i a) (drop i b) ≡ same (drop (i + 1) a) (drop (i + 1) b)
 unfolding same
 same-next a b i h k e = rw (add-one, drop-cons a i 0 h, drop-cons b i 0 k, eq-eqb _ _ e) refl
 
@@ -58,7 +59,8 @@ place-up : (v d n r : ℕ) → v * (n * 10) + (d * n + r) ≡ (v * 10 + d) * n +
 place-up v d n r = omega (arith, add-mul (v * 10) d n, mul-assoc v 10 n, ap (λ k. v * k) (mul-comm n 10))
 
 -- one more digit moves what was read one place up
-pub decimal-next : (s : List ℕ) (i v : ℕ) → i < length s → v * 10 ^ (length s - i) + decimal (drop i s) ≡ (v * 10 + (getD s i 0 - 48)) * 10 ^ (length s - (i + 1)) + decimal (drop (i + 1) s)
+pub decimal-next : (s : List ℕ) (i v : ℕ) → i < length s
+    → v * 10 ^ (length s - i) + decimal (drop i s) ≡ (v * 10 + (getD s i 0 - 48)) * 10 ^ (length s - (i + 1)) + decimal (drop (i + 1) s)
 unfolding decimal
 decimal-next s i v h =
     let m : length s - i ≡ suc (length s - suc i) = omega arith in

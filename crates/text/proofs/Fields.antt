@@ -75,7 +75,8 @@ list-end (b ∷ s) h = elim (ℕ-discrete b 9) [
 ]
 
 -- a field that a tab ends, and what is passed of the line
-list-tab : (s : List ℕ) (k : ℕ) → fieldLength s ≡ k → k < length s → getD s k 0 ≡ 9 → (parts 9 (firstLine s) ≡ take k s ∷ parts 9 (firstLine (drop (suc k) s))) × (partLength 10 s ≡ suc k + partLength 10 (drop (suc k) s))
+list-tab : (s : List ℕ) (k : ℕ) → fieldLength s ≡ k → k < length s → getD s k 0 ≡ 9
+    → (parts 9 (firstLine s) ≡ take k s ∷ parts 9 (firstLine (drop (suc k) s))) × (partLength 10 s ≡ suc k + partLength 10 (drop (suc k) s))
 list-tab [] k q h g = absurd (omega arith)
 list-tab (b ∷ s) zero q h g =
     let p = part-on b s (λ f. omega arith) in
@@ -92,7 +93,8 @@ list-tab (b ∷ s) (suc k) q h g = elim (ℕ-discrete b 9) [
 ]
 
 -- a field that the LF ends
-list-lf : (s : List ℕ) (k : ℕ) → fieldLength s ≡ k → k < length s → (getD s k 0 ≡ 9 → ⊥) → (parts 9 (firstLine s) ≡ take k s ∷ []) × (partLength 10 s ≡ k) × (getD s k 0 ≡ 10)
+list-lf : (s : List ℕ) (k : ℕ) → fieldLength s ≡ k → k < length s → (getD s k 0 ≡ 9 → ⊥)
+    → (parts 9 (firstLine s) ≡ take k s ∷ []) × (partLength 10 s ≡ k) × (getD s k 0 ≡ 10)
 unfolding parts
 list-lf [] k q h g = absurd (omega arith)
 list-lf (b ∷ s) zero q h g = elim (ℕ-discrete b 10) [
@@ -140,7 +142,9 @@ module _ (s : List ℕ) (at e : ℕ) (q : e ≡ at + fieldLength (drop at s)) wh
     fits = let l = length-drop at s in omega (arith, l)
 
     -- a tab: the line goes on
-    pub field-then : getD s e 0 ≡ 9 → (fields (lineAt s at) ≡ take (e - at) (drop at s) ∷ fields (lineAt s (e + 1))) × (at + partLength 10 (drop at s) ≡ (e + 1) + partLength 10 (drop (e + 1) s))
+    pub field-then : getD s e 0 ≡ 9
+        → (fields (lineAt s at) ≡ take (e - at) (drop at s) ∷ fields (lineAt s (e + 1)))
+        × (at + partLength 10 (drop at s) ≡ (e + 1) + partLength 10 (drop (e + 1) s))
     field-then g =
         let r = list-tab (drop at s) _ refl fits (byte ∙ g) in
         (r .0 ∙ ap₂ (λ p t. p ∷ parts 9 (firstLine t)) same-field same-rest, omega (arith, r .1, ap (partLength 10) same-rest))

@@ -56,11 +56,14 @@ unfolding parts partLength
 first-part sep [] = refl
 first-part sep (b ∷ s) = elim (ℕ-discrete b sep) [
   | yes e ↦ rw (eq-eqb b sep e) (ap (λ r. [] ∷ r) (sym (picked _ _ _ (lt-ltb 0 (suc (length s)) (omega arith)))))
-  | no d ↦ rw (ne-eqb b sep d, ltb-same (suc (partLength sep s)) (suc (length s)) (partLength sep s) (length s) (λ l. omega arith) (λ l. omega arith)) (ap (behind b) (first-part sep s))
+  | no d ↦
+      let n = partLength sep s in
+      rw (ne-eqb b sep d, ltb-same (suc n) (suc (length s)) n (length s) (λ l. omega arith) (λ l. omega arith)) (ap (behind b) (first-part sep s))
 ]
 
 -- the part at a position, and the parts after it
-pub part-next : (sep : ℕ) (s : List ℕ) (at e : ℕ) → at ≤ length s → e ≡ at + partLength sep (drop at s) → parts sep (drop at s) ≡ take (e - at) (drop at s) ∷ pick (ltb e (length s)) (parts sep (drop (e + 1) s)) []
+pub part-next : (sep : ℕ) (s : List ℕ) (at e : ℕ) → at ≤ length s → e ≡ at + partLength sep (drop at s)
+    → parts sep (drop at s) ≡ take (e - at) (drop at s) ∷ pick (ltb e (length s)) (parts sep (drop (e + 1) s)) []
 part-next sep s at e h q =
     let n : partLength sep (drop at s) ≡ e - at = omega arith in
     let l = length-drop at s in
