@@ -1,7 +1,6 @@
 -- Laws of parts: what stands at a position says where the part there ends, and a part ends at the next separator. By the
 -- clauses of the definitions, read at a position through `drop-cons`, and by induction on the bytes.
 use Prim.Native.Nat.{ℕ, suc, _+_, _-_, _≤_, _<_}
-use mathlib.Core.Bool.{Bool, true, false}
 use mathlib.Core.List.{List, [], _∷_}
 use mathlib.Core.Path.{_≡_, refl, sym, _∙_, ap}
 use native.Mathlib.Decide.{ℕ-discrete, decLt}
