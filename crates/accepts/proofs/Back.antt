@@ -13,7 +13,7 @@ use lib.ListN.{length, getD}
 use borrow.Author.Tests.{lt-ltb, le-ltb, eq-eqb, ne-eqb, ltb-true, eqb-true, ltb-false, leb-false, not-false, not-true}
 use Rattle.text.specs.Text.{lines, unended}
 use Rattle.text.specs.Write.{decimalText, dash, fieldText, numbers, rows, lineText, fileText}
-use Rattle.text.proofs.Back.{file-back}
+use Rattle.text.proofs.Back.{file-back, nothing}
 use Rattle.model.specs.declared.Tree.{Tree}
 use Rattle.model.specs.declared.Bus.{Bus}
 use Rattle.model.specs.declared.Interconnect.{Interconnect}
@@ -30,7 +30,7 @@ use Rattle.lines.specs.declared.FileAnswer.the-variants.{Accepted}
 use Rattle.lines.specs.declared.Kind.{Kind}
 use Rattle.lines.specs.declared.Kind.the-variants.{NoRecord, BusLine, IntLine, AccLine, OfferLine}
 use Rattle.lines.specs.declared.Line.{Line}
-use Rattle.lines.specs.Lines.{nameOf, lineOf, valueAt, dashAt, inTree, shaped, limitsKept}
+use Rattle.lines.specs.Lines.{formOf, nameOf, lineOf, valueAt, dashAt, inTree, shaped, limitsKept}
 use Rattle.lines.proofs.Limits.{least, most}
 use Rattle.lines.proofs.Back.{fieldAt, line-written, numbers-written, no-dash-at}
 use Rattle.model.specs.Builders.{withBus}
@@ -42,14 +42,18 @@ use Rattle.reader.specs.TreeFile.{onward, readLines, readTree}
 use Rattle.reader.proofs.Files.{tree-size, tree-start}
 use Rattle.accepts.specs.TreeText.{busWritten, rootWritten, childWritten, accWritten, busText, intText, accText, times, Writes}
 use Rattle.accepts.specs.TreeRefused.{Stands, bus-stands, root-stands, child-stands, acc-stands}
-use Rattle.accepts.proofs.Kept.{Partial, accepted-keeps, partial-empty, fine-line, never-refused, is-empty, order-start, order-accs, order-number, order-parent, new-here, root-size, child-new, child-parent, child-parent-port, child-granularity, acc-new, acc-old, home-size, stored-parent, stored-parent-port, stored-granularity}
+use Rattle.accepts.proofs.Kept.{Partial, accepted-keeps, partial-empty, fine-line, never-refused, is-empty}
+use Rattle.accepts.proofs.Kept.{order-start, order-accs, order-number, order-parent, new-here, root-size}
+use Rattle.accepts.proofs.Kept.{child-new, child-parent, child-parent-port, child-granularity}
+use Rattle.accepts.proofs.Kept.{acc-new, acc-old, home-size, stored-parent, stored-parent-port, stored-granularity}
 use Rattle.accepts.proofs.Order.{passed-test, placed, placing, went-on, goes}
 
 module _ (n : ℕ) (u : Tree) (s : List ℕ) (e : treeLine n u (lineOf s) .answer ≡ Accepted) where
   abbrev pub l : Line
   l = lineOf s
 
-  line-tests : (inTree (l .kind) && shaped l ≡ true) × (limitsKept (l .kind) (l .values) ≡ true) × (recordLine (l .kind) n u l .answer ≡ Accepted)
+  line-tests : (inTree (l .kind) && shaped l ≡ true) × (limitsKept (l .kind) (l .values) ≡ true)
+      × (recordLine (l .kind) n u l .answer ≡ Accepted)
   unfolding treeLine
   line-tests =
       let a = passed-test (not (inTree (l .kind) && shaped l)) Shape n _ e in
@@ -106,6 +110,12 @@ module _ (n : ℕ) (u : Tree) (s : List ℕ) (e : treeLine n u (lineOf s) .answe
     unfolding rows
     int-line = line-written s IntLine q shape
 
+    low : (i : ℕ) → i < 4 → getD (formOf IntLine .lows) i 0 ≤ valueAt l i
+    low = least IntLine (l .values) (limits IntLine q)
+
+    high : (i : ℕ) → i < 4 → valueAt l i ≤ getD (formOf IntLine .highs) i 0
+    high = most IntLine (l .values) (limits IntLine q)
+
     first : dashAt l 0 ≡ false
     first = no-dash-at l IntLine q shape 0 (lit< tt) refl
 
@@ -118,23 +128,26 @@ module _ (n : ℕ) (u : Tree) (s : List ℕ) (e : treeLine n u (lineOf s) .answe
         let f = number-at 0 first ∙ ap decimalText z in (
           withRoot u (valueAt l 3),
           result IntLine q ∙ int-root n u l o z,
-          root-stands (valueAt l 3) (least IntLine (l .values) (limits IntLine q) 3 (lit< tt)) (most IntLine (l .values) (limits IntLine q) 3 (lit< tt)) window (order-accs u l o) (sym (order-number u l o) ∙ z)
+          root-stands (valueAt l 3) (low 3 (lit< tt)) (high 3 (lit< tt)) window (order-accs u l o) (sym (order-number u l o) ∙ z)
               (int-line ∙ λ i. lineText (nameOf IntLine) (f i ∷ dash-at 1 (d .0) i ∷ dash-at 2 (d .1) i ∷ number-at 3 fourth i ∷ [])),
         )
 
     child-stepped : (valueAt l 0 ≡ 0 → ⊥) → Stepped
     unfolding numbers childLine
     child-stepped z =
-        let d = both (not (dashAt l 1)) (not (dashAt l 2)) (both (not (dashAt l 1) && not (dashAt l 2)) (ltb (valueAt l 1) (valueAt l 0)) (sym (passed _ _ _ (ne-eqb _ _ z)) ∙ order-start u l o .1) .0) in
+        let c = sym (passed _ _ _ (ne-eqb _ _ z)) ∙ order-start u l o .1 in
+        let d = both (not (dashAt l 1)) (not (dashAt l 2)) (both _ (ltb (valueAt l 1) (valueAt l 0)) c .0) in
         let a = sym (ap (λ (r : TreeRead). r .answer) (int-child n u l o z)) ∙ answer IntLine q in
         let f = passed-test (not (isEmpty (portOf u (valueAt l 1) (valueAt l 2)))) Taken n _ a in
         let g = passed-test (leb 4 (levelOf u (valueAt l 1))) Level n _ (f .1) in
         let b = not-false _ (f .0) in (
           _,
           result IntLine q ∙ int-child n u l o z ∙ child-given n u (l .values) b (leb-false _ _ (g .0)),
-          child-stands (valueAt l 0) (valueAt l 1) (valueAt l 2) (valueAt l 3) (least IntLine (l .values) (limits IntLine q) 3 (lit< tt)) (most IntLine (l .values) (limits IntLine q) 3 (lit< tt)) window (order-accs u l o) (order-number u l o) (omega (arith, z))
-              (omega (arith, most IntLine (l .values) (limits IntLine q) 0 (lit< tt))) (order-parent u l o z) (omega (arith, most IntLine (l .values) (limits IntLine q) 2 (lit< tt))) (is-empty _ b) (leb-false _ _ (g .0))
-              (int-line ∙ λ i. lineText (nameOf IntLine) (number-at 0 first i ∷ number-at 1 (not-true _ (d .0)) i ∷ number-at 2 (not-true _ (d .1)) i ∷ number-at 3 fourth i ∷ [])),
+          child-stands (valueAt l 0) (valueAt l 1) (valueAt l 2) (valueAt l 3) (low 3 (lit< tt)) (high 3 (lit< tt)) window (order-accs u l o)
+              (order-number u l o) (omega (arith, z)) (omega (arith, high 0 (lit< tt))) (order-parent u l o z) (omega (arith, high 2 (lit< tt)))
+              (is-empty _ b) (leb-false _ _ (g .0))
+              (int-line ∙ λ i. lineText (nameOf IntLine)
+              (number-at 0 first i ∷ number-at 1 (not-true _ (d .0)) i ∷ number-at 2 (not-true _ (d .1)) i ∷ number-at 3 fourth i ∷ [])),
         )
 
   int-stepped : l .kind ≡ IntLine → Stepped
@@ -169,7 +182,17 @@ record Keeps (u t : Tree) : Type 0 where
   acc : (a : ℕ) → 0 < limitOf u a → acceleratorOf t a ≡ acceleratorOf u a
 
 keeps-same : (t : Tree) → Keeps t t
-keeps-same t = record { bus = λ h. refl; ints = omega arith; accs = omega arith; whole = λ h. refl; parent = λ j h. refl; parent-port = λ j h. refl; granularity = λ j h. refl; acc = λ a h. refl }
+keeps-same t =
+    record {
+      bus = λ h. refl;
+      ints = omega arith;
+      accs = omega arith;
+      whole = λ h. refl;
+      parent = λ j h. refl;
+      parent-port = λ j h. refl;
+      granularity = λ j h. refl;
+      acc = λ a h. refl;
+    }
 
 keeps-on : (u w t : Tree) → Keeps u w → Keeps w t → Keeps u t
 keeps-on u w t A B =
@@ -186,9 +209,27 @@ keeps-on u w t A B =
 
 keeps-step : {u w : Tree} {l : List ℕ} → Partial u → Stands u l w → Keeps u w
 keeps-step {u} P (bus-stands b h z q) =
-    record { bus = λ k. absurd (omega arith); ints = omega arith; accs = omega arith; whole = λ k. refl; parent = λ j k. refl; parent-port = λ j k. refl; granularity = λ j k. refl; acc = λ a k. refl }
+    record {
+      bus = λ k. absurd (omega arith);
+      ints = omega arith;
+      accs = omega arith;
+      whole = λ k. refl;
+      parent = λ j k. refl;
+      parent-port = λ j k. refl;
+      granularity = λ j k. refl;
+      acc = λ a k. refl;
+    }
 keeps-step {u} P (root-stands g b d k m z q) =
-    record { bus = λ h. refl; ints = omega arith; accs = omega arith; whole = λ h. absurd (omega arith); parent = λ j h. absurd (omega arith); parent-port = λ j h. absurd (omega arith); granularity = λ j h. absurd (omega arith); acc = λ a h. refl }
+    record {
+      bus = λ h. refl;
+      ints = omega arith;
+      accs = omega arith;
+      whole = λ h. absurd (omega arith);
+      parent = λ j h. absurd (omega arith);
+      parent-port = λ j h. absurd (omega arith);
+      granularity = λ j h. absurd (omega arith);
+      acc = λ a h. refl;
+    }
 keeps-step {u} P (child-stands j p q g y v k m z d b c r f w t) =
     record {
       bus = λ h. refl;
@@ -201,21 +242,27 @@ keeps-step {u} P (child-stands j p q g y v k m z d b c r f w t) =
       acc = λ a h. refl;
     }
 keeps-step {u} P (acc-stands v e k o f q) =
+    let home = getD v 1 0 in
+    let port = getD v 2 0 in
     let size = home-size u v P e k o f in
     record {
       bus = λ h. refl;
       ints = omega arith;
       accs = omega arith;
       whole = λ h. refl;
-      parent = λ j h. stored-parent u (getD v 1 0) (getD v 2 0) (Acc (getD v 0 0)) size j;
-      parent-port = λ j h. stored-parent-port u (getD v 1 0) (getD v 2 0) (Acc (getD v 0 0)) size j;
-      granularity = λ j h. stored-granularity u (getD v 1 0) (getD v 2 0) (Acc (getD v 0 0)) size j;
+      parent = λ j h. stored-parent u home port (Acc (getD v 0 0)) size j;
+      parent-port = λ j h. stored-parent-port u home port (Acc (getD v 0 0)) size j;
+      granularity = λ j h. stored-granularity u home port (Acc (getD v 0 0)) size j;
       acc = λ a h. acc-old u v P e k o f a (λ x. let y = ap (limitOf u) x in omega arith);
     }
 
 -- the bus line, where it is still to come
 abbrev busPart : Tree → Tree → List (List ℕ)
 busPart u t = pick (ltb 0 (u .bus .window)) [] (busText t ∷ [])
+
+-- it is not, once it is read
+bus-over : (u t : Tree) (ls : List (List ℕ)) → 0 < u .bus .window → busPart u t ++ ls ≡ ls
+bus-over u t ls h = ap (λ (p : List (List ℕ)). p ++ ls) (picked _ [] (busText t ∷ []) (lt-ltb 0 (u .bus .window) h))
 
 -- the lines ls carry on from u to t: they are what t has and u has not
 record Rest (u t : Tree) (ls : List (List ℕ)) : Type 0 where
@@ -228,7 +275,9 @@ record Rest (u t : Tree) (ls : List (List ℕ)) : Type 0 where
 
 rows-next : (n k : ℕ) (f : ℕ → List ℕ) → k + 1 ≤ n → rows (n - k) k f ≡ f k ∷ rows (n - (k + 1)) (k + 1) f
 unfolding rows
-rows-next n k f h = let m : n - k ≡ suc (n - (k + 1)) = omega arith in ap (λ (c : ℕ). rows c k f) m ∙ ap (λ (c : ℕ). f k ∷ rows (n - (k + 1)) c f) (sym (add-one k))
+rows-next n k f h =
+    let m : n - k ≡ suc (n - (k + 1)) = omega arith in
+    ap (λ (c : ℕ). rows c k f) m ∙ ap (λ (c : ℕ). f k ∷ rows (n - (k + 1)) c f) (sym (add-one k))
 
 bus-rest : (u t : Tree) (b : Bus) (l : List ℕ) (ls : List (List ℕ)) → Partial u → u .bus .window ≡ 0 → 0 < b .window → l ≡ busWritten b
     → Keeps u (withBus u b) → Rest (withBus u b) t ls → Rest u t (l ∷ ls)
@@ -240,7 +289,7 @@ bus-rest u t b l ls P z h q K R =
       order = R .order;
       read = R .read;
       left = R .left;
-      text = ap₂ (λ (x : List ℕ) (xs : List (List ℕ)). x ∷ xs) (q ∙ ap busWritten (sym (R .keeps .bus h))) (R .text ∙ ap (λ (p : List (List ℕ)). p ++ X) (picked _ _ _ (lt-ltb 0 (b .window) h)))
+      text = ap₂ _∷_ (q ∙ ap busWritten (sym (R .keeps .bus h))) (R .text ∙ bus-over (withBus u b) t X h)
           ∙ ap (λ (p : List (List ℕ)). p ++ X) (sym (passed _ _ _ (le-ltb 0 (u .bus .window) (omega arith))));
     }
 
@@ -248,7 +297,8 @@ int-rest : (u w t : Tree) (l : List ℕ) (ls : List (List ℕ)) → 0 < u .bus .
     → w .accelerators ≡ u .accelerators → Keeps u w → l ≡ intText t (u .ints) → Rest w t ls → Rest u t (l ∷ ls)
 int-rest u w t l ls h b i a K q R =
     let M = map (accText t) (R .order) in
-    let none = picked _ [] (busText t ∷ []) (lt-ltb 0 (u .bus .window) h) in
+    let left : ℕ → List (List ℕ) = λ k. rows (t .ints - k) k (intText t) ++ M in
+    let read : 0 < w .bus .window = subst (λ (c : Bus). 0 < c .window) (sym b) h in
     let same : (x : ℕ) → limitOf w x ≡ limitOf u x = λ x. ap (λ (y : List Accelerator). getD y x noAccelerator .phi) a in
     record {
       part = R .part;
@@ -256,13 +306,23 @@ int-rest u w t l ls h b i a K q R =
       order = R .order;
       read = λ x k. R .read x (omega (arith, same x));
       left = λ x k. R .left x (same x ∙ k);
-      text = ap₂ (λ (x : List ℕ) (xs : List (List ℕ)). x ∷ xs) q
-          (R .text ∙ ap (λ (c : Bus). pick (ltb 0 (c .window)) [] (busText t ∷ []) ++ (rows (t .ints - w .ints) (w .ints) (intText t) ++ M)) b ∙ ap (λ (p : List (List ℕ)). p ++ (rows (t .ints - w .ints) (w .ints) (intText t) ++ M)) none ∙ ap (λ (k : ℕ). rows (t .ints - k) k (intText t) ++ M) i)
+      text = ap₂ _∷_ q (R .text ∙ bus-over w t (left (w .ints)) read ∙ ap left i)
           ∙ ap (λ (p : List (List ℕ)). p ++ M) (sym (rows-next (t .ints) (u .ints) (intText t) (omega (arith, R .keeps .ints))))
-          ∙ ap (λ (p : List (List ℕ)). p ++ (rows (t .ints - u .ints) (u .ints) (intText t) ++ M)) (sym none);
+          ∙ sym (bus-over u t (left (u .ints)) h);
     }
 
-module _ (u t : Tree) (v : List ℕ) (l : List ℕ) (ls : List (List ℕ)) (P : Partial u) (e : limitsKept AccLine v ≡ true) (k : getD v 1 0 < u .ints) (o : limitOf u (getD v 0 0) ≡ 0) (f : portOf u (getD v 1 0) (getD v 2 0) ≡ Empty)
+-- a number counts once in a list that begins with it
+abbrev pub tick : ℕ → ℕ → ℕ
+tick a b = pick (eqb a b) 1 0
+
+pub tick-same : (a b : ℕ) → a ≡ b → tick a b ≡ 1
+tick-same a b e = picked _ _ _ (eq-eqb a b e)
+
+pub tick-other : (a b : ℕ) → (a ≡ b → ⊥) → tick a b ≡ 0
+tick-other a b d = passed _ _ _ (ne-eqb a b d)
+
+module _ (u t : Tree) (v : List ℕ) (l : List ℕ) (ls : List (List ℕ)) (P : Partial u) (e : limitsKept AccLine v ≡ true)
+    (k : getD v 1 0 < u .ints) (o : limitOf u (getD v 0 0) ≡ 0) (f : portOf u (getD v 1 0) (getD v 2 0) ≡ Empty)
     (q : l ≡ accWritten (getD v 0 0) (accOf v)) (h : 0 < u .bus .window) (K : Keeps u (withAcc u v)) (R : Rest (withAcc u v) t ls) where
   abbrev a : ℕ
   a = getD v 0 0
@@ -270,11 +330,17 @@ module _ (u t : Tree) (v : List ℕ) (l : List ℕ) (ls : List (List ℕ)) (P : 
   new : acceleratorOf (withAcc u v) a ≡ accOf v
   new = acc-new u v P e k o f
 
+  some-limit : 0 < accOf v .phi
+  some-limit = least AccLine v e 3 (lit< tt)
+
   here : 0 < limitOf (withAcc u v) a
-  here = omega (arith, ap (λ (x : Accelerator). x .phi) new, least AccLine v e 3 (lit< tt))
+  here = omega (arith, ap (λ (x : Accelerator). x .phi) new, some-limit)
 
   kept : acceleratorOf t a ≡ accOf v
   kept = R .keeps .acc a here ∙ new
+
+  counted : pick {A = ℕ} (ltb 0 (limitOf t a)) 1 0 ≡ 1
+  counted = picked _ _ _ (lt-ltb 0 (limitOf t a) (omega (arith, ap (λ (y : Accelerator). y .phi) kept, some-limit)))
 
   other : (x : ℕ) → (x ≡ a → ⊥) → limitOf (withAcc u v) x ≡ limitOf u x
   other x d = ap (λ (y : Accelerator). y .phi) (acc-old u v P e k o f x d)
@@ -282,26 +348,32 @@ module _ (u t : Tree) (v : List ℕ) (l : List ℕ) (ls : List (List ℕ)) (P : 
   acc-left : (x : ℕ) → limitOf u x ≡ 0 → times x (a ∷ R .order) ≡ pick (ltb 0 (limitOf t x)) 1 0
   unfolding times
   acc-left x z = elim (ℕ-discrete x a) [
-    | yes w ↦ subst (λ (y : ℕ). pick (eqb y a) 1 0 + times y (R .order) ≡ pick (ltb 0 (limitOf t y)) 1 0) (sym w)
-        (omega (arith, picked {A = ℕ} (eqb a a) 1 0 (eq-eqb a a refl), R .read a here, picked {A = ℕ} (ltb 0 (limitOf t a)) 1 0 (lt-ltb 0 (limitOf t a) (omega (arith, ap (λ (y : Accelerator). y .phi) kept, least AccLine v e 3 (lit< tt))))))
-    | no d ↦ omega (arith, passed {A = ℕ} (eqb x a) 1 0 (ne-eqb x a d), R .left x (other x d ∙ z))
+    | yes w ↦ subst (λ (y : ℕ). tick y a + times y (R .order) ≡ pick (ltb 0 (limitOf t y)) 1 0) (sym w)
+        (omega (arith, tick-same a a refl, R .read a here, counted))
+    | no d ↦ omega (arith, tick-other x a d, R .left x (other x d ∙ z))
   ]
+
+  acc-read : (x : ℕ) → 0 < limitOf u x → times x (a ∷ R .order) ≡ 0
+  unfolding times
+  acc-read x y =
+      let d : x ≡ a → ⊥ = λ w. (let c = ap (limitOf u) w in omega arith) in
+      omega (arith, tick-other x a d, R .read x (omega (arith, other x d)))
 
   acc-rest : Rest u t (l ∷ ls)
   unfolding times rows
   acc-rest =
       let M = map (accText t) (R .order) in
       let z : t .ints - u .ints ≡ 0 = omega (arith, R .keeps .whole (omega arith)) in
-      let none = picked _ [] (busText t ∷ []) (lt-ltb 0 (u .bus .window) h) in
-      let front = ap₂ (λ (p : List (List ℕ)) (c : ℕ). p ++ (rows c (u .ints) (intText t) ++ M)) none z in
+      let none : rows (t .ints - u .ints) (u .ints) (intText t) ≡ [] = ap (λ (c : ℕ). rows c (u .ints) (intText t)) z in
+      let front : (N : List (List ℕ)) → busPart u t ++ (rows (t .ints - u .ints) (u .ints) (intText t) ++ N) ≡ N =
+      λ N. bus-over u t _ h ∙ ap (λ (p : List (List ℕ)). p ++ N) none in
       record {
         part = R .part;
         keeps = keeps-on u (withAcc u v) t K (R .keeps);
         order = a ∷ R .order;
-        read = λ x y. let d : x ≡ a → ⊥ = λ w. (let c = ap (limitOf u) w in omega arith) in omega (arith, passed {A = ℕ} (eqb x a) 1 0 (ne-eqb x a d), R .read x (omega (arith, other x d)));
+        read = acc-read;
         left = acc-left;
-        text = ap₂ (λ (x : List ℕ) (xs : List (List ℕ)). x ∷ xs) (q ∙ ap (accWritten a) (sym kept)) (R .text ∙ front)
-            ∙ sym (ap₂ (λ (p : List (List ℕ)) (c : ℕ). p ++ (rows c (u .ints) (intText t) ++ (accText t a ∷ M))) none z);
+        text = ap₂ _∷_ (q ∙ ap (accWritten a) (sym kept)) (R .text ∙ front M) ∙ sym (front (accText t a ∷ M));
       }
 
 rest-step : {u w : Tree} {l : List ℕ} (t : Tree) (ls : List (List ℕ)) → Partial u → (0 < u .ints → 0 < u .bus .window) → Stands u l w → Rest w t ls
@@ -327,10 +399,6 @@ begun-step B (root-stands g b d k m z q) n = k
 begun-step B (child-stands j p x g y v k m z d b c r f w q) n = k
 begun-step B (acc-stands v e k o f q) n = B n
 
-pub nothing : (r : List ℕ) → length r ≡ 0 → r ≡ []
-nothing [] z = refl
-nothing (b ∷ r) z = absurd (omega arith)
-
 -- the end of the file
 given-same : (t u : Tree) → given t ≡ given u → t ≡ u
 given-same t u e = ap (λ (r : TreeRead). r .tree) e
@@ -341,7 +409,9 @@ rest-end n u r t P e =
     let a = passed-end (eqb (length r) 0) Shape n (pick (complete u) (given u) (refusedAt Order n)) e in
     let b = passed-end (complete u) Order n (given u) (a .1) in
     let q = given-same u t (b .1) in
-    let w = ltb-true _ _ (both (ltb 0 (u .bus .window)) (ltb 0 (u .ints)) (both _ (ltb 0 (u .accs)) (both _ (all (u .accs) (λ x. ltb 0 (limitOf u x))) (b .0) .0) .0) .0) in (
+    let c = both _ (ltb 0 (u .accs)) (both _ (all (u .accs) (λ x. ltb 0 (limitOf u x))) (b .0) .0) in
+    let w : 0 < u .bus .window = ltb-true _ _ (both (ltb 0 (u .bus .window)) (ltb 0 (u .ints)) (c .0) .0) in
+    let z : u .ints - u .ints ≡ 0 = omega arith in (
       nothing r (eqb-true _ _ (a .0)),
       subst (λ (x : Tree). Rest u x []) q
           (record {
@@ -350,7 +420,7 @@ rest-end n u r t P e =
             order = [];
             read = λ x h. refl;
             left = λ x h. sym (passed _ _ _ (le-ltb 0 (limitOf u x) (omega arith)));
-            text = sym (let z : u .ints - u .ints ≡ 0 = omega arith in ap₂ (λ (p : List (List ℕ)) (c : ℕ). p ++ (rows c (u .ints) (intText u) ++ [])) (picked _ [] (busText u ∷ []) (lt-ltb 0 (u .bus .window) w)) z);
+            text = sym (bus-over u u _ w ∙ ap (λ (c : ℕ). rows c (u .ints) (intText u) ++ []) z);
           }),
     )
   where
@@ -367,18 +437,23 @@ rest : (ls : List (List ℕ)) (n : ℕ) (u : Tree) (r : List ℕ) (t : Tree) →
     → (r ≡ []) × Rest u t ls
 rest [] n u r t P B e = rest-end n u r t P e
 rest (l ∷ ls) n u r t P B e =
-    let a = went-on (treeLine n u (lineOf l)) (readLines (n + 1) (treeLine n u (lineOf l) .tree) ls r) (ap (λ (x : TreeRead). x .answer) (sym (line-first n u l ls r) ∙ e)) in
+    let g = treeLine n u (lineOf l) in
+    let f = sym (line-first n u l ls r) ∙ e in
+    let a = went-on g (readLines (n + 1) (g .tree) ls r) (ap (λ (x : TreeRead). x .answer) f) in
     let S = stepped n u l (a .0) in
     let w = S .0 in
     let p : Partial w = subst (λ (x : TreeRead). Partial (x .tree)) (S .1) (fine-line n u (lineOf l) P (a .0)) in
-    let i = rest ls (n + 1) w r t p (begun-step B (S .2)) (sym (ap (λ (x : TreeRead). readLines (n + 1) (x .tree) ls r) (S .1)) ∙ sym (goes (treeLine n u (lineOf l)) _ (a .0)) ∙ sym (line-first n u l ls r) ∙ e) in
+    let i = rest ls (n + 1) w r t p (begun-step B (S .2))
+    (sym (ap (λ (x : TreeRead). readLines (n + 1) (x .tree) ls r) (S .1)) ∙ sym (goes g _ (a .0)) ∙ f) in
     (i .0, rest-step t ls P B (S .2) (i .1))
 
 -- the accelerators of a configuration that keeps its rules are those with a limit
 limit-below : (t : Tree) → treeKeeps t ≡ true → Partial t → (a : ℕ) → ltb 0 (limitOf t a) ≡ ltb a (t .accs)
 limit-below t k P a = elim (decLt a (t .accs)) [
   | yes h ↦ lt-ltb 0 (limitOf t a) (sound t k .limit a h .0) ∙ sym (lt-ltb a (t .accs) h)
-  | no h ↦ le-ltb 0 (limitOf t a) (omega (arith, ap (λ (x : Accelerator). x .phi) (P .unused-acc a (omega arith)))) ∙ sym (le-ltb a (t .accs) (omega arith))
+  | no h ↦
+      let z = ap (λ (x : Accelerator). x .phi) (P .unused-acc a (omega arith)) in
+      le-ltb 0 (limitOf t a) (omega arith) ∙ sym (le-ltb a (t .accs) (omega arith))
 ]
 
 small : (s : List ℕ) (t : Tree) → readTree s ≡ given t → length s ≤ 65536
@@ -394,11 +469,13 @@ read-written s t e =
     let R = i .1 in
     let P = R .part in
     let k = subst (λ (r : TreeRead). treeKeeps (r .tree) ≡ true) e (accepted-keeps s (ap (λ (r : TreeRead). r .answer) e)) in
-    let z : t .ints - 0 ≡ t .ints = omega arith in (
+    let z : t .ints - 0 ≡ t .ints = omega arith in
+    let none : (a : ℕ) → limitOf emptyTree a ≡ 0 = λ a. ap (λ (x : Accelerator). x .phi) (partial-empty .unused-acc a (omega arith)) in (
       k,
       record {
         order = R .order;
-        once = λ a. R .left a (ap (λ (x : Accelerator). x .phi) (partial-empty .unused-acc a (omega arith))) ∙ ap (λ (c : Bool). pick c 1 0) (limit-below t k P a);
-        text = file-back s (i .0) ∙ ap fileText (R .text) ∙ ap (λ (n : ℕ). fileText (busText t ∷ (rows n 0 (intText t) ++ map (accText t) (R .order)))) z;
+        once = λ a. R .left a (none a) ∙ ap (λ (c : Bool). pick c 1 0) (limit-below t k P a);
+        text = file-back s (i .0) ∙ ap fileText (R .text)
+            ∙ ap (λ (n : ℕ). fileText (busText t ∷ (rows n 0 (intText t) ++ map (accText t) (R .order)))) z;
       },
     )

@@ -13,14 +13,15 @@ use borrow.Author.Tests.{lt-ltb, ne-eqb}
 use Rattle.text.specs.Write.{fieldsText, lineText, fileText, numbers, rows}
 use Rattle.text.proofs.Written.{Clean, clean-append, fields-clean, AllClean, all-none, all-more, lines-read, number-length}
 use Rattle.model.specs.declared.Tree.{Tree}
-use Rattle.model.specs.declared.Bus.{Bus}
 use Rattle.model.specs.Tree.{granularityOf, parentOf, parentPortOf, acceleratorOf, limitOf}
 use Rattle.rules.specs.Rules.{busKeeps, treeKeeps}
-use Rattle.folds.proofs.Folds.{picked, passed, tests, joined, at-all}
+use Rattle.folds.specs.Fold.{all}
+use Rattle.folds.proofs.Folds.{picked, passed, joined, at-all}
 use Rattle.rules.proofs.Sound.{Sound, sound}
 use Rattle.placing.specs.declared.TreeRead.{TreeRead}
+use Rattle.lines.specs.declared.Kind.{Kind}
 use Rattle.lines.specs.declared.Kind.the-variants.{BusLine, IntLine, AccLine}
-use Rattle.lines.specs.Lines.{lineOf}
+use Rattle.lines.specs.Lines.{nameOf, lineOf}
 use Rattle.model.specs.Builders.{withBus}
 use Rattle.records.specs.Records.{emptyTree, withAcc}
 use Rattle.placing.specs.Placing.{given, complete, finish, treeLine}
@@ -29,12 +30,14 @@ use Rattle.accepts.specs.TreeText.{busValues, accValues, busText, intTex
 use mathlib.Core.Logic.{_↔_}
 use Rattle.reader.proofs.Files.{tree-start}
 use Rattle.accepts.proofs.Kept.{accepted-keeps}
-use Rattle.lines.proofs.Written.{name-clean, Below, below-none, below-more, numbers-clean}
-use Rattle.accepts.proofs.Written.{accEntry, root-clean, bus-read, acc-read, root-read, child-read}
-use Rattle.accepts.proofs.Stage.{Agrees, bus-limits, acc-ranges, bus-step, agrees-bus, root-step, agrees-root, child-step, agrees-child, acc-step, agrees-acc, agrees-all}
+use Rattle.lines.proofs.Written.{name-clean, Below, below-none, below-more, fieldsFrom, limits-below, numbers-clean}
+use Rattle.accepts.proofs.Written.{childEntry, accEntry, root-clean, bus-read, acc-read, root-read, child-read}
+use Rattle.accepts.proofs.Stage.{Agrees, bus-limits, child-limits, acc-limits, bus-step, root-step, child-step, acc-step}
+use Rattle.accepts.proofs.Stage.{agrees-bus, agrees-root, agrees-child, agrees-acc, agrees-all}
 
 -- one accepted line
-pub line-given : (n : ℕ) (u w : Tree) (l : List ℕ) (ls : List (List ℕ)) (r : List ℕ) → treeLine n u (lineOf l) ≡ given w → readLines n u (l ∷ ls) r ≡ readLines (n + 1) w ls r
+pub line-given : (n : ℕ) (u w : Tree) (l : List ℕ) (ls : List (List ℕ)) (r : List ℕ) → treeLine n u (lineOf l) ≡ given w
+    → readLines n u (l ∷ ls) r ≡ readLines (n + 1) w ls r
 unfolding readLines
 line-given n u w l ls r e = ap (λ (x : TreeRead). onward (x .answer) x (readLines (n + 1) (x .tree) ls r)) e
 
@@ -68,11 +71,17 @@ record Fit (l : List ℕ) : Type 0 where
   clean : Clean 10 l
   short : length l ≤ 113
 
-fit-line : (name : List ℕ) (fs : List (List ℕ)) → Clean 10 name → length name ≤ 3 → AllClean 10 fs → Short 10 fs → length fs ≤ 10 → Fit (lineText name fs)
+fit-line : (name : List ℕ) (fs : List (List ℕ)) → Clean 10 name → length name ≤ 3 → AllClean 10 fs → Short 10 fs → length fs ≤ 10
+    → Fit (lineText name fs)
 fit-line name fs C h A S k =
     record { clean = clean-append C (fields-clean A); short = omega (arith, length-append name (fieldsText fs), fields-length S) }
 
-rows-clean : (c k : ℕ) (f : ℕ → List ℕ) → ((j : ℕ) → j < k + c → Fit (f j)) → (AllClean 10 (rows c k f)) × (Short 113 (rows c k f)) × (length (rows c k f) ≡ c)
+numbers-fit : (k : Kind) (xs : List ℕ) → length (nameOf k) ≤ 3 → Below xs → length xs ≤ 10 → Fit (lineText (nameOf k) (numbers xs))
+numbers-fit k xs h B l =
+    fit-line _ _ (name-clean 10 (lit< tt) k) h (numbers-clean 10 (lit< tt) xs) (numbers-short B) (omega (arith, numbers-count xs))
+
+rows-clean : (c k : ℕ) (f : ℕ → List ℕ) → ((j : ℕ) → j < k + c → Fit (f j))
+    → (AllClean 10 (rows c k f)) × (Short 113 (rows c k f)) × (length (rows c k f) ≡ c)
 unfolding rows
 rows-clean zero k f h = (all-none, short-none, refl)
 rows-clean (suc c) k f h =
@@ -88,55 +97,38 @@ both-short : {n : ℕ} {ls ms : List (List ℕ)} → Short n ls → Short n ms �
 both-short short-none B = B
 both-short (short-more h A) B = short-more h (both-short A B)
 
-pub bus-fields : (b : Bus) → busKeeps b ≡ true → Below (busValues b)
-unfolding busKeeps
-bus-fields b e =
-    let h = simp tests at e in
-    below-more {x = b .window} (omega arith) (below-more {x = b .ta} (omega arith) (below-more {x = b .da} (omega arith) (below-more {x = b .dd} (omega arith) (below-more {x = b .db} (omega arith) (below-more {x = b .pr} (omega arith) (below-more {x = b .pw} (omega arith) (below-more {x = b .td} (omega arith) (below-more {x = b .tb} (omega arith) (below-more {x = b .burst} (omega arith) (below-none))))))))))
-
 module _ (t : Tree) (e : treeKeeps t ≡ true) where
   S : Sound t
   S = sound t e
 
   bus-below : Below (busValues (t .bus))
-  bus-below = bus-fields (t .bus) (bus-limits t e)
+  unfolding all busKeeps fieldsFrom
+  bus-below = limits-below BusLine (busValues (t .bus)) (bus-limits t e)
 
   child-below : (j : ℕ) → 0 < j → j < t .ints → Below (j ∷ parentOf t j ∷ parentPortOf t j ∷ granularityOf t j ∷ [])
-  child-below j z h =
-      let p = S .parent j z h in
-      let q = S .parent-port j z h in
-      let g = S .granularity j h in
-      let m = S .most-ints in
-      below-more {x = j} (omega arith) (below-more {x = parentOf t j} (omega arith) (below-more {x = parentPortOf t j} (omega arith) (below-more {x = granularityOf t j} (omega (arith, g .1)) (below-none))))
+  unfolding fieldsFrom
+  child-below j z h = limits-below IntLine (childEntry t j .values) (child-limits t e j z h)
 
   root-below : granularityOf t 0 < 10000000000
   root-below = omega (arith, S .granularity 0 (S .some-ints) .1)
 
   acc-below : (a : ℕ) → a < t .accs → Below (accValues a (acceleratorOf t a))
-  acc-below a h =
-      let r = acc-ranges t e a h in
-      let m = S .most-accs in
-      let i = S .most-ints in
-      let x = S .home a h in
-      let p = S .home-port a h in
-      let f = S .limit a h in
-      let b = S .budget a h in
-      below-more {x = a} (omega arith) (below-more {x = acceleratorOf t a .interconnect} (omega arith) (below-more {x = acceleratorOf t a .port} (omega arith) (below-more {x = acceleratorOf t a .phi} (omega (arith, f .1)) (below-more {x = acceleratorOf t a .budget} (omega (arith, b .1)) (below-more {x = acceleratorOf t a .reads} (omega (arith, r .0)) (below-more {x = acceleratorOf t a .writes} (omega (arith, r .1)) (below-more {x = acceleratorOf t a .computing} (omega (arith, r .2)) (below-more {x = acceleratorOf t a .period} (omega (arith, r .4)) (below-none)))))))))
+  unfolding fieldsFrom
+  acc-below a h = limits-below AccLine (accEntry t a .values) (acc-limits t e a h)
 
   -- no line has an LF inside, and each is short
   bus-fit : Fit (busText t)
-  bus-fit = fit-line _ _ (name-clean 10 (lit< tt) BusLine) (lit≤ tt) (numbers-clean 10 (lit< tt) _) (numbers-short bus-below) (omega (arith, numbers-count (busValues (t .bus))))
+  bus-fit = numbers-fit BusLine _ (lit≤ tt) bus-below (lit≤ tt)
 
   acc-fit : (a : ℕ) → a < t .accs → Fit (accText t a)
-  acc-fit a h = fit-line _ _ (name-clean 10 (lit< tt) AccLine) (lit≤ tt) (numbers-clean 10 (lit< tt) _) (numbers-short (acc-below a h)) (omega (arith, numbers-count (accValues a (acceleratorOf t a))))
+  acc-fit a h = numbers-fit AccLine _ (lit≤ tt) (acc-below a h) (lit≤ tt)
 
   int-fit : (j : ℕ) → j < t .ints → Fit (intText t j)
   int-fit j h = elim (ℕ-discrete j 0) [
     | yes q ↦ subst (λ i. Fit (intText t i)) (sym q)
-        (fit-line _ _ (name-clean 10 (lit< tt) IntLine) (lit≤ tt) (root-clean 10 (lit< tt) t)
-        (short-more (number-length 0 (lit< tt)) (short-more (lit≤ tt) (short-more (lit≤ tt) (short-more (number-length (granularityOf t 0) root-below) short-none)))) (lit≤ tt))
-    | no d ↦ subst Fit (sym (passed _ _ _ (ne-eqb j 0 d)))
-        (fit-line _ _ (name-clean 10 (lit< tt) IntLine) (lit≤ tt) (numbers-clean 10 (lit< tt) _) (numbers-short (child-below j (omega arith) h)) (omega (arith, numbers-count (j ∷ parentOf t j ∷ parentPortOf t j ∷ granularityOf t j ∷ []))))
+        (fit-line _ _ (name-clean 10 (lit< tt) IntLine) (lit≤ tt) (root-clean 10 (lit< tt) t) (short-more (number-length 0 (lit< tt))
+        (short-more (lit≤ tt) (short-more (lit≤ tt) (short-more (number-length (granularityOf t 0) root-below) short-none)))) (lit≤ tt))
+    | no d ↦ subst Fit (sym (passed _ _ _ (ne-eqb j 0 d))) (numbers-fit IntLine _ (lit≤ tt) (child-below j (omega arith) h) (lit≤ tt))
   ]
 
   -- the int lines, one after the other
@@ -146,12 +138,15 @@ module _ (t : Tree) (e : treeKeeps t ≡ true) where
     agrees : Agrees t tree (t .ints) m
     left : r ≡ readLines line tree ls []
 
-  int-next : (k n : ℕ) (u : Tree) → k < t .ints → Agrees t u k 0 → (w : Tree) × (treeLine n u (lineOf (intText t k)) ≡ given w) × Agrees t w (k + 1) 0
+  int-next : (k n : ℕ) (u : Tree) → k < t .ints → Agrees t u k 0
+      → (w : Tree) × (treeLine n u (lineOf (intText t k)) ≡ given w) × Agrees t w (k + 1) 0
   int-next zero n u h A = (_, ap (treeLine n u) (root-read t root-below) ∙ root-step t e u A n, agrees-root t e u A)
   int-next (suc j) n u h A =
-      (_, ap (treeLine n u) (child-read t (suc j) (omega arith) (child-below (suc j) (omega arith) h)) ∙ child-step t e (suc j) (omega arith) h u A n, agrees-child t e (suc j) (omega arith) h u A)
+      let read = child-read t (suc j) (omega arith) (child-below (suc j) (omega arith) h) in
+      (_, ap (treeLine n u) read ∙ child-step t e (suc j) (omega arith) h u A n, agrees-child t e (suc j) (omega arith) h u A)
 
-  ints-read : (c k n : ℕ) (u : Tree) (ls : List (List ℕ)) → k + c ≡ t .ints → Agrees t u k 0 → Reached 0 (readLines n u (rows c k (intText t) ++ ls) []) ls
+  ints-read : (c k n : ℕ) (u : Tree) (ls : List (List ℕ)) → k + c ≡ t .ints → Agrees t u k 0
+      → Reached 0 (readLines n u (rows c k (intText t) ++ ls) []) ls
   unfolding rows
   ints-read zero k n u ls q A = record { line = n; tree = u; agrees = subst (λ i. Agrees t u i 0) (omega arith) A; left = refl }
   ints-read (suc c) k n u ls q A =
@@ -165,14 +160,17 @@ module _ (t : Tree) (e : treeKeeps t ≡ true) where
   accs-read zero m n u q A = record { line = n; tree = u; agrees = subst (λ i. Agrees t u (t .ints) i) (omega arith) A; left = refl }
   accs-read (suc c) m n u q A =
       let l : m < t .accs = omega arith in
-      let a = line-given n u _ (accText t m) (rows c (suc m) (accText t)) [] (ap (treeLine n u) (acc-read t m (acc-below m l)) ∙ acc-step t e m l u A n) in
-      let R = accs-read c (suc m) (n + 1) (withAcc u (accEntry t m .values)) (omega arith) (subst (λ i. Agrees t (withAcc u (accEntry t m .values)) (t .ints) i) (add-one m) (agrees-acc t e m l u A)) in
+      let w = withAcc u (accEntry t m .values) in
+      let g = ap (treeLine n u) (acc-read t m (acc-below m l)) ∙ acc-step t e m l u A n in
+      let a = line-given n u w (accText t m) (rows c (suc m) (accText t)) [] g in
+      let R = accs-read c (suc m) (n + 1) w (omega arith) (subst (λ i. Agrees t w (t .ints) i) (add-one m) (agrees-acc t e m l u A)) in
       record { line = R .line; tree = R .tree; agrees = R .agrees; left = a ∙ R .left }
 
   -- nothing is missing
   whole : complete t ≡ true
   whole =
-      joined _ _ (joined _ _ (joined _ _ (lt-ltb 0 (t .bus .window) (S .window)) (lt-ltb 0 (t .ints) (S .some-ints))) (lt-ltb 0 (t .accs) (S .some-accs)))
+      joined _ _
+      (joined _ _ (joined _ _ (lt-ltb 0 (t .bus .window) (S .window)) (lt-ltb 0 (t .ints) (S .some-ints))) (lt-ltb 0 (t .accs) (S .some-accs)))
       (at-all (t .accs) (λ a. ltb 0 (limitOf t a)) (λ a l. lt-ltb 0 (limitOf t a) (S .limit a l .0)))
 
   end-read : (n : ℕ) → readLines n t [] [] ≡ given t
@@ -181,8 +179,10 @@ module _ (t : Tree) (e : treeKeeps t ≡ true) where
 
   lines-given : readLines 1 emptyTree (treeLines t) [] ≡ given t
   lines-given =
-      let a = line-given 1 emptyTree (withBus emptyTree (t .bus)) (busText t) (rows (t .ints) 0 (intText t) ++ rows (t .accs) 0 (accText t)) [] (ap (treeLine 1 emptyTree) (bus-read t bus-below) ∙ bus-step t e 1) in
-      let I = ints-read (t .ints) 0 2 (withBus emptyTree (t .bus)) (rows (t .accs) 0 (accText t)) (omega arith) (agrees-bus t e) in
+      let w = withBus emptyTree (t .bus) in
+      let g = ap (treeLine 1 emptyTree) (bus-read t bus-below) ∙ bus-step t e 1 in
+      let a = line-given 1 emptyTree w (busText t) (rows (t .ints) 0 (intText t) ++ rows (t .accs) 0 (accText t)) [] g in
+      let I = ints-read (t .ints) 0 2 w (rows (t .accs) 0 (accText t)) (omega arith) (agrees-bus t e) in
       let R = accs-read (t .accs) 0 (I .line) (I .tree) (omega arith) (I .agrees) in
       a ∙ I .left ∙ R .left ∙ ap (λ (u : Tree). readLines (R .line) u [] []) (agrees-all t e (R .tree) (R .agrees)) ∙ end-read (R .line)
 
@@ -197,14 +197,17 @@ module _ (t : Tree) (e : treeKeeps t ≡ true) where
   text-given =
       let I = rows-clean (t .ints) 0 (intText t) (λ j l. int-fit j (omega arith)) in
       let A = rows-clean (t .accs) 0 (accText t) (λ a l. acc-fit a (omega arith)) in
-      let n : length (rows (t .ints) 0 (intText t) ++ rows (t .accs) 0 (accText t)) ≡ t .ints + t .accs = length-append (rows (t .ints) 0 (intText t)) (rows (t .accs) 0 (accText t)) ∙ omega (arith, I .2, A .2) in
-      let f : length (treeText t) ≤ 114 * suc (length (rows (t .ints) 0 (intText t) ++ rows (t .accs) 0 (accText t))) = file-length (short-more (bus-fit .short) (both-short (I .1) (A .1))) in
+      let n = length-append (rows (t .ints) 0 (intText t)) (rows (t .accs) 0 (accText t)) in
+      let f : length (treeText t) ≤ 114 * length (treeLines t) = file-length (short-more (bus-fit .short) (both-short (I .1) (A .1))) in
       let r = lines-read text-clean in
-      let b : length (treeText t) ≤ 65536 = omega (arith, f, n, S .most-ints, S .most-accs) in
+      let b : length (treeText t) ≤ 65536 = omega (arith, f, n, I .2, A .2, S .most-ints, S .most-accs) in
       tree-start (treeText t) b
       ∙ ap₂ (readLines 1 emptyTree) (r .0) (r .1)
       ∙ lines-given
 
 -- a configuration keeps its rules exactly if a tree file could have given it
 pub exactly-given : (t : Tree) → (treeKeeps t ≡ true) ↔ ((s : List ℕ) × (readTree s ≡ given t))
-exactly-given t = (λ e. (treeText t, text-given t e), λ r. subst (λ (x : TreeRead). treeKeeps (x .tree) ≡ true) (r .1) (accepted-keeps (r .0) (ap (λ (x : TreeRead). x .answer) (r .1))))
+exactly-given t = (
+  λ e. (treeText t, text-given t e),
+  λ r. subst (λ (x : TreeRead). treeKeeps (x .tree) ≡ true) (r .1) (accepted-keeps (r .0) (ap (λ (x : TreeRead). x .answer) (r .1))),
+)

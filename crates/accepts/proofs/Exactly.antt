@@ -29,21 +29,12 @@ use Rattle.accepts.specs.TreeText.{busText, intText, accText, treeText, 
 use Rattle.accepts.proofs.Kept.{never-refused}
 use Rattle.accepts.proofs.Order.{Reordered, unchanged, exchanged, later, also, any-order}
 use Rattle.accepts.proofs.Complete.{text-given, text-clean}
-use Rattle.accepts.proofs.Back.{read-written}
+use Rattle.accepts.proofs.Back.{tick, tick-same, tick-other, read-written}
 
 -- the numbers bs without the first a
 remove : ℕ → List ℕ → List ℕ
 remove a [] = []
 remove a (b ∷ bs) = pick (eqb a b) bs (b ∷ remove a bs)
-
-abbrev tick : ℕ → ℕ → ℕ
-tick a b = pick (eqb a b) 1 0
-
-tick-same : (a b : ℕ) → a ≡ b → tick a b ≡ 1
-tick-same a b e = picked _ _ _ (eq-eqb a b e)
-
-tick-other : (a b : ℕ) → (a ≡ b → ⊥) → tick a b ≡ 0
-tick-other a b d = passed _ _ _ (ne-eqb a b d)
 
 times-remove : (a x : ℕ) (bs : List ℕ) → 0 < times a bs → times x bs ≡ tick x a + times x (remove a bs)
 unfolding times remove
@@ -60,10 +51,13 @@ module _ (f : ℕ → List ℕ) (kind : (a : ℕ) → lineOf (f a) .kind ≡ Acc
   to-front : (a : ℕ) (bs : List ℕ) → 0 < times a bs → Reordered (f a ∷ map f (remove a bs)) (map f bs)
   unfolding times remove
   to-front a [] h = absurd (omega arith)
-  to-front a (b ∷ bs) h = elim (ℕ-discrete a b) [
-    | yes e ↦ subst (λ (ls : List (List ℕ)). Reordered (f a ∷ ls) (map f (b ∷ bs))) (ap (map f) (sym (picked _ _ _ (eq-eqb a b e)))) (subst (λ (x : List ℕ). Reordered (x ∷ map f bs) (f b ∷ map f bs)) (ap f (sym e)) unchanged)
-    | no d ↦ subst (λ (ls : List (List ℕ)). Reordered (f a ∷ ls) (map f (b ∷ bs))) (ap (map f) (sym (passed _ _ _ (ne-eqb a b d)))) (also (exchanged (kind a) (kind b)) (later (to-front a bs (omega (arith, tick-other a b d)))))
-  ]
+  to-front a (b ∷ bs) h =
+      let Front : List ℕ → Type 0 = λ cs. Reordered (f a ∷ map f cs) (map f (b ∷ bs)) in
+      elim (ℕ-discrete a b) [
+        | yes e ↦ subst Front (sym (picked _ _ _ (eq-eqb a b e))) (subst (λ (c : ℕ). Reordered (f c ∷ map f bs) (f b ∷ map f bs)) (sym e) unchanged)
+        | no d ↦ subst Front (sym (passed _ _ _ (ne-eqb a b d)))
+            (also (exchanged (kind a) (kind b)) (later (to-front a bs (omega (arith, tick-other a b d)))))
+      ]
 
   -- the same numbers in another order
   same-times : (cs bs : List ℕ) → ((x : ℕ) → times x cs ≡ times x bs) → Reordered (map f cs) (map f bs)
@@ -115,13 +109,19 @@ unfolding lineOf kindOf same fieldsText numbers
 acc-kind t a = ap (λ (ps : List (List ℕ)). lineFrom ps .kind) (parts-part 9 _ (name-clean 9 (lit< tt) AccLine)) ∙ pushed-kind _ _
 
 module _ (s : List ℕ) (t : Tree) (e : treeKeeps t ≡ true) (W : Writes s t) where
-  reordered : Reordered (treeLines t) (busText t ∷ (rows (t .ints) 0 (intText t) ++ map (accText t) (W .order)))
+  abbrev written : List (List ℕ)
+  written = busText t ∷ (rows (t .ints) 0 (intText t) ++ map (accText t) (W .order))
+
+  same-counts : (a : ℕ) → times a (upto (t .accs) 0) ≡ times a (W .order)
+  same-counts a =
+      let z : 0 + t .accs ≡ t .accs = omega arith in
+      upto-times (t .accs) 0 a (omega arith) ∙ ap (λ (n : ℕ). pick (ltb a n) 1 0) z ∙ sym (W .once a)
+
+  reordered : Reordered (treeLines t) written
   reordered =
-      let o = same-times (accText t) (acc-kind t) (upto (t .accs) 0) (W .order) (λ a. upto-times (t .accs) 0 a (omega arith) ∙ ap (λ (n : ℕ). pick (ltb a n) 1 0) (z (t .accs)) ∙ sym (W .once a)) in
-      later (reordered-after (rows (t .ints) 0 (intText t)) (subst (λ (ls : List (List ℕ)). Reordered ls (map (accText t) (W .order))) (sym (rows-map (t .accs) 0 (accText t))) o))
-    where
-      z : (n : ℕ) → 0 + n ≡ n
-      z n = omega arith
+      let o = same-times (accText t) (acc-kind t) (upto (t .accs) 0) (W .order) same-counts in
+      let r = sym (rows-map (t .accs) 0 (accText t)) in
+      later (reordered-after (rows (t .ints) 0 (intText t)) (subst (λ (ls : List (List ℕ)). Reordered ls (map (accText t) (W .order))) r o))
 
   written-read : readTree s ≡ given t
   written-read =
@@ -130,7 +130,8 @@ module _ (s : List ℕ) (t : Tree) (e : treeKeeps t ≡ true) (W : Writes s t) w
       let q = lines-read (reordered-clean reordered c) in
       let l = ap lines (W .text) ∙ q .0 in
       let g = text-given t e in
-      any-order (treeText t) s (subst (λ (ms : List (List ℕ)). Reordered (lines (treeText t)) ms) (sym l) (subst (λ (ls : List (List ℕ)). Reordered ls (busText t ∷ (rows (t .ints) 0 (intText t) ++ map (accText t) (W .order)))) (sym (r .0)) reordered))
+      let o = subst (λ (ls : List (List ℕ)). Reordered ls written) (sym (r .0)) reordered in
+      any-order (treeText t) s (subst (Reordered (lines (treeText t))) (sym l) o)
       (ap unended (W .text) ∙ q .1 ∙ sym (r .1)) (ap (λ (x : TreeRead). x .answer) g)
       ∙ g
 

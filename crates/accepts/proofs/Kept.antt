@@ -4,7 +4,7 @@
 use Prim.Native.Nat.{ℕ, zero, suc, _+_, _≤_, _<_}
 use mathlib.Core.Bool.{Bool, true, false, _&&_, not}
 use mathlib.Core.List.{List, [], _∷_}
-use mathlib.Core.Path.{_≡_, refl, sym, _∙_, ap, subst}
+use mathlib.Core.Path.{_≡_, refl, sym, _∙_, ap, ap₂, subst}
 use native.Mathlib.Decide.{decLt, ℕ-discrete}
 use native.Mathlib.Omega.{arith}
 use lib.Dec.{ltb, leb, eqb, lit<}
@@ -21,8 +21,10 @@ use Rattle.model.specs.declared.Port.the-variants.{Empty, Acc, Int}
 use Rattle.model.specs.declared.Refusal.{Refusal}
 use Rattle.model.specs.declared.Refusal.the-variants.{Order, Shape, Limit}
 use Rattle.folds.specs.Fold.{pick, all}
-use Rattle.model.specs.Tree.{emptyCell, noInterconnect, noAccelerator, interconnectOf, acceleratorOf, portOf, granularityOf, parentOf, parentPortOf, homeOf, homePortOf, limitOf, budgetOf, above, levelOf}
-use Rattle.rules.specs.Rules.{busKeeps, isEmpty, isAcc, isInt, carries, rootPlaced, childPlaced, isPlaced, usedInterconnect, unusedInterconnect, interconnectKeeps, usedAccelerator, unusedAccelerator, acceleratorKeeps, treeKeeps}
+use Rattle.model.specs.Tree.{emptyCell, noInterconnect, noAccelerator, interconnectOf, granularityOf, parentOf, parentPortOf, above, levelOf}
+use Rattle.model.specs.Tree.{acceleratorOf, portOf, homeOf, homePortOf, limitOf, budgetOf}
+use Rattle.rules.specs.Rules.{busKeeps, isEmpty, isAcc, isInt, carries, rootPlaced, childPlaced, isPlaced, treeKeeps}
+use Rattle.rules.specs.Rules.{usedInterconnect, unusedInterconnect, interconnectKeeps, usedAccelerator, unusedAccelerator, acceleratorKeeps}
 use Rattle.folds.proofs.Folds.{picked, passed, tests, both, all-at, clash}
 use Rattle.lines.specs.declared.FileAnswer.{FileAnswer}
 use Rattle.lines.specs.declared.FileAnswer.the-variants.{Accepted, Refused, Broken}
@@ -35,6 +37,7 @@ use Rattle.model.specs.Builders.{withBus, carrying}
 use Rattle.records.specs.Records.{emptyTree, busOf, withPort, withInterconnect, withRoot, withChild, accOf, withAcc}
 use Rattle.placing.specs.Placing.{refusedAt, given, busLine, intInOrder, rootRule, childLine, intLine, accLine, complete, finish, recordLine, treeLine}
 use Rattle.reader.specs.TreeFile.{onward, readLines, readTree}
+use Rattle.reader.proofs.Files.{tree-size, tree-start}
 use Rattle.lines.proofs.Limits.{least, most}
 
 -- the limits of an accelerator's fields, and that its place is right
@@ -75,9 +78,26 @@ same-everywhere zero i d = refl
 same-everywhere (suc n) zero d = refl
 same-everywhere (suc n) (suc i) d = same-everywhere n i d
 
+-- a fact of every number: of one number, and of the others; and of every port
+pub each-number : (F : ℕ → Type 0) (i : ℕ) → F i → ((k : ℕ) → (k ≡ i → ⊥) → F k) → (k : ℕ) → F k
+each-number F i here apart k = elim (ℕ-discrete k i) [
+  | yes e ↦ subst F (sym e) here
+  | no d ↦ apart k d
+]
+
+pub each-port : (F : ℕ → ℕ → Type 0) (i p : ℕ) → F i p → ((k q : ℕ) → (k ≡ i → q ≡ p → ⊥) → F k q) → (k q : ℕ) → F k q
+each-port F i p here apart k q =
+    each-number (λ n. F n q) i (each-number (F i) p here (λ n d. apart i n (λ e f. d f)) q) (λ n d. apart n q (λ e f. d e)) k
+
+abbrev portsIn : Interconnect → ℕ
+portsIn c = length (c .ports)
+
+abbrev portIn : ℕ → Interconnect → Port
+portIn p c = getD (c .ports) p emptyCell .port
+
 -- a port of an interconnect that carries nothing is empty
 pub blank-port : (t : Tree) (j p : ℕ) → interconnectOf t j ≡ noInterconnect → portOf t j p ≡ Empty
-blank-port t j p e = ap (λ (c : Interconnect). getD (c .ports) p emptyCell .port) e ∙ ap (λ (c : PortCell). c .port) (same-everywhere 8 p emptyCell)
+blank-port t j p e = ap (portIn p) e ∙ ap (λ (c : PortCell). c .port) (same-everywhere 8 p emptyCell)
 
 -- the crossings above an interconnect: none at the root, one more than above the parent
 above-up : (n : ℕ) (t : Tree) (j : ℕ) → (j ≡ 0 → ⊥) → length (above (suc n) t j) ≡ suc (length (above n t (parentOf t j)))
@@ -98,14 +118,16 @@ above-more (suc n) t j = elim (ℕ-discrete j 0) [
 ]
 
 -- two trees with the same parents below m, each parent smaller, have the same levels there
-module _ (t u : Tree) (m : ℕ) (same : (k : ℕ) → k < m → parentOf u k ≡ parentOf t k) (down : (k : ℕ) → 0 < k → k < m → parentOf t k < k) where
+module _ (t u : Tree) (m : ℕ) (same : (k : ℕ) → k < m → parentOf u k ≡ parentOf t k)
+    (down : (k : ℕ) → 0 < k → k < m → parentOf t k < k) where
   depth-same : (n j : ℕ) → j < m → length (above n u j) ≡ length (above n t j)
   unfolding above
   depth-same zero j h = refl
   depth-same (suc n) j h = elim (ℕ-discrete j 0) [
     | yes e ↦ above-top (suc n) u j e ∙ sym (above-top (suc n) t j e)
     | no d ↦ let p = down j (omega arith) h in
-        above-up n u j d ∙ ap suc (ap (λ (k : ℕ). length (above n u k)) (same j h) ∙ depth-same n (parentOf t j) (omega arith)) ∙ sym (above-up n t j d)
+        above-up n u j d ∙ ap suc (ap (λ (k : ℕ). length (above n u k)) (same j h) ∙ depth-same n (parentOf t j) (omega arith))
+        ∙ sym (above-up n t j d)
   ]
 
   pub level-same : (j : ℕ) → j < m → levelOf u j ≡ levelOf t j
@@ -123,54 +145,48 @@ module _ (t : Tree) (j p : ℕ) (x : Port) (h : j < length (t .interconnects)) w
   pub stored-other : (k : ℕ) → (k ≡ j → ⊥) → interconnectOf (withPort t j p x) k ≡ interconnectOf t k
   stored-other k d = getD-set-other (t .interconnects) j k _ noInterconnect d
 
+  -- what a port does not hold is as before, on every interconnect
+  stored-field : {A : Type 0} (f : Interconnect → A) → f (carrying (interconnectOf t j) p x) ≡ f (interconnectOf t j)
+      → (k : ℕ) → f (interconnectOf (withPort t j p x) k) ≡ f (interconnectOf t k)
+  stored-field f e =
+      each-number (λ k. f (interconnectOf (withPort t j p x) k) ≡ f (interconnectOf t k)) j (ap f stored-here ∙ e) (λ k d. ap f (stored-other k d))
+
   pub stored-parent : (k : ℕ) → parentOf (withPort t j p x) k ≡ parentOf t k
-  stored-parent k = elim (ℕ-discrete k j) [
-    | yes e ↦ subst (λ (i : ℕ). parentOf (withPort t j p x) i ≡ parentOf t i) (sym e) (ap (λ (c : Interconnect). c .parent) stored-here)
-    | no d ↦ ap (λ (c : Interconnect). c .parent) (stored-other k d)
-  ]
+  stored-parent = stored-field (λ (c : Interconnect). c .parent) refl
 
   pub stored-parent-port : (k : ℕ) → parentPortOf (withPort t j p x) k ≡ parentPortOf t k
-  stored-parent-port k = elim (ℕ-discrete k j) [
-    | yes e ↦ subst (λ (i : ℕ). parentPortOf (withPort t j p x) i ≡ parentPortOf t i) (sym e) (ap (λ (c : Interconnect). c .port) stored-here)
-    | no d ↦ ap (λ (c : Interconnect). c .port) (stored-other k d)
-  ]
+  stored-parent-port = stored-field (λ (c : Interconnect). c .port) refl
 
   pub stored-granularity : (k : ℕ) → granularityOf (withPort t j p x) k ≡ granularityOf t k
-  stored-granularity k = elim (ℕ-discrete k j) [
-    | yes e ↦ subst (λ (i : ℕ). granularityOf (withPort t j p x) i ≡ granularityOf t i) (sym e) (ap (λ (c : Interconnect). c .granularity) stored-here)
-    | no d ↦ ap (λ (c : Interconnect). c .granularity) (stored-other k d)
-  ]
+  stored-granularity = stored-field (λ (c : Interconnect). c .granularity) refl
 
   pub stored-size : (k : ℕ) → length (interconnectOf (withPort t j p x) k .ports) ≡ length (interconnectOf t k .ports)
-  stored-size k = elim (ℕ-discrete k j) [
-    | yes e ↦ subst (λ (i : ℕ). length (interconnectOf (withPort t j p x) i .ports) ≡ length (interconnectOf t i .ports)) (sym e)
-        (ap (λ (c : Interconnect). length (c .ports)) stored-here ∙ length-set (interconnectOf t j .ports) p _)
-    | no d ↦ ap (λ (c : Interconnect). length (c .ports)) (stored-other k d)
-  ]
+  stored-size = stored-field (λ (c : Interconnect). length (c .ports)) (length-set (interconnectOf t j .ports) p _)
 
   pub stored-at : p < length (interconnectOf t j .ports) → portOf (withPort t j p x) j p ≡ x
   stored-at l =
-      ap (λ (c : Interconnect). getD (c .ports) p emptyCell .port) stored-here
+      ap (portIn p) stored-here
       ∙ ap (λ (c : PortCell). c .port) (getD-set-same (interconnectOf t j .ports) p (record { port = x }) emptyCell l)
 
   pub stored-apart : (k q : ℕ) → (k ≡ j → q ≡ p → ⊥) → portOf (withPort t j p x) k q ≡ portOf t k q
   stored-apart k q d = elim (ℕ-discrete k j) [
     | yes e ↦ subst (λ (i : ℕ). portOf (withPort t j p x) i q ≡ portOf t i q) (sym e)
-        (ap (λ (c : Interconnect). getD (c .ports) q emptyCell .port) stored-here
+        (ap (portIn q) stored-here
         ∙ ap (λ (c : PortCell). c .port) (getD-set-other (interconnectOf t j .ports) p q (record { port = x }) emptyCell (d e)))
-    | no f ↦ ap (λ (c : Interconnect). getD (c .ports) q emptyCell .port) (stored-other k f)
+    | no f ↦ ap (portIn q) (stored-other k f)
   ]
 
 -- one interconnect more
 module _ (t : Tree) (j parent port g : ℕ) (h : j < length (t .interconnects)) where
-  pub new-here : interconnectOf (withInterconnect t j parent port g) j ≡ record { parent = parent; port = port; granularity = g; ports = replicate 8 emptyCell }
+  pub new-here : interconnectOf (withInterconnect t j parent port g) j
+      ≡ record { parent = parent; port = port; granularity = g; ports = replicate 8 emptyCell }
   new-here = getD-set-same (t .interconnects) j _ noInterconnect h
 
   pub new-other : (k : ℕ) → (k ≡ j → ⊥) → interconnectOf (withInterconnect t j parent port g) k ≡ interconnectOf t k
   new-other k d = getD-set-other (t .interconnects) j k _ noInterconnect d
 
   pub new-port : (q : ℕ) → portOf (withInterconnect t j parent port g) j q ≡ Empty
-  new-port q = ap (λ (c : Interconnect). getD (c .ports) q emptyCell .port) new-here ∙ ap (λ (c : PortCell). c .port) (same-everywhere 8 q emptyCell)
+  new-port q = ap (portIn q) new-here ∙ ap (λ (c : PortCell). c .port) (same-everywhere 8 q emptyCell)
 
 pub not-acc : (x : Port) (a : ℕ) → x ≡ Empty → x ≡ Acc a → ⊥
 not-acc x a e f = clash cc
@@ -261,16 +277,12 @@ module _ (t : Tree) (g : ℕ) (P : Partial t) (none : t .ints ≡ 0) (g1 : 1 ≤
   root-blank k d = new-other t 0 0 0 g root-size k d ∙ P .unused-int k (omega arith)
 
   pub root-ports : (j p : ℕ) → portOf (withRoot t g) j p ≡ Empty
-  root-ports j p = elim (ℕ-discrete j 0) [
-    | yes e ↦ subst (λ (k : ℕ). portOf (withRoot t g) k p ≡ Empty) (sym e) (new-port t 0 0 0 g root-size p)
-    | no d ↦ blank-port (withRoot t g) j p (root-blank j d)
-  ]
+  root-ports j p =
+      each-number (λ k. portOf (withRoot t g) k p ≡ Empty) 0 (new-port t 0 0 0 g root-size p) (λ k d. blank-port (withRoot t g) k p (root-blank k d)) j
 
   root-ports-size : (j : ℕ) → length (interconnectOf (withRoot t g) j .ports) ≡ 8
-  root-ports-size j = elim (ℕ-discrete j 0) [
-    | yes e ↦ subst (λ (k : ℕ). length (interconnectOf (withRoot t g) k .ports) ≡ 8) (sym e) (ap (λ (c : Interconnect). length (c .ports)) (new-here t 0 0 0 g root-size))
-    | no d ↦ ap (λ (c : Interconnect). length (c .ports)) (root-blank j d)
-  ]
+  root-ports-size =
+      each-number (λ k. length (interconnectOf (withRoot t g) k .ports) ≡ 8) 0 (ap portsIn (new-here t 0 0 0 g root-size)) (λ k d. ap portsIn (root-blank k d))
 
   pub partial-root : t .accs ≡ 0 → Partial (withRoot t g)
   partial-root no-accs =
@@ -282,7 +294,8 @@ module _ (t : Tree) (g : ℕ) (P : Partial t) (none : t .ints ≡ 0) (g1 : 1 ≤
         bus = P .bus;
         most-ints = omega arith;
         most-accs = P .most-accs;
-        granularity = λ j l. subst (λ (k : ℕ). (1 ≤ granularityOf (withRoot t g) k) × (granularityOf (withRoot t g) k ≤ 16)) (first j l) (omega (arith, ap (λ (c : Interconnect). c .granularity) new));
+        granularity = λ j l. subst (λ (k : ℕ). (1 ≤ granularityOf (withRoot t g) k) × (granularityOf (withRoot t g) k ≤ 16)) (first j l)
+            (omega (arith, ap (λ (c : Interconnect). c .granularity) new));
         level = λ j l. subst (λ (k : ℕ). levelOf (withRoot t g) k ≤ 4) (first j l) (omega (arith, above-top 15 (withRoot t g) 0 refl));
         root = (ap (λ (c : Interconnect). c .parent) new, ap (λ (c : Interconnect). c .port) new);
         parent = λ k z l. absurd (omega (arith, first k l));
@@ -300,7 +313,8 @@ module _ (t : Tree) (g : ℕ) (P : Partial t) (none : t .ints ≡ 0) (g1 : 1 ≤
       first j l = omega arith
 
 -- a child is stored in its parent's port and as one interconnect more
-module _ (t : Tree) (j parent port g : ℕ) (P : Partial t) (next : j ≡ t .ints) (bound : j < 15) (down : parent < j) (in-port : port < 8) (free : portOf t parent port ≡ Empty) where
+module _ (t : Tree) (j parent port g : ℕ) (P : Partial t) (next : j ≡ t .ints) (bound : j < 15) (down : parent < j) (in-port : port < 8)
+    (free : portOf t parent port ≡ Empty) where
   abbrev pub carried : Tree
   carried = withPort t parent port (Int j)
 
@@ -329,22 +343,20 @@ module _ (t : Tree) (j parent port g : ℕ) (P : Partial t) (next : j ≡ t .int
   child-granularity k d = ap (λ (c : Interconnect). c .granularity) (child-old k d) ∙ stored-granularity t parent port (Int j) parent-size k
 
   child-ports-size : (k : ℕ) → length (interconnectOf child k .ports) ≡ 8
-  child-ports-size k = elim (ℕ-discrete k j) [
-    | yes e ↦ subst (λ (i : ℕ). length (interconnectOf child i .ports) ≡ 8) (sym e) (ap (λ (c : Interconnect). length (c .ports)) child-new)
-    | no d ↦ ap (λ (c : Interconnect). length (c .ports)) (child-old k d) ∙ stored-size t parent port (Int j) parent-size k ∙ P .ports-size k
-  ]
+  child-ports-size =
+      each-number (λ k. length (interconnectOf child k .ports) ≡ 8) j (ap portsIn child-new)
+      (λ k d. ap portsIn (child-old k d) ∙ stored-size t parent port (Int j) parent-size k ∙ P .ports-size k)
 
   pub child-port-new : (q : ℕ) → portOf child j q ≡ Empty
-  child-port-new q = ap (λ (c : Interconnect). getD (c .ports) q emptyCell .port) child-new ∙ ap (λ (c : PortCell). c .port) (same-everywhere 8 q emptyCell)
+  child-port-new q = ap (portIn q) child-new ∙ ap (λ (c : PortCell). c .port) (same-everywhere 8 q emptyCell)
 
   pub child-port-at : portOf child parent port ≡ Int j
   child-port-at =
-      ap (λ (c : Interconnect). getD (c .ports) port emptyCell .port) (child-old parent (omega arith))
+      ap (portIn port) (child-old parent (omega arith))
       ∙ stored-at t parent port (Int j) parent-size (omega (arith, P .ports-size parent))
 
   pub child-port-other : (k q : ℕ) → (k ≡ j → ⊥) → (k ≡ parent → q ≡ port → ⊥) → portOf child k q ≡ portOf t k q
-  child-port-other k q d f =
-      ap (λ (c : Interconnect). getD (c .ports) q emptyCell .port) (child-old k d) ∙ stored-apart t parent port (Int j) parent-size k q f
+  child-port-other k q d f = ap (portIn q) (child-old k d) ∙ stored-apart t parent port (Int j) parent-size k q f
 
   -- what a port of the new tree carries
   data PortOf (k q : ℕ) : Type 0 where
@@ -353,18 +365,13 @@ module _ (t : Tree) (j parent port g : ℕ) (P : Partial t) (next : j ≡ t .int
     of-old : portOf child k q ≡ portOf t k q → PortOf k q
 
   port-of : (k q : ℕ) → PortOf k q
-  port-of k q = elim (ℕ-discrete k j) [
-    | yes e ↦ of-new (subst (λ (i : ℕ). portOf child i q ≡ Empty) (sym e) (child-port-new q))
-    | no d ↦ elim (ℕ-discrete k parent) [
-      | yes e ↦ elim (ℕ-discrete q port) [
-        | yes f ↦ of-parent e f (subst (λ (i : ℕ). portOf child i q ≡ Int j) (sym e) (subst (λ (i : ℕ). portOf child parent i ≡ Int j) (sym f) child-port-at))
-        | no f ↦ of-old (child-port-other k q d (λ a b. f b))
-      ]
-      | no f ↦ of-old (child-port-other k q d (λ a b. f a))
-    ]
-  ]
+  port-of k q =
+      each-number (λ i. PortOf i q) j (of-new (child-port-new q))
+      (λ i d. each-port (λ n r. (n ≡ j → ⊥) → PortOf n r) parent port (λ e. of-parent refl refl child-port-at)
+      (λ n r f e. of-old (child-port-other n r e f)) i q d) k
 
-  child-int-place : (k q m : ℕ) → portOf child k q ≡ Int m → PortOf k q → (0 < m) × (m < t .ints + 1) × (parentOf child m ≡ k) × (parentPortOf child m ≡ q)
+  child-int-place : (k q m : ℕ) → portOf child k q ≡ Int m → PortOf k q
+      → (0 < m) × (m < t .ints + 1) × (parentOf child m ≡ k) × (parentPortOf child m ≡ q)
   child-int-place k q m e (of-new f) = absurd (not-int _ m f e)
   child-int-place k q m e (of-parent f h i) =
       let s = same-int _ j m i e in
@@ -381,18 +388,15 @@ module _ (t : Tree) (j parent port g : ℕ) (P : Partial t) (next : j ≡ t .int
 
   -- a fact of each interconnect, of the new one and of those before
   split : (F : ℕ → Type 0) → F j → ((k : ℕ) → k < t .ints → F k) → (k : ℕ) → k < t .ints + 1 → F k
-  split F new old k l = elim (ℕ-discrete k j) [
-    | yes e ↦ subst F (sym e) new
-    | no d ↦ old k (omega arith)
-  ]
+  split F new old = each-number (λ k. k < t .ints + 1 → F k) j (λ l. new) (λ k d l. old k (omega arith))
 
   child-carries : (k : ℕ) → 0 < k → k < t .ints → portOf child (parentOf child k) (parentPortOf child k) ≡ Int k
   child-carries k z l =
       let c = P .parent-carries k z l in
       let d = P .parent k z l in
-      subst (λ (i : ℕ). portOf child i (parentPortOf child k) ≡ Int k) (sym (child-parent k (omega arith)))
-      (subst (λ (i : ℕ). portOf child (parentOf t k) i ≡ Int k) (sym (child-parent-port k (omega arith)))
-      (child-port-other (parentOf t k) (parentPortOf t k) (omega arith) (λ a b. not-int _ k free (subst (λ (i : ℕ). portOf t i port ≡ Int k) a (subst (λ (i : ℕ). portOf t (parentOf t k) i ≡ Int k) b c))) ∙ c))
+      let full : parentOf t k ≡ parent → parentPortOf t k ≡ port → ⊥ = λ a b. not-int _ k free (ap₂ (portOf t) (sym a) (sym b) ∙ c) in
+      ap₂ (portOf child) (child-parent k (omega arith)) (child-parent-port k (omega arith))
+      ∙ child-port-other (parentOf t k) (parentPortOf t k) (omega arith) full ∙ c
 
   unchanged : (k : ℕ) → t .ints + 1 ≤ k → interconnectOf carried k ≡ noInterconnect
   unchanged k l = stored-other t parent port (Int j) parent-size k (omega arith) ∙ P .unused-int k (omega arith)
@@ -401,7 +405,7 @@ module _ (t : Tree) (j parent port g : ℕ) (P : Partial t) (next : j ≡ t .int
   partial-child low no-accs g1 g16 =
       let above-of = ap (λ (c : Interconnect). c .parent) child-new in
       let port-on = ap (λ (c : Interconnect). c .port) child-new in
-      let levels : (k : ℕ) → k < t .ints → levelOf child k ≡ levelOf t k = level-same t child (t .ints) (λ k h. child-parent k (omega arith)) (P .parent) in
+      let levels = level-same t child (t .ints) (λ k h. child-parent k (omega arith)) (P .parent) in
       record {
         ints-size = length-set (set (t .interconnects) parent _) j _ ∙ length-set (t .interconnects) parent _ ∙ P .ints-size;
         accs-size = P .accs-size;
@@ -409,17 +413,19 @@ module _ (t : Tree) (j parent port g : ℕ) (P : Partial t) (next : j ≡ t .int
         bus = P .bus;
         most-ints = omega arith;
         most-accs = P .most-accs;
-        granularity = split (λ k. (1 ≤ granularityOf child k) × (granularityOf child k ≤ 16)) (omega (arith, ap (λ (c : Interconnect). c .granularity) child-new))
+        granularity = split (λ k. (1 ≤ granularityOf child k) × (granularityOf child k ≤ 16))
+            (omega (arith, ap (λ (c : Interconnect). c .granularity) child-new))
             (λ k l. subst (λ (x : ℕ). (1 ≤ x) × (x ≤ 16)) (sym (child-granularity k (omega arith))) (P .granularity k l));
         level = split (λ k. levelOf child k ≤ 4)
             (let u = level-child child j (omega arith) in let w = ap (levelOf child) above-of ∙ levels parent (omega arith) in omega arith)
             (λ k l. subst (λ (x : ℕ). x ≤ 4) (sym (levels k l)) (P .level k l));
         root = (child-parent 0 (omega arith) ∙ P .root .0, child-parent-port 0 (omega arith) ∙ P .root .1);
-        parent = λ k z l. split (λ i. 0 < i → parentOf child i < i) (λ y. omega (arith, above-of)) (λ i h y. subst (λ (x : ℕ). x < i) (sym (child-parent i (omega arith))) (P .parent i y h)) k l z;
-        parent-port = λ k z l. split (λ i. 0 < i → parentPortOf child i < 8) (λ y. omega (arith, port-on)) (λ i h y. subst (λ (x : ℕ). x < 8) (sym (child-parent-port i (omega arith))) (P .parent-port i y h)) k l z;
+        parent = λ k z l. split (λ i. 0 < i → parentOf child i < i) (λ y. omega (arith, above-of))
+            (λ i h y. omega (arith, child-parent i (omega arith), P .parent i y h)) k l z;
+        parent-port = λ k z l. split (λ i. 0 < i → parentPortOf child i < 8) (λ y. omega (arith, port-on))
+            (λ i h y. omega (arith, child-parent-port i (omega arith), P .parent-port i y h)) k l z;
         parent-carries = λ k z l. split (λ i. 0 < i → portOf child (parentOf child i) (parentPortOf child i) ≡ Int i)
-            (λ y. subst (λ (x : ℕ). portOf child x (parentPortOf child j) ≡ Int j) (sym above-of) (subst (λ (x : ℕ). portOf child parent x ≡ Int j) (sym port-on) child-port-at))
-            (λ i h y. child-carries i y h) k l z;
+            (λ y. ap₂ (portOf child) above-of port-on ∙ child-port-at) (λ i h y. child-carries i y h) k l z;
         unused-int = λ k l. child-old k (omega arith) ∙ unchanged k (omega arith);
         unused-acc = P .unused-acc;
         gap = P .gap;
@@ -429,7 +435,20 @@ module _ (t : Tree) (j parent port g : ℕ) (P : Partial t) (next : j ≡ t .int
       }
 
 -- an accelerator is stored in its port and as its record
-module _ (t : Tree) (v : List ℕ) (P : Partial t) (e : limitsKept AccLine v ≡ true) (known : getD v 1 0 < t .ints) (once : limitOf t (getD v 0 0) ≡ 0) (free : portOf t (getD v 1 0) (getD v 2 0) ≡ Empty) where
+module _ (t : Tree) (v : List ℕ) (P : Partial t) (e : limitsKept AccLine v ≡ true) (known : getD v 1 0 < t .ints)
+    (once : limitOf t (getD v 0 0) ≡ 0) (free : portOf t (getD v 1 0) (getD v 2 0) ≡ Empty) where
+  abbrev number : ℕ
+  number = getD v 0 0
+
+  abbrev home : ℕ
+  home = getD v 1 0
+
+  abbrev port : ℕ
+  port = getD v 2 0
+
+  abbrev grown : Tree
+  grown = withAcc t v
+
   pub home-size : getD v 1 0 < length (t .interconnects)
   home-size = omega (arith, P .ints-size, P .most-ints)
 
@@ -445,57 +464,60 @@ module _ (t : Tree) (v : List ℕ) (P : Partial t) (e : limitsKept AccLine v ≡
   -- a port that carries something is not the one that was free
   elsewhere : (j p : ℕ) (x : Port) → portOf t j p ≡ x → (x ≡ Empty → ⊥) → portOf (withAcc t v) j p ≡ x
   elsewhere j p x f d =
-      stored-apart t (getD v 1 0) (getD v 2 0) (Acc (getD v 0 0)) home-size j p (λ i q. d (sym f ∙ subst (λ (n : ℕ). portOf t n p ≡ Empty) (sym i) (subst (λ (n : ℕ). portOf t (getD v 1 0) n ≡ Empty) (sym q) free))) ∙ f
+      stored-apart t home port (Acc number) home-size j p (λ i q. d (sym f ∙ ap₂ (portOf t) i q ∙ free)) ∙ f
 
   pub acc-at : portOf (withAcc t v) (getD v 1 0) (getD v 2 0) ≡ Acc (getD v 0 0)
-  acc-at = stored-at t (getD v 1 0) (getD v 2 0) (Acc (getD v 0 0)) home-size (omega (arith, P .ports-size (getD v 1 0), most AccLine v e 2 (lit< tt)))
+  acc-at = stored-at t home port (Acc number) home-size (omega (arith, P .ports-size home, most AccLine v e 2 (lit< tt)))
 
   data AccPort (j p : ℕ) : Type 0 where
-    of-acc : j ≡ getD v 1 0 → p ≡ getD v 2 0 → portOf (withAcc t v) j p ≡ Acc (getD v 0 0) → AccPort j p
-    of-rest : portOf (withAcc t v) j p ≡ portOf t j p → AccPort j p
+    of-acc : j ≡ home → p ≡ port → portOf grown j p ≡ Acc number → AccPort j p
+    of-rest : portOf grown j p ≡ portOf t j p → AccPort j p
 
   acc-port : (j p : ℕ) → AccPort j p
-  acc-port j p = elim (ℕ-discrete j (getD v 1 0)) [
-    | yes i ↦ elim (ℕ-discrete p (getD v 2 0)) [
-      | yes q ↦ of-acc i q (subst (λ (n : ℕ). portOf (withAcc t v) n p ≡ Acc (getD v 0 0)) (sym i) (subst (λ (n : ℕ). portOf (withAcc t v) (getD v 1 0) n ≡ Acc (getD v 0 0)) (sym q) acc-at))
-      | no q ↦ of-rest (stored-apart t (getD v 1 0) (getD v 2 0) (Acc (getD v 0 0)) home-size j p (λ x y. q y))
-    ]
-    | no i ↦ of-rest (stored-apart t (getD v 1 0) (getD v 2 0) (Acc (getD v 0 0)) home-size j p (λ x y. i x))
-  ]
+  acc-port = each-port AccPort home port (of-acc refl refl acc-at) (λ j p d. of-rest (stored-apart t home port (Acc number) home-size j p d))
 
   -- the record of an accelerator that was read before
   other : (b : ℕ) → 0 < limitOf t b → acceleratorOf (withAcc t v) b ≡ acceleratorOf t b
   other b h = acc-old b (λ q. let z = ap (limitOf t) q in omega (arith, once))
 
-  acc-acc-place : (j p b : ℕ) → portOf (withAcc t v) j p ≡ Acc b → AccPort j p → (0 < limitOf (withAcc t v) b) × (homeOf (withAcc t v) b ≡ j) × (homePortOf (withAcc t v) b ≡ p)
+  new-limit : 0 < limitOf grown number
+  new-limit = omega (arith, ap (λ (x : Accelerator). x .phi) acc-new, least AccLine v e 3 (lit< tt))
+
+  new-home : homeOf grown number ≡ home
+  new-home = ap (λ (x : Accelerator). x .interconnect) acc-new
+
+  new-home-port : homePortOf grown number ≡ port
+  new-home-port = ap (λ (x : Accelerator). x .port) acc-new
+
+  acc-acc-place : (j p b : ℕ) → portOf grown j p ≡ Acc b → AccPort j p
+      → (0 < limitOf grown b) × (homeOf grown b ≡ j) × (homePortOf grown b ≡ p)
   acc-acc-place j p b f (of-acc i q g) =
-      subst (λ (n : ℕ). (0 < limitOf (withAcc t v) n) × (homeOf (withAcc t v) n ≡ j) × (homePortOf (withAcc t v) n ≡ p)) (sym (same-acc _ (getD v 0 0) b g f))
-      (omega (arith, ap (λ (x : Accelerator). x .phi) acc-new, least AccLine v e 3 (lit< tt)), ap (λ (x : Accelerator). x .interconnect) acc-new ∙ sym i, ap (λ (x : Accelerator). x .port) acc-new ∙ sym q)
+      subst (λ (n : ℕ). (0 < limitOf grown n) × (homeOf grown n ≡ j) × (homePortOf grown n ≡ p)) (sym (same-acc _ number b g f))
+      (new-limit, new-home ∙ sym i, new-home-port ∙ sym q)
   acc-acc-place j p b f (of-rest g) =
       let o = P .acc-place j p b (sym g ∙ f) in
       let r = other b (o .0) in
       (omega (arith, ap (λ (x : Accelerator). x .phi) r, o .0), ap (λ (x : Accelerator). x .interconnect) r ∙ o .1, ap (λ (x : Accelerator). x .port) r ∙ o .2)
 
-  acc-int-place : (j p k : ℕ) → portOf (withAcc t v) j p ≡ Int k → AccPort j p → (0 < k) × (k < t .ints) × (parentOf (withAcc t v) k ≡ j) × (parentPortOf (withAcc t v) k ≡ p)
-  acc-int-place j p k f (of-acc i q g) = absurd (acc-not-int _ k (getD v 0 0) f g)
+  parents : (k : ℕ) → parentOf grown k ≡ parentOf t k
+  parents = stored-parent t home port (Acc number) home-size
+
+  parent-ports : (k : ℕ) → parentPortOf grown k ≡ parentPortOf t k
+  parent-ports = stored-parent-port t home port (Acc number) home-size
+
+  acc-int-place : (j p k : ℕ) → portOf grown j p ≡ Int k → AccPort j p
+      → (0 < k) × (k < t .ints) × (parentOf grown k ≡ j) × (parentPortOf grown k ≡ p)
+  acc-int-place j p k f (of-acc i q g) = absurd (acc-not-int _ k number f g)
   acc-int-place j p k f (of-rest g) =
       let o = P .int-place j p k (sym g ∙ f) in
       (o .0, o .1, parents k ∙ o .2, parent-ports k ∙ o .3)
-    where
-      parents : (k : ℕ) → parentOf (withAcc t v) k ≡ parentOf t k
-      parents = stored-parent t (getD v 1 0) (getD v 2 0) (Acc (getD v 0 0)) home-size
-
-      parent-ports : (k : ℕ) → parentPortOf (withAcc t v) k ≡ parentPortOf t k
-      parent-ports = stored-parent-port t (getD v 1 0) (getD v 2 0) (Acc (getD v 0 0)) home-size
 
   used-new : Used (withAcc t v) (getD v 0 0)
   used-new =
       record {
-        home = omega (arith, ap (λ (x : Accelerator). x .interconnect) acc-new);
-        home-port = omega (arith, ap (λ (x : Accelerator). x .port) acc-new, most AccLine v e 2 (lit< tt));
-        home-carries =
-            subst (λ (n : ℕ). portOf (withAcc t v) n (homePortOf (withAcc t v) (getD v 0 0)) ≡ Acc (getD v 0 0)) (sym (ap (λ (x : Accelerator). x .interconnect) acc-new))
-            (subst (λ (n : ℕ). portOf (withAcc t v) (getD v 1 0) n ≡ Acc (getD v 0 0)) (sym (ap (λ (x : Accelerator). x .port) acc-new)) acc-at);
+        home = omega (arith, new-home);
+        home-port = omega (arith, new-home-port, most AccLine v e 2 (lit< tt));
+        home-carries = ap₂ (portOf grown) new-home new-home-port ∙ acc-at;
         phi = omega (arith, ap (λ (x : Accelerator). x .phi) acc-new, most AccLine v e 3 (lit< tt));
         budget = omega (arith, ap (λ (x : Accelerator). x .budget) acc-new, least AccLine v e 4 (lit< tt), most AccLine v e 4 (lit< tt));
         reads = omega (arith, ap (λ (x : Accelerator). x .reads) acc-new, most AccLine v e 5 (lit< tt));
@@ -512,9 +534,8 @@ module _ (t : Tree) (v : List ℕ) (P : Partial t) (e : limitsKept AccLine v ≡
         home = omega (arith, U .home, ap (λ (x : Accelerator). x .interconnect) r);
         home-port = omega (arith, U .home-port, ap (λ (x : Accelerator). x .port) r);
         home-carries =
-            subst (λ (n : ℕ). portOf (withAcc t v) n (homePortOf (withAcc t v) b) ≡ Acc b) (sym (ap (λ (x : Accelerator). x .interconnect) r))
-            (subst (λ (n : ℕ). portOf (withAcc t v) (homeOf t b) n ≡ Acc b) (sym (ap (λ (x : Accelerator). x .port) r))
-            (elsewhere (homeOf t b) (homePortOf t b) (Acc b) (U .home-carries) (λ q. clash cc)));
+            ap₂ (portOf grown) (ap (λ (x : Accelerator). x .interconnect) r) (ap (λ (x : Accelerator). x .port) r)
+            ∙ elsewhere (homeOf t b) (homePortOf t b) (Acc b) (U .home-carries) (λ q. clash cc);
         phi = omega (arith, U .phi, ap (λ (x : Accelerator). x .phi) r);
         budget = omega (arith, U .budget, ap (λ (x : Accelerator). x .budget) r);
         reads = omega (arith, U .reads, ap (λ (x : Accelerator). x .reads) r);
@@ -525,33 +546,30 @@ module _ (t : Tree) (v : List ℕ) (P : Partial t) (e : limitsKept AccLine v ≡
 
   pub partial-acc : Partial (withAcc t v)
   partial-acc =
-      let parents = stored-parent t (getD v 1 0) (getD v 2 0) (Acc (getD v 0 0)) home-size in
-      let parent-ports = stored-parent-port t (getD v 1 0) (getD v 2 0) (Acc (getD v 0 0)) home-size in
       record {
         ints-size = length-set (t .interconnects) (getD v 1 0) _ ∙ P .ints-size;
         accs-size = length-set (t .accelerators) (getD v 0 0) _ ∙ P .accs-size;
-        ports-size = λ j. stored-size t (getD v 1 0) (getD v 2 0) (Acc (getD v 0 0)) home-size j ∙ P .ports-size j;
+        ports-size = λ j. stored-size t home port (Acc number) home-size j ∙ P .ports-size j;
         bus = P .bus;
         most-ints = P .most-ints;
         most-accs = omega (arith, P .most-accs, most AccLine v e 0 (lit< tt));
-        granularity = λ j l. subst (λ (x : ℕ). (1 ≤ x) × (x ≤ 16)) (sym (stored-granularity t (getD v 1 0) (getD v 2 0) (Acc (getD v 0 0)) home-size j)) (P .granularity j l);
+        granularity = λ j l. omega (arith, stored-granularity t home port (Acc number) home-size j, P .granularity j l);
         level = λ j l. subst (λ (x : ℕ). x ≤ 4) (sym (level-same t (withAcc t v) (t .ints) (λ k h. parents k) (P .parent) j l)) (P .level j l);
         root = (parents 0 ∙ P .root .0, parent-ports 0 ∙ P .root .1);
         parent = λ k z l. subst (λ (x : ℕ). x < k) (sym (parents k)) (P .parent k z l);
         parent-port = λ k z l. subst (λ (x : ℕ). x < 8) (sym (parent-ports k)) (P .parent-port k z l);
         parent-carries = λ k z l.
-            subst (λ (x : ℕ). portOf (withAcc t v) x (parentPortOf (withAcc t v) k) ≡ Int k) (sym (parents k))
-            (subst (λ (x : ℕ). portOf (withAcc t v) (parentOf t k) x ≡ Int k) (sym (parent-ports k))
-            (elsewhere (parentOf t k) (parentPortOf t k) (Int k) (P .parent-carries k z l) (λ q. clash cc)));
-        unused-int = λ j l. stored-other t (getD v 1 0) (getD v 2 0) (Acc (getD v 0 0)) home-size j (omega arith) ∙ P .unused-int j l;
+            ap₂ (portOf grown) (parents k) (parent-ports k)
+            ∙ elsewhere (parentOf t k) (parentPortOf t k) (Int k) (P .parent-carries k z l) (λ q. clash cc);
+        unused-int = λ j l. stored-other t home port (Acc number) home-size j (omega arith) ∙ P .unused-int j l;
         unused-acc = λ b l. acc-old b (omega arith) ∙ P .unused-acc b (omega arith);
-        gap = λ b z. elim (ℕ-discrete b (getD v 0 0)) [
-          | yes q ↦ absurd (let y = ap (limitOf (withAcc t v)) q in omega (arith, ap (λ (x : Accelerator). x .phi) acc-new, least AccLine v e 3 (lit< tt)))
+        gap = λ b z. elim (ℕ-discrete b number) [
+          | yes q ↦ absurd (let y = ap (limitOf grown) q in omega (arith, new-limit))
           | no d ↦ acc-old b d ∙ P .gap b (sym (ap (λ (x : Accelerator). x .phi) (acc-old b d)) ∙ z)
         ];
-        used = λ b h. elim (ℕ-discrete b (getD v 0 0)) [
-          | yes q ↦ subst (Used (withAcc t v)) (sym q) used-new
-          | no d ↦ let k : 0 < limitOf t b = subst (λ (x : ℕ). 0 < x) (ap (λ (x : Accelerator). x .phi) (acc-old b d)) h in used-old b (P .used b k) k
+        used = λ b h. elim (ℕ-discrete b number) [
+          | yes q ↦ subst (Used grown) (sym q) used-new
+          | no d ↦ let k : 0 < limitOf t b = omega (arith, ap (λ (x : Accelerator). x .phi) (acc-old b d)) in used-old b (P .used b k) k
         ];
         acc-place = λ j p b f. acc-acc-place j p b f (acc-port j p);
         int-place = λ j p k f. acc-int-place j p k f (acc-port j p);
@@ -592,7 +610,9 @@ module _ (t : Tree) (l : Line) (e : intInOrder t l ≡ true) where
   order-number = eqb-true _ _ (both (ltb 0 (t .bus .window) && eqb (t .accs) 0) _ (order-start .0) .1)
 
   pub order-parent : (valueAt l 0 ≡ 0 → ⊥) → valueAt l 1 < valueAt l 0
-  order-parent d = ltb-true _ _ (both (not (dashAt l 1) && not (dashAt l 2)) (ltb (valueAt l 1) (valueAt l 0)) (sym (passed _ _ _ (ne-eqb _ _ d)) ∙ order-start .1) .1)
+  order-parent d =
+      let c = sym (passed _ _ _ (ne-eqb _ _ d)) ∙ order-start .1 in
+      ltb-true _ _ (both (not (dashAt l 1) && not (dashAt l 2)) (ltb (valueAt l 1) (valueAt l 0)) c .1)
 
 fine-bus : (n : ℕ) (t : Tree) (v : List ℕ) → Partial t → limitsKept BusLine v ≡ true → Fine (busLine n t v)
 unfolding busLine
@@ -652,15 +672,17 @@ module _ (t : Tree) (P : Partial t) where
       let o = P .int-place j p k e in
       simp tests (((o .0, o .1), o .2), o .3)
 
+  up-to-7 : {n : ℕ} → n < 8 → n ≤ 7
+  up-to-7 h = omega arith
+
   placed-kept : (j : ℕ) → j < t .ints → isPlaced t j ≡ true
   unfolding rootPlaced childPlaced
   placed-kept j l = elim (ℕ-discrete j 0) [
     | yes e ↦ picked _ _ _ (eq-eqb j 0 e) ∙ simp tests (P .root .0, P .root .1)
-    | no d ↦ passed _ _ _ (ne-eqb j 0 d) ∙ simp tests ((P .parent j (omega arith) l, le-of-lt-suc (P .parent-port j (omega arith) l)), ap (isInt j) (P .parent-carries j (omega arith) l) ∙ eq-eqb j j refl)
+    | no d ↦
+        let carried = ap (isInt j) (P .parent-carries j (omega arith) l) ∙ eq-eqb j j refl in
+        passed _ _ _ (ne-eqb j 0 d) ∙ simp tests ((P .parent j (omega arith) l, up-to-7 (P .parent-port j (omega arith) l)), carried)
   ]
-    where
-      le-of-lt-suc : {n : ℕ} → n < 8 → n ≤ 7
-      le-of-lt-suc h = omega arith
 
   used-int-kept : (j : ℕ) → j < t .ints → usedInterconnect t j ≡ true
   unfolding usedInterconnect
@@ -670,7 +692,10 @@ module _ (t : Tree) (P : Partial t) where
   unfolding unusedInterconnect
   unused-int-kept j l =
       let e = P .unused-int j l in
-      simp tests (((ap (λ (c : Interconnect). c .granularity) e, ap (λ (c : Interconnect). c .parent) e), ap (λ (c : Interconnect). c .port) e), λ p h. ap isEmpty (blank-port t j p e))
+      let g = ap (λ (c : Interconnect). c .granularity) e in
+      let i = ap (λ (c : Interconnect). c .parent) e in
+      let p = ap (λ (c : Interconnect). c .port) e in
+      simp tests (((g, i), p), λ p h. ap isEmpty (blank-port t j p e))
 
   int-kept : (j : ℕ) → interconnectKeeps t j ≡ true
   int-kept j = elim (decLt j (t .ints)) [
@@ -682,17 +707,21 @@ module _ (t : Tree) (P : Partial t) where
   unfolding usedAccelerator
   used-acc-kept a h =
       let U = P .used a h in
-      simp tests ((((((((U .home, seven (U .home-port)), ap (isAcc a) (U .home-carries) ∙ eq-eqb a a refl), (h, U .phi)), U .budget), (omega arith, U .reads)), (omega arith, U .writes)), (omega arith, U .computing)), U .period)
-    where
-      seven : {n : ℕ} → n < 8 → n ≤ 7
-      seven h = omega arith
+      let port = up-to-7 (U .home-port) in
+      let carried = ap (isAcc a) (U .home-carries) ∙ eq-eqb a a refl in
+      let low : (n : ℕ) → 0 ≤ n = λ n. omega arith in
+      simp tests ((((((((U .home, port), carried), (h, U .phi)), U .budget), (low _, U .reads)), (low _, U .writes)), (low _, U .computing)), U .period)
+
+  abbrev blank : Accelerator → Bool
+  blank x =
+      eqb (x .interconnect) 0 && eqb (x .port) 0 && eqb (x .phi) 0 && eqb (x .budget) 0
+      && eqb (x .reads) 0 && eqb (x .writes) 0 && eqb (x .computing) 0 && eqb (x .period) 0
 
   acc-kept : (a : ℕ) → ((b : ℕ) → b < t .accs → 0 < limitOf t b) → acceleratorKeeps t a ≡ true
   unfolding unusedAccelerator
   acc-kept a full = elim (decLt a (t .accs)) [
     | yes l ↦ picked _ _ _ (lt-ltb _ _ l) ∙ used-acc-kept a (full a l)
-    | no d ↦ passed _ _ _ (le-ltb a (t .accs) (omega arith))
-        ∙ ap (λ (x : Accelerator). eqb (x .interconnect) 0 && eqb (x .port) 0 && eqb (x .phi) 0 && eqb (x .budget) 0 && eqb (x .reads) 0 && eqb (x .writes) 0 && eqb (x .computing) 0 && eqb (x .period) 0) (P .unused-acc a (omega arith))
+    | no d ↦ passed _ _ _ (le-ltb a (t .accs) (omega arith)) ∙ ap blank (P .unused-acc a (omega arith))
   ]
 
   pub whole-kept : complete t ≡ true → treeKeeps t ≡ true
@@ -702,7 +731,11 @@ module _ (t : Tree) (P : Partial t) where
       let g = both (ltb 0 (t .bus .window) && ltb 0 (t .ints)) _ (h .0) in
       let w = both (ltb 0 (t .bus .window)) _ (g .0) in
       let full : (b : ℕ) → b < t .accs → 0 < limitOf t b = λ b l. ltb-true _ _ (all-at (t .accs) (λ a. ltb 0 (limitOf t a)) (h .1) b l) in
-      simp tests (((((((P .ints-size, P .accs-size), λ j l. P .ports-size j), P .bus (ltb-true _ _ (w .0))), (ltb-true _ _ (w .1), P .most-ints)), (ltb-true _ _ (g .1), P .most-accs)), λ j l. int-kept j), λ a l. acc-kept a full)
+      let bus = P .bus (ltb-true _ _ (w .0)) in
+      let ints = ltb-true _ _ (w .1) in
+      let accs = ltb-true _ _ (g .1) in
+      let each : (a : ℕ) → a < 32 → acceleratorKeeps t a ≡ true = λ a l. acc-kept a full in
+      simp tests (((((((P .ints-size, P .accs-size), λ j l. P .ports-size j), bus), (ints, P .most-ints)), (accs, P .most-accs)), λ j l. int-kept j), each)
 
 -- every tree that the lines give keeps its rules
 kept-finish : (n : ℕ) (t : Tree) → Partial t → finish n t .answer ≡ Accepted → treeKeeps (finish n t .tree) ≡ true
@@ -713,7 +746,8 @@ kept-finish n t P e = go (complete t) refl
     go true f = ap (λ (r : TreeRead). treeKeeps (r .tree)) (picked _ (given t) (refusedAt Order n) f) ∙ whole-kept t P f
     go false f = never-refused _ Order n (sym (ap (λ (r : TreeRead). r .answer) (passed _ (given t) (refusedAt Order n) f)) ∙ e)
 
-pub kept-lines : (ls : List (List ℕ)) (n : ℕ) (t : Tree) (u : List ℕ) → Partial t → readLines n t ls u .answer ≡ Accepted → treeKeeps (readLines n t ls u .tree) ≡ true
+pub kept-lines : (ls : List (List ℕ)) (n : ℕ) (t : Tree) (u : List ℕ) → Partial t → readLines n t ls u .answer ≡ Accepted
+    → treeKeeps (readLines n t ls u .tree) ≡ true
 unfolding readLines
 kept-lines [] n t u P e = go (eqb (length u) 0) refl
   where
@@ -730,8 +764,8 @@ kept-lines (l ∷ ls) n t u P e = go (treeLine n t (lineOf l) .answer) refl (kep
     next : TreeRead
     next = readLines (n + 1) (treeLine n t (lineOf l) .tree) ls u
 
-    go : (k : FileAnswer) → treeLine n t (lineOf l) .answer ≡ k → (Partial (treeLine n t (lineOf l) .tree) → readLines (n + 1) (treeLine n t (lineOf l) .tree) ls u .answer ≡ Accepted → treeKeeps (readLines (n + 1) (treeLine n t (lineOf l) .tree) ls u .tree) ≡ true)
-        → treeKeeps (onward (treeLine n t (lineOf l) .answer) (treeLine n t (lineOf l)) (readLines (n + 1) (treeLine n t (lineOf l) .tree) ls u) .tree) ≡ true
+    go : (k : FileAnswer) → r .answer ≡ k → (Partial (r .tree) → next .answer ≡ Accepted → treeKeeps (next .tree) ≡ true)
+        → treeKeeps (onward (r .answer) r next .tree) ≡ true
     go Accepted f ih =
         let q = ap (λ (k : FileAnswer). onward k r next) f in
         ap (λ (x : TreeRead). treeKeeps (x .tree)) q ∙ ih (fine-line n t (lineOf l) P f) (sym (ap (λ (x : TreeRead). x .answer) q) ∙ e)
@@ -744,11 +778,10 @@ kept-lines (l ∷ ls) n t u P e = go (treeLine n t (lineOf l) .answer) refl (kep
 
 -- "An accepted tree is a configuration that keeps its rules"
 pub accepted-keeps : (s : List ℕ) → readTree s .answer ≡ Accepted → treeKeeps (readTree s .tree) ≡ true
-unfolding readTree
-accepted-keeps s e = go (ltb 65536 (length s)) refl
-  where
-    go : (c : Bool) → ltb 65536 (length s) ≡ c → treeKeeps (pick (ltb 65536 (length s)) (refusedAt Limit 0) (readLines 1 emptyTree (lines s) (unended s)) .tree) ≡ true
-    go true f = never-refused _ Limit 0 (sym (ap (λ (r : TreeRead). r .answer) (picked _ _ (readLines 1 emptyTree (lines s) (unended s)) f)) ∙ e)
-    go false f =
-        let q = passed _ (refusedAt Limit 0) (readLines 1 emptyTree (lines s) (unended s)) f in
-        ap (λ (r : TreeRead). treeKeeps (r .tree)) q ∙ kept-lines (lines s) 1 emptyTree (unended s) partial-empty (sym (ap (λ (r : TreeRead). r .answer) q) ∙ e)
+accepted-keeps s e = elim (decLt 65536 (length s)) [
+  | yes h ↦ never-refused _ Limit 0 (sym (ap (λ (r : TreeRead). r .answer) (tree-size s h)) ∙ e)
+  | no h ↦
+      let q = tree-start s (omega arith) in
+      ap (λ (r : TreeRead). treeKeeps (r .tree)) q
+      ∙ kept-lines (lines s) 1 emptyTree (unended s) partial-empty (sym (ap (λ (r : TreeRead). r .answer) q) ∙ e)
+]

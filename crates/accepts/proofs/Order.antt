@@ -9,7 +9,7 @@ use native.Mathlib.Omega.{arith}
 use lib.Dec.{ltb, leb, lit<}
 use lib.ListN.{length, getD, set}
 use lib.Seq.{getD-set-same, getD-set-other, set-comm, set-set}
-use borrow.Author.Tests.{lt-ltb, le-ltb, ltb-false, leb-false, not-false}
+use borrow.Author.Tests.{ltb-false, leb-false, not-false}
 use Rattle.text.specs.Text.{lines, unended}
 use Rattle.text.proofs.Parts.{sizes, sizes-cons, text-size}
 use Rattle.model.specs.declared.Tree.{Tree}
@@ -23,7 +23,6 @@ use Rattle.model.specs.declared.Refusal.the-variants.{Shape, Limit, Order, Take
 use Rattle.folds.specs.Fold.{pick}
 use Rattle.model.specs.Tree.{noInterconnect, acceleratorOf, portOf, limitOf}
 use Rattle.rules.specs.Rules.{isEmpty}
-use Rattle.folds.proofs.Folds.{picked, passed}
 use Rattle.lines.specs.declared.FileAnswer.{FileAnswer}
 use Rattle.lines.specs.declared.FileAnswer.the-variants.{Accepted, Refused, Broken}
 use Rattle.placing.specs.declared.TreeRead.{TreeRead}
@@ -35,9 +34,11 @@ use Rattle.model.specs.Builders.{withInterconnects, withAccelerators, carrying}
 use Rattle.records.specs.Records.{emptyTree, accOf, withAcc}
 use Rattle.placing.specs.Placing.{refusedAt, given, accLine, recordLine, treeLine}
 use Rattle.reader.specs.TreeFile.{onward, readLines, readTree}
+use Rattle.reader.proofs.Files.{tree-size, tree-start}
 use Rattle.lines.proofs.Limits.{least}
 use Rattle.placing.proofs.Tests.{acc-given, line-record}
-use Rattle.accepts.proofs.Kept.{Partial, fine-line, acc-new, acc-old, acc-at, stored-apart, home-size, is-empty, not-acc, never-refused, never-broken, partial-empty}
+use Rattle.accepts.proofs.Kept.{Partial, fine-line, partial-empty, is-empty, not-acc, never-refused, never-broken}
+use Rattle.accepts.proofs.Kept.{acc-new, acc-old, acc-at, stored-apart, home-size}
 
 -- a test whose failure is a refusal has passed where the answer is accepted
 pub passed-test : (c : Bool) (x : Refusal) (n : ℕ) (y : TreeRead) → pick c (refusedAt x n) y .answer ≡ Accepted → (c ≡ false) × (y .answer ≡ Accepted)
@@ -86,16 +87,20 @@ carry-comm c p q x y d =
 abbrev storedIn : List Interconnect → ℕ → ℕ → Port → List Interconnect
 storedIn l i p x = set l i (carrying (getD l i noInterconnect) p x)
 
-stored-twice : (l : List Interconnect) (i p q : ℕ) (x y : Port) → i < length l → storedIn (storedIn l i p x) i q y ≡ set l i (carrying (carrying (getD l i noInterconnect) p x) q y)
+stored-twice : (l : List Interconnect) (i p q : ℕ) (x y : Port) → i < length l
+    → storedIn (storedIn l i p x) i q y ≡ set l i (carrying (carrying (getD l i noInterconnect) p x) q y)
 stored-twice l i p q x y h =
-    ap (λ (c : Interconnect). set (storedIn l i p x) i (carrying c q y)) (getD-set-same l i (carrying (getD l i noInterconnect) p x) noInterconnect h)
-    ∙ set-set l i (carrying (getD l i noInterconnect) p x) (carrying (carrying (getD l i noInterconnect) p x) q y)
+    let c = carrying (getD l i noInterconnect) p x in
+    ap (λ (c : Interconnect). set (storedIn l i p x) i (carrying c q y)) (getD-set-same l i c noInterconnect h)
+    ∙ set-set l i c (carrying c q y)
 
-other-interconnect : (l : List Interconnect) (i p j q : ℕ) (x y : Port) → (j ≡ i → ⊥) → storedIn (storedIn l i p x) j q y ≡ set (storedIn l i p x) j (carrying (getD l j noInterconnect) q y)
+other-interconnect : (l : List Interconnect) (i p j q : ℕ) (x y : Port) → (j ≡ i → ⊥)
+    → storedIn (storedIn l i p x) j q y ≡ set (storedIn l i p x) j (carrying (getD l j noInterconnect) q y)
 other-interconnect l i p j q x y d =
     ap (λ (c : Interconnect). set (storedIn l i p x) j (carrying c q y)) (getD-set-other l i j (carrying (getD l i noInterconnect) p x) noInterconnect d)
 
-ports-comm : (l : List Interconnect) (i p j q : ℕ) (x y : Port) → i < length l → (i ≡ j → p ≡ q → ⊥) → storedIn (storedIn l i p x) j q y ≡ storedIn (storedIn l j q y) i p x
+ports-comm : (l : List Interconnect) (i p j q : ℕ) (x y : Port) → i < length l → (i ≡ j → p ≡ q → ⊥)
+    → storedIn (storedIn l i p x) j q y ≡ storedIn (storedIn l j q y) i p x
 ports-comm l i p j q x y h d = elim (ℕ-discrete i j) [
   | yes e ↦ subst (λ (k : ℕ). storedIn (storedIn l i p x) k q y ≡ storedIn (storedIn l k q y) i p x) e
       (stored-twice l i p q x y h ∙ ap (set l i) (carry-comm (getD l i noInterconnect) p q x y (d e)) ∙ sym (stored-twice l i q p y x h))
@@ -108,59 +113,72 @@ accs-comm : (n a b : ℕ) → max (max n a) b ≡ max (max n b) a
 accs-comm n a b = omega arith
 
 -- two accelerators of different numbers and ports are stored in either order
-acc-comm : (t : Tree) (v w : List ℕ) → getD v 1 0 < length (t .interconnects) → (getD v 0 0 ≡ getD w 0 0 → ⊥) → (getD v 1 0 ≡ getD w 1 0 → getD v 2 0 ≡ getD w 2 0 → ⊥) → withAcc (withAcc t v) w ≡ withAcc (withAcc t w) v
+acc-comm : (t : Tree) (v w : List ℕ) → getD v 1 0 < length (t .interconnects) → (getD v 0 0 ≡ getD w 0 0 → ⊥)
+    → (getD v 1 0 ≡ getD w 1 0 → getD v 2 0 ≡ getD w 2 0 → ⊥) → withAcc (withAcc t v) w ≡ withAcc (withAcc t w) v
 acc-comm t v w h d f =
-    ap₂ (λ (l : List Interconnect) (m : List Accelerator). withAccelerators (withInterconnects t (t .ints) l) (max (max (t .accs) (getD v 0 0 + 1)) (getD w 0 0 + 1)) m)
-    (ports-comm (t .interconnects) (getD v 1 0) (getD v 2 0) (getD w 1 0) (getD w 2 0) (Acc (getD v 0 0)) (Acc (getD w 0 0)) h f)
-    (set-comm (t .accelerators) (getD v 0 0) (getD w 0 0) (accOf v) (accOf w) d)
-    ∙ ap (λ (k : ℕ). withAccelerators (withAcc (withAcc t w) v) k (withAcc (withAcc t w) v .accelerators)) (accs-comm (t .accs) (getD v 0 0 + 1) (getD w 0 0 + 1))
+    let a = getD v 0 0 in
+    let b = getD w 0 0 in
+    let u = withAcc (withAcc t w) v in
+    ap₂ (λ (l : List Interconnect) (m : List Accelerator). withAccelerators (withInterconnects t (t .ints) l) (max (max (t .accs) (a + 1)) (b + 1)) m)
+    (ports-comm (t .interconnects) (getD v 1 0) (getD v 2 0) (getD w 1 0) (getD w 2 0) (Acc a) (Acc b) h f)
+    (set-comm (t .accelerators) a b (accOf v) (accOf w) d)
+    ∙ ap (λ (k : ℕ). withAccelerators u k (u .accelerators)) (accs-comm (t .accs) (a + 1) (b + 1))
 
 -- two accepted acc lines, one after the other
 module _ (t : Tree) (x y : Line) (P : Partial t) (X : Placed t x) (Y : Placed (withAcc t (x .values)) y) where
-  new : acceleratorOf (withAcc t (x .values)) (getD (x .values) 0 0) ≡ accOf (x .values)
-  new = acc-new t (x .values) P (X .limits) (X .known) (X .once) (X .free)
+  abbrev v : List ℕ
+  v = x .values
 
-  apart : getD (x .values) 0 0 ≡ getD (y .values) 0 0 → ⊥
+  abbrev w : List ℕ
+  w = y .values
+
+  new : acceleratorOf (withAcc t v) (getD v 0 0) ≡ accOf v
+  new = acc-new t v P (X .limits) (X .known) (X .once) (X .free)
+
+  apart : getD v 0 0 ≡ getD w 0 0 → ⊥
   apart e =
-      let l = ap (limitOf (withAcc t (x .values))) e in
+      let l = ap (limitOf (withAcc t v)) e in
       let n = ap (λ (a : Accelerator). a .phi) new in
-      omega (arith, Y .once, least AccLine (x .values) (X .limits) 3 (lit< tt))
+      omega (arith, Y .once, least AccLine v (X .limits) 3 (lit< tt))
 
-  ports-apart : getD (x .values) 1 0 ≡ getD (y .values) 1 0 → getD (x .values) 2 0 ≡ getD (y .values) 2 0 → ⊥
+  ports-apart : getD v 1 0 ≡ getD w 1 0 → getD v 2 0 ≡ getD w 2 0 → ⊥
   ports-apart e f =
-      let a = acc-at t (x .values) P (X .limits) (X .known) (X .once) (X .free) in
-      not-acc _ (getD (x .values) 0 0) (subst (λ (k : ℕ). portOf (withAcc t (x .values)) k (getD (x .values) 2 0) ≡ Empty) (sym e) (subst (λ (k : ℕ). portOf (withAcc t (x .values)) (getD (y .values) 1 0) k ≡ Empty) (sym f) (Y .free))) a
+      not-acc _ (getD v 0 0) (ap₂ (portOf (withAcc t v)) e f ∙ Y .free) (acc-at t v P (X .limits) (X .known) (X .once) (X .free))
 
-  first-size : getD (x .values) 1 0 < length (t .interconnects)
-  first-size = home-size t (x .values) P (X .limits) (X .known) (X .once) (X .free)
+  first-size : getD v 1 0 < length (t .interconnects)
+  first-size = home-size t v P (X .limits) (X .known) (X .once) (X .free)
 
   -- the second line may come first
-  second-first : Placed t y
-  second-first =
-      record {
-        form = Y .form;
-        limits = Y .limits;
-        known = Y .known;
-        once = sym (ap (λ (a : Accelerator). a .phi) (acc-old t (x .values) P (X .limits) (X .known) (X .once) (X .free) (getD (y .values) 0 0) (λ e. apart (sym e)))) ∙ Y .once;
-        free = sym (stored-apart t (getD (x .values) 1 0) (getD (x .values) 2 0) (Acc (getD (x .values) 0 0)) first-size (getD (y .values) 1 0) (getD (y .values) 2 0) (λ e f. ports-apart (sym e) (sym f))) ∙ Y .free;
-      }
+  second-once : limitOf t (getD w 0 0) ≡ 0
+  second-once =
+      let old = acc-old t v P (X .limits) (X .known) (X .once) (X .free) (getD w 0 0) (λ e. apart (sym e)) in
+      sym (ap (λ (a : Accelerator). a .phi) old) ∙ Y .once
 
-  second-size : getD (y .values) 1 0 < length (t .interconnects)
-  second-size = home-size t (y .values) P (Y .limits) (Y .known) (second-first .once) (second-first .free)
+  second-free : portOf t (getD w 1 0) (getD w 2 0) ≡ Empty
+  second-free =
+      let d : getD w 1 0 ≡ getD v 1 0 → getD w 2 0 ≡ getD v 2 0 → ⊥ = λ e f. ports-apart (sym e) (sym f) in
+      sym (stored-apart t (getD v 1 0) (getD v 2 0) (Acc (getD v 0 0)) first-size (getD w 1 0) (getD w 2 0) d) ∙ Y .free
+
+  second-first : Placed t y
+  second-first = record { form = Y .form; limits = Y .limits; known = Y .known; once = second-once; free = second-free }
+
+  second-size : getD w 1 0 < length (t .interconnects)
+  second-size = home-size t w P (Y .limits) (Y .known) second-once second-free
 
   -- and the first line after it
-  first-second : Placed (withAcc t (y .values)) x
+  first-second : Placed (withAcc t w) x
   first-second =
+      let old = acc-old t w P (Y .limits) (Y .known) second-once second-free (getD v 0 0) apart in
       record {
         form = X .form;
         limits = X .limits;
         known = X .known;
-        once = ap (λ (a : Accelerator). a .phi) (acc-old t (y .values) P (Y .limits) (Y .known) (second-first .once) (second-first .free) (getD (x .values) 0 0) apart) ∙ X .once;
-        free = stored-apart t (getD (y .values) 1 0) (getD (y .values) 2 0) (Acc (getD (y .values) 0 0)) second-size (getD (x .values) 1 0) (getD (x .values) 2 0) ports-apart ∙ X .free;
+        once = ap (λ (a : Accelerator). a .phi) old ∙ X .once;
+        free = stored-apart t (getD w 1 0) (getD w 2 0) (Acc (getD w 0 0)) second-size (getD v 1 0) (getD v 2 0) ports-apart ∙ X .free;
       }
 
-  same-tree : withAcc (withAcc t (x .values)) (y .values) ≡ withAcc (withAcc t (y .values)) (x .values)
-  same-tree = acc-comm t (x .values) (y .values) first-size apart ports-apart
+  same-tree : withAcc (withAcc t v) w ≡ withAcc (withAcc t w) v
+  same-tree = acc-comm t v w first-size apart ports-apart
 
 -- lines in another order, where only acc lines change places
 pub data Reordered : List (List ℕ) → List (List ℕ) → Type 0 where
@@ -182,7 +200,9 @@ pub goes : (r next : TreeRead) → r .answer ≡ Accepted → onward (r .answer)
 goes r next e = ap (λ (k : FileAnswer). onward k r next) e
 
 -- two acc lines at the front
-front : (n : ℕ) (t : Tree) (x y : List ℕ) (ls : List (List ℕ)) (u : List ℕ) → lineOf x .kind ≡ AccLine → lineOf y .kind ≡ AccLine → Placed t (lineOf x) → Placed (withAcc t (lineOf x .values)) (lineOf y) → readLines n t (x ∷ (y ∷ ls)) u ≡ readLines (n + 1 + 1) (withAcc (withAcc t (lineOf x .values)) (lineOf y .values)) ls u
+front : (n : ℕ) (t : Tree) (x y : List ℕ) (ls : List (List ℕ)) (u : List ℕ) → lineOf x .kind ≡ AccLine → lineOf y .kind ≡ AccLine
+    → Placed t (lineOf x) → Placed (withAcc t (lineOf x .values)) (lineOf y)
+    → readLines n t (x ∷ (y ∷ ls)) u ≡ readLines (n + 1 + 1) (withAcc (withAcc t (lineOf x .values)) (lineOf y .values)) ls u
 unfolding readLines
 front n t x y ls u k m X Y =
     let a = placing n t (lineOf x) k X in
@@ -190,15 +210,18 @@ front n t x y ls u k m X Y =
     ap (λ (r : TreeRead). onward (r .answer) r (readLines (n + 1) (r .tree) (y ∷ ls) u)) a
     ∙ ap (λ (r : TreeRead). onward (r .answer) r (readLines (n + 1 + 1) (r .tree) ls u)) b
 
-reordered-lines : {ls ms : List (List ℕ)} → Reordered ls ms → (n : ℕ) (t : Tree) (u : List ℕ) → Partial t → readLines n t ls u .answer ≡ Accepted → readLines n t ms u ≡ readLines n t ls u
+reordered-lines : {ls ms : List (List ℕ)} → Reordered ls ms → (n : ℕ) (t : Tree) (u : List ℕ) → Partial t
+    → readLines n t ls u .answer ≡ Accepted → readLines n t ms u ≡ readLines n t ls u
 unfolding readLines
 reordered-lines unchanged n t u P e = refl
 reordered-lines (exchanged {x = x} {y = y} {ls = ls} k m) n t u P e =
     let a = went-on (treeLine n t (lineOf x)) _ e in
     let X = placed n t (lineOf x) k (a .0) in
     let s = placing n t (lineOf x) k X in
-    let b = went-on (treeLine (n + 1) (withAcc t (lineOf x .values)) (lineOf y)) _ (subst (λ (r : TreeRead). readLines (n + 1) (r .tree) (y ∷ ls) u .answer ≡ Accepted) s (a .1)) in
-    let Y = placed (n + 1) (withAcc t (lineOf x .values)) (lineOf y) m (b .0) in
+    let w = withAcc t (lineOf x .values) in
+    let c = subst (λ (r : TreeRead). readLines (n + 1) (r .tree) (y ∷ ls) u .answer ≡ Accepted) s (a .1) in
+    let b = went-on (treeLine (n + 1) w (lineOf y)) _ c in
+    let Y = placed (n + 1) w (lineOf y) m (b .0) in
     front n t y x ls u m k (second-first t (lineOf x) (lineOf y) P X Y) (first-second t (lineOf x) (lineOf y) P X Y)
     ∙ ap (λ (z : Tree). readLines (n + 1 + 1) z ls u) (sym (same-tree t (lineOf x) (lineOf y) P X Y))
     ∙ sym (front n t x y ls u k m X Y)
@@ -220,14 +243,13 @@ reordered-size (also r q) = reordered-size q ∙ reordered-size r
 
 -- "then acc lines in any order"
 pub any-order : (s r : List ℕ) → Reordered (lines s) (lines r) → unended r ≡ unended s → readTree s .answer ≡ Accepted → readTree r ≡ readTree s
-unfolding readTree
 any-order s r o q e =
     let l : length r ≡ length s = omega (arith, text-size s, text-size r, reordered-size o, ap length q) in
     elim (decLt 65536 (length s)) [
-      | yes h ↦ never-refused _ Limit 0 (sym (ap (λ (x : TreeRead). x .answer) (picked _ (refusedAt Limit 0) (readLines 1 emptyTree (lines s) (unended s)) (lt-ltb _ _ h))) ∙ e)
+      | yes h ↦ never-refused _ Limit 0 (sym (ap (λ (x : TreeRead). x .answer) (tree-size s h)) ∙ e)
       | no h ↦
-          let a = passed _ (refusedAt Limit 0) (readLines 1 emptyTree (lines s) (unended s)) (le-ltb 65536 (length s) (omega arith)) in
-          passed _ (refusedAt Limit 0) (readLines 1 emptyTree (lines r) (unended r)) (le-ltb 65536 (length r) (omega arith))
+          let a = tree-start s (omega arith) in
+          tree-start r (omega arith)
           ∙ ap (readLines 1 emptyTree (lines r)) q
           ∙ reordered-lines o 1 emptyTree (unended s) partial-empty (sym (ap (λ (x : TreeRead). x .answer) a) ∙ e)
           ∙ sym a

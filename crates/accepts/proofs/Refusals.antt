@@ -7,12 +7,13 @@ use mathlib.Core.Logic.{_↔_}
 use mathlib.Core.Path.{_≡_, refl, sym, _∙_, ap, subst}
 use native.Mathlib.Decide.{decLt}
 use native.Mathlib.Omega.{arith}
-use lib.Dec.{ltb, leb, eqb, lit<}
+use lib.Dec.{ltb, leb, eqb, lit≤}
 use lib.ListN.{length, getD}
-use borrow.Author.Tests.{lt-ltb, le-ltb, le-leb, eq-eqb, ne-eqb, eqb-true}
+use borrow.Author.Tests.{lt-ltb, le-ltb, eq-eqb, ne-eqb, eqb-true}
 use Rattle.text.specs.declared.Field.{Field}
 use Rattle.text.specs.declared.Field.the-variants.{Number}
 use Rattle.text.specs.Text.{lines, unended}
+use Rattle.text.proofs.Back.{nothing}
 use Rattle.model.specs.declared.Tree.{Tree}
 use Rattle.model.specs.declared.Refusal.{Refusal}
 use Rattle.model.specs.declared.Refusal.the-variants.{Shape, Limit, Order, Taken, Level}
@@ -28,8 +29,7 @@ use Rattle.lines.specs.declared.FileAnswer.the-variants.{Accepted, Refused, Bro
 use Rattle.lines.specs.FirstRule.{Rule, rule, broken}
 use Rattle.lines.specs.Lines.{named, pushed, lineWith, lineOf, valueAt, inTree, shaped, limitsKept}
 use Rattle.lines.specs.LineText.{WritesLine}
-use Rattle.lines.proofs.Limits.{most}
-use Rattle.lines.proofs.Written.{Below, below-none, below-more, numbers-read}
+use Rattle.lines.proofs.Written.{fieldsFrom, limits-below, numbers-read}
 use Rattle.lines.proofs.Back.{pushed-kind, line-said, shaped-exactly}
 use Rattle.records.specs.Records.{emptyTree, withRoot, accOf}
 use Rattle.placing.specs.declared.TreeRead.{TreeRead}
@@ -38,10 +38,13 @@ use Rattle.placing.proofs.Tests.{line-record, int-root, int-child, child-given,
 use Rattle.reader.specs.TreeFile.{onward, readLines, readTree}
 use Rattle.reader.proofs.Files.{tree-size, tree-start}
 use Rattle.accepts.specs.TreeText.{busValues, accValues}
-use Rattle.accepts.specs.TreeRefused.{Stands, bus-stands, root-stands, child-stands, acc-stands, Leads, leads-none, leads-more, inOrder, free, low, lineRules, LineBreaks, not-ended, missing, not-shaped, breaks, TreeBreaks, TreeRefused, too-long, at-line}
+use Rattle.accepts.specs.TreeRefused.{Stands, bus-stands, root-stands, child-stands, acc-stands, Leads, leads-none, leads-more}
+use Rattle.accepts.specs.TreeRefused.{inOrder, free, low, lineRules, LineBreaks, not-ended, missing, not-shaped, breaks}
+use Rattle.accepts.specs.TreeRefused.{TreeBreaks, TreeRefused, too-long, at-line}
 use Rattle.accepts.proofs.Written.{rootEntry, root-read}
-use Rattle.accepts.proofs.Complete.{bus-fields, line-given}
-use Rattle.accepts.proofs.Back.{stepped, line-first, nothing}
+use Rattle.accepts.proofs.Stage.{int-limits, int-order}
+use Rattle.accepts.proofs.Complete.{line-given}
+use Rattle.accepts.proofs.Back.{stepped, line-first}
 
 -- the tests of a line are the rules in their order
 module _ (n : ℕ) where
@@ -59,7 +62,8 @@ module _ (n : ℕ) where
   int-answers true false true false x y = refl
 
   acc-answers : (a b e : Bool) (x : Tree)
-      → pick a (refusedAt Order n) (pick b (refusedAt Order n) (pick (not e) (refusedAt Taken n) (given x))) .answer ≡ pick (not a && not b) (pick e Accepted (Refused Taken n)) (Refused Order n)
+      → pick a (refusedAt Order n) (pick b (refusedAt Order n) (pick (not e) (refusedAt Taken n) (given x))) .answer
+      ≡ pick (not a && not b) (pick e Accepted (Refused Taken n)) (Refused Order n)
   acc-answers true b e x = refl
   acc-answers false true e x = refl
   acc-answers false false true x = refl
@@ -105,45 +109,29 @@ module _ (l : List ℕ) where
       (W .0, W .1, sym (ap inTree q) ∙ a .0, W .2)
 
 -- a line that stands where it may is accepted
-acc-below : (v : List ℕ) → limitsKept AccLine v ≡ true → Below (accValues (getD v 0 0) (accOf v))
-acc-below v e =
-    below-more {x = getD v 0 0} (omega (arith, most AccLine v e 0 (lit< tt)))
-    (below-more {x = getD v 1 0} (omega (arith, most AccLine v e 1 (lit< tt)))
-    (below-more {x = getD v 2 0} (omega (arith, most AccLine v e 2 (lit< tt)))
-    (below-more {x = getD v 3 0} (omega (arith, most AccLine v e 3 (lit< tt)))
-    (below-more {x = getD v 4 0} (omega (arith, most AccLine v e 4 (lit< tt)))
-    (below-more {x = getD v 5 0} (omega (arith, most AccLine v e 5 (lit< tt)))
-    (below-more {x = getD v 6 0} (omega (arith, most AccLine v e 6 (lit< tt)))
-    (below-more {x = getD v 7 0} (omega (arith, most AccLine v e 7 (lit< tt)))
-    (below-more {x = getD v 8 0} (omega (arith, most AccLine v e 8 (lit< tt)))
-    below-none))))))))
-
-within-yes : (l x h : ℕ) → l ≤ x → x ≤ h → leb l x && leb x h ≡ true
-within-yes l x h a b = joined (leb l x) (leb x h) (le-leb l x a) (le-leb x h b)
-
 stands-given : {u w : Tree} {l : List ℕ} → Stands u l w → (n : ℕ) → treeLine n u (lineOf l) ≡ given w
-unfolding pushed all busKeeps shaped busLine
+unfolding pushed all busKeeps shaped busLine fieldsFrom
 stands-given {u} (bus-stands b h z q) n =
-    let B = bus-fields b h in
+    let B = limits-below BusLine (busValues b) h in
     ap (λ (s : List ℕ). treeLine n u (lineOf s)) q ∙ ap (treeLine n u) (numbers-read BusLine B)
     ∙ line-record n u (lineWith BusLine (map Number (busValues b))) BusLine refl refl h ∙ passed _ _ _ (le-ltb 0 (u .bus .window) (omega arith))
 stands-given {u} (root-stands g b d k m z q) n =
     let t = withRoot emptyTree g in
     let E = rootEntry t in
-    let o : intInOrder u E ≡ true = joined _ _ (joined _ _ (joined _ _ (lt-ltb 0 (u .bus .window) k) (eq-eqb (u .accs) 0 m)) (eq-eqb 0 (u .ints) (sym z))) refl in
-    let w : limitsKept IntLine (E .values) ≡ true = within-yes 1 g 16 b d in
+    let o = int-order u E k m (sym z) refl in
+    let w = int-limits 0 0 0 g (lit≤ tt) (lit≤ tt) (lit≤ tt) b d in
     ap (λ (s : List ℕ). treeLine n u (lineOf s)) q ∙ ap (treeLine n u) (root-read t (omega arith)) ∙ line-record n u E IntLine refl refl w
     ∙ int-root n u E o refl
 stands-given {u} (child-stands j p x g y v k m z d b c r f h q) n =
     let E = lineWith IntLine (map Number (j ∷ p ∷ x ∷ g ∷ [])) in
-    let B = below-more {x = j} (omega arith) (below-more {x = p} (omega arith) (below-more {x = x} (omega arith) (below-more {x = g} (omega arith) below-none))) in
-    let o : intInOrder u E ≡ true = joined _ _ (joined _ _ (joined _ _ (lt-ltb 0 (u .bus .window) k) (eq-eqb (u .accs) 0 m)) (eq-eqb j (u .ints) z)) (passed _ _ _ (ne-eqb j 0 (omega arith)) ∙ lt-ltb p j c) in
-    let w : limitsKept IntLine (E .values) ≡ true = joined _ _ (joined _ _ (joined _ _ (within-yes 0 j 14 (omega arith) (omega arith)) (within-yes 0 p 14 (omega arith) (omega arith))) (within-yes 0 x 7 (omega arith) (omega arith))) (within-yes 1 g 16 y v) in
+    let o = int-order u E k m z (passed _ _ _ (ne-eqb j 0 (omega arith)) ∙ lt-ltb p j c) in
+    let w = int-limits j p x g (omega arith) (omega arith) (omega arith) y v in
+    let B = limits-below IntLine (E .values) w in
     ap (λ (s : List ℕ). treeLine n u (lineOf s)) q ∙ ap (treeLine n u) (numbers-read IntLine B)
     ∙ line-record n u E IntLine refl refl w ∙ int-child n u E o (omega arith) ∙ child-given n u (E .values) (ap isEmpty f) h
 stands-given {u} (acc-stands v e k o f q) n =
     let E = lineWith AccLine (map Number (accValues (getD v 0 0) (accOf v))) in
-    ap (λ (s : List ℕ). treeLine n u (lineOf s)) q ∙ ap (treeLine n u) (numbers-read AccLine (acc-below v e))
+    ap (λ (s : List ℕ). treeLine n u (lineOf s)) q ∙ ap (treeLine n u) (numbers-read AccLine (limits-below AccLine v e))
     ∙ line-record n u E AccLine refl refl e ∙ acc-given n u (E .values) k (omega arith) (ap isEmpty f)
 
 -- the first line that breaks a rule, of the lines from line n on
@@ -164,7 +152,8 @@ here : (n : ℕ) (u : Tree) (ls : List (List ℕ)) (e : List ℕ) (r : Refusal) 
 here n u ls e r x m B q =
     let s : (x ≡ r) × (n ≡ m) = (cc, cc) in
     subst (λ (i : ℕ). Found n u ls e r i) (s .1)
-    (subst (λ (y : Refusal). Found n u ls e y n) (s .0) (record { before = []; after = ls; tree = u; split = refl; leads = leads-none; line = sym (plus n); first = B }))
+    (subst (λ (y : Refusal). Found n u ls e y n) (s .0)
+    (record { before = []; after = ls; tree = u; split = refl; leads = leads-none; line = sym (plus n); first = B }))
 
 -- what an answer lets the reading do
 abbrev ended : ℕ → Tree → List ℕ → List (List ℕ) → List ℕ → FileAnswer → TreeRead
@@ -222,7 +211,8 @@ end-answers : (n : ℕ) (u : Tree) (e : List ℕ)
 unfolding readLines finish
 end-answers n u e = go (eqb (length e) 0) (complete u)
   where
-    go : (a b : Bool) → pick a (pick b (given u) (refusedAt Order n)) (refusedAt Shape n) .answer ≡ pick a (pick b Accepted (Refused Order n)) (Refused Shape n)
+    go : (a b : Bool) → pick a (pick b (given u) (refusedAt Order n)) (refusedAt Shape n) .answer
+        ≡ pick a (pick b Accepted (Refused Order n)) (Refused Shape n)
     go true true = refl
     go true false = refl
     go false b = refl

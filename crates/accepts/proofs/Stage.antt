@@ -3,10 +3,11 @@
 -- are what the rules say; at the end both are equal. By the laws of what a line stores, and by induction on what is left.
 use Prim.Native.Nat.{ℕ, _+_, _≤_, _<_}
 use mathlib.Core.Bool.{true}
+use mathlib.Core.List.{List, [], _∷_}
 use mathlib.Core.Path.{_≡_, refl, sym, _∙_, ap, subst}
-use native.Mathlib.Decide.{decLt, ℕ-discrete}
+use native.Mathlib.Decide.{decLt}
 use native.Mathlib.Omega.{arith}
-use lib.Dec.{ltb, leb, lit<}
+use lib.Dec.{ltb, leb, lit<, lit≤}
 use lib.ListN.{length, getD, getD-replicate}
 use lib.Seq.{ext-getD}
 use borrow.Author.Tests.{lt-ltb, le-ltb, le-leb, eq-eqb, ne-eqb}
@@ -17,18 +18,24 @@ use Rattle.model.specs.declared.PortCell.{PortCell}
 use Rattle.model.specs.declared.Port.{Port}
 use Rattle.model.specs.declared.Port.the-variants.{Empty, Acc, Int}
 use Rattle.folds.specs.Fold.{pick, all, within}
-use Rattle.model.specs.Tree.{emptyCell, noInterconnect, noAccelerator, interconnectOf, acceleratorOf, portOf, granularityOf, parentOf, parentPortOf, homeOf, homePortOf, limitOf, budgetOf, levelOf}
-use Rattle.rules.specs.Rules.{isEmpty, busKeeps, interconnectKeeps, usedInterconnect, rootPlaced, unusedInterconnect, usedAccelerator, unusedAccelerator, acceleratorKeeps, treeKeeps}
+use Rattle.model.specs.Tree.{emptyCell, noInterconnect, noAccelerator, interconnectOf, granularityOf, parentOf, parentPortOf, levelOf}
+use Rattle.model.specs.Tree.{acceleratorOf, portOf, homeOf, homePortOf, limitOf, budgetOf}
+use Rattle.rules.specs.Rules.{isEmpty, busKeeps, rootPlaced, interconnectKeeps, usedInterconnect, unusedInterconnect, treeKeeps}
+use Rattle.rules.specs.Rules.{acceleratorKeeps, usedAccelerator, unusedAccelerator}
 use Rattle.folds.proofs.Folds.{picked, passed, tests, joined, clash}
 use Rattle.rules.proofs.Sound.{Sound, sound, level-step}
 use Rattle.lines.specs.declared.Kind.the-variants.{BusLine, IntLine, AccLine}
-use Rattle.lines.specs.Lines.{limitsKept, shaped}
+use Rattle.lines.specs.declared.Line.{Line}
+use Rattle.lines.specs.Lines.{valueAt, limitsKept, shaped}
 use Rattle.model.specs.Builders.{withBus}
 use Rattle.records.specs.Records.{emptyTree, withRoot, withChild, withAcc}
-use Rattle.placing.specs.Placing.{given, busLine, intInOrder, treeLine}
+use Rattle.placing.specs.Placing.{given, busLine, rootRule, intInOrder, treeLine}
 use Rattle.accepts.specs.TreeText.{busValues}
 use Rattle.placing.proofs.Tests.{line-record, int-root, int-child, child-given, acc-given}
-use Rattle.accepts.proofs.Kept.{Partial, partial-empty, level-same, new-here, root-size, root-ports, child-new, child-parent, child-parent-port, child-granularity, child-port-new, child-port-at, child-port-other, acc-new, acc-old, acc-at, stored-apart, stored-parent, stored-parent-port, stored-granularity, home-size, not-acc, not-int, is-empty, partial-bus, partial-root, partial-child, partial-acc}
+use Rattle.accepts.proofs.Kept.{Partial, partial-empty, partial-bus, partial-root, partial-child, partial-acc}
+use Rattle.accepts.proofs.Kept.{each-number, each-port, level-same, new-here, root-size, root-ports, not-acc, not-int, is-empty}
+use Rattle.accepts.proofs.Kept.{child-new, child-parent, child-parent-port, child-granularity, child-port-new, child-port-at, child-port-other}
+use Rattle.accepts.proofs.Kept.{acc-new, acc-old, acc-at, stored-apart, stored-parent, stored-parent-port, stored-granularity, home-size}
 use Rattle.accepts.proofs.Written.{busEntry, rootEntry, childEntry, accEntry}
 
 -- what a port carries of the first k interconnects and m accelerators
@@ -74,12 +81,25 @@ module _ (t : Tree) (e : treeKeeps t ≡ true) where
   acc-used : (a : ℕ) → a < t .accs → usedAccelerator t a ≡ true
   acc-used a l = sym (picked _ _ _ (lt-ltb a (t .accs) l)) ∙ acc-rule a (omega (arith, sound t e .most-accs))
 
-  pub acc-ranges : (a : ℕ) → a < t .accs → (acceleratorOf t a .reads ≤ 65535) × (acceleratorOf t a .writes ≤ 65535) × (acceleratorOf t a .computing ≤ 4294967295) × (1 ≤ acceleratorOf t a .period) × (acceleratorOf t a .period ≤ 4294967295)
+  acc-ranges : (a : ℕ) → a < t .accs
+      → (acceleratorOf t a .reads ≤ 65535) × (acceleratorOf t a .writes ≤ 65535) × (acceleratorOf t a .computing ≤ 4294967295)
+      × (1 ≤ acceleratorOf t a .period) × (acceleratorOf t a .period ≤ 4294967295)
   unfolding usedAccelerator
   acc-ranges a l = let h = simp tests at (acc-used a l) in omega arith
 
 within-yes : (l x h : ℕ) → l ≤ x → x ≤ h → within l x h ≡ true
 within-yes l x h a b = joined (leb l x) (leb x h) (le-leb l x a) (le-leb x h b)
+
+-- the numbers of an int line are in their limits, and the line is in order
+pub int-limits : (j p q g : ℕ) → j ≤ 14 → p ≤ 14 → q ≤ 7 → 1 ≤ g → g ≤ 16
+    → limitsKept IntLine (j ∷ p ∷ q ∷ g ∷ 0 ∷ 0 ∷ 0 ∷ 0 ∷ 0 ∷ 0 ∷ []) ≡ true
+unfolding all
+int-limits j p q g a b c d e =
+    joined _ _ (joined _ _ (joined _ _ (within-yes 0 j 14 (omega arith) a) (within-yes 0 p 14 (omega arith) b)) (within-yes 0 q 7 (omega arith) c))
+    (within-yes 1 g 16 d e)
+
+pub int-order : (u : Tree) (l : Line) → 0 < u .bus .window → u .accs ≡ 0 → valueAt l 0 ≡ u .ints → rootRule l ≡ true → intInOrder u l ≡ true
+int-order u l w a i r = joined _ _ (joined _ _ (joined _ _ (lt-ltb 0 (u .bus .window) w) (eq-eqb (u .accs) 0 a)) (eq-eqb (valueAt l 0) (u .ints) i)) r
 
 restrict-empty : (k m : ℕ) (x : Port) → ((a : ℕ) → x ≡ Acc a → m ≤ a) → ((c : ℕ) → x ≡ Int c → k ≤ c) → restrict k m x ≡ Empty
 unfolding restrict
@@ -87,7 +107,8 @@ restrict-empty k m Empty f g = refl
 restrict-empty k m (Acc a) f g = passed _ _ _ (le-ltb a m (f a refl))
 restrict-empty k m (Int c) f g = passed _ _ _ (le-ltb c k (g c refl))
 
-restrict-same : (k m i n : ℕ) (x : Port) → ((a : ℕ) → x ≡ Acc a → ltb a m ≡ ltb a n) → ((c : ℕ) → x ≡ Int c → ltb c k ≡ ltb c i) → restrict k m x ≡ restrict i n x
+restrict-same : (k m i n : ℕ) (x : Port) → ((a : ℕ) → x ≡ Acc a → ltb a m ≡ ltb a n) → ((c : ℕ) → x ≡ Int c → ltb c k ≡ ltb c i)
+    → restrict k m x ≡ restrict i n x
 unfolding restrict
 restrict-same k m i n Empty f g = refl
 restrict-same k m i n (Acc a) f g = ap (λ b. pick b (Acc a) Empty) (f a refl)
@@ -135,15 +156,12 @@ module _ (t : Tree) (e : treeKeeps t ≡ true) where
   -- the int line of the root
   module _ (u : Tree) (A : Agrees t u 0 0) where
     root-limits : limitsKept IntLine (rootEntry t .values) ≡ true
-    unfolding all
     root-limits =
         let g1 = S .granularity 0 (S .some-ints) in
-        joined _ _ (joined _ _ (joined _ _ (within-yes 0 0 14 (omega arith) (omega arith)) (within-yes 0 0 14 (omega arith) (omega arith))) (within-yes 0 0 7 (omega arith) (omega arith)))
-        (within-yes 1 (granularityOf t 0) 16 (g1 .0) (g1 .1))
+        int-limits 0 0 0 (granularityOf t 0) (lit≤ tt) (lit≤ tt) (lit≤ tt) (g1 .0) (g1 .1)
 
     root-order : intInOrder u (rootEntry t) ≡ true
-    root-order =
-        joined _ _ (joined _ _ (joined _ _ (lt-ltb 0 (u .bus .window) (omega (arith, S .window, ap (λ b. b .window) (A .bus)))) (eq-eqb (u .accs) 0 (A .accs))) (eq-eqb 0 (u .ints) (sym (A .ints)))) refl
+    root-order = int-order u (rootEntry t) (omega (arith, S .window, ap (λ b. b .window) (A .bus))) (A .accs) (sym (A .ints)) refl
 
     pub root-step : (n : ℕ) → treeLine n u (rootEntry t) ≡ given (withRoot u (granularityOf t 0))
     unfolding all shaped
@@ -155,16 +173,17 @@ module _ (t : Tree) (e : treeKeeps t ≡ true) where
         let P = A .part in
         let z = A .ints in
         let new = new-here u 0 0 0 (granularityOf t 0) (root-size u (granularityOf t 0) P z (g1 .0) (g1 .1)) in
+        let grown = withRoot u (granularityOf t 0) in
         record {
           part = partial-root u (granularityOf t 0) P z (g1 .0) (g1 .1) (A .accs);
           bus = A .bus;
           ints = omega arith;
           accs = A .accs;
-          parent = λ j h. first (λ i. parentOf (withRoot u (granularityOf t 0)) i ≡ parentOf t i) (ap (λ (c : Interconnect). c .parent) new ∙ sym (root-place t e .0)) j h;
-          parent-port = λ j h. first (λ i. parentPortOf (withRoot u (granularityOf t 0)) i ≡ parentPortOf t i) (ap (λ (c : Interconnect). c .port) new ∙ sym (root-place t e .1)) j h;
-          granularity = λ j h. first (λ i. granularityOf (withRoot u (granularityOf t 0)) i ≡ granularityOf t i) (ap (λ (c : Interconnect). c .granularity) new) j h;
-          port = λ j p h b. root-ports u (granularityOf t 0) P z (g1 .0) (g1 .1) j p
-              ∙ sym (first (λ i. restrict 1 0 (portOf t i p) ≡ Empty) (restrict-empty 1 0 (portOf t 0 p) (λ a q. omega arith) (λ c q. S .int-place 0 p c (S .some-ints) b q .0)) j h);
+          parent = first (λ i. parentOf grown i ≡ parentOf t i) (ap (λ (c : Interconnect). c .parent) new ∙ sym (root-place t e .0));
+          parent-port = first (λ i. parentPortOf grown i ≡ parentPortOf t i) (ap (λ (c : Interconnect). c .port) new ∙ sym (root-place t e .1));
+          granularity = first (λ i. granularityOf grown i ≡ granularityOf t i) (ap (λ (c : Interconnect). c .granularity) new);
+          port = λ j p h b. root-ports u (granularityOf t 0) P z (g1 .0) (g1 .1) j p ∙ sym (first (λ i. restrict 1 0 (portOf t i p) ≡ Empty)
+              (restrict-empty 1 0 (portOf t 0 p) (λ a q. omega arith) (λ c q. S .int-place 0 p c (S .some-ints) b q .0)) j h);
           acc = λ a h. absurd (omega arith);
         }
       where
@@ -172,29 +191,42 @@ module _ (t : Tree) (e : treeKeeps t ≡ true) where
         first F x j h = let q : 0 ≡ j = omega arith in subst F q x
 
   -- the int line of another interconnect
+  pub child-limits : (k : ℕ) → 0 < k → k < t .ints → limitsKept IntLine (childEntry t k .values) ≡ true
+  child-limits k z h =
+      let g1 = S .granularity k h in
+      let m = S .most-ints in
+      int-limits k (parentOf t k) (parentPortOf t k) (granularityOf t k) (omega arith) (omega (arith, S .parent k z h)) (omega (arith, S .parent-port k z h))
+      (g1 .0) (g1 .1)
+
   module _ (k : ℕ) (z : 0 < k) (h : k < t .ints) (u : Tree) (A : Agrees t u k 0) where
+    abbrev above : ℕ
+    above = parentOf t k
+
+    abbrev above-port : ℕ
+    above-port = parentPortOf t k
+
+    abbrev g : ℕ
+    g = granularityOf t k
+
+    abbrev childTree : Tree
+    childTree = withChild u k above above-port g
+
     down : parentOf t k < k
     down = S .parent k z h
 
     in-port : parentPortOf t k < 8
     in-port = S .parent-port k z h
 
-    child-limits : limitsKept IntLine (childEntry t k .values) ≡ true
-    unfolding all
-    child-limits =
-        let g1 = S .granularity k h in
-        joined _ _ (joined _ _ (joined _ _ (within-yes 0 k 14 (omega arith) (omega (arith, S .most-ints))) (within-yes 0 (parentOf t k) 14 (omega arith) (omega (arith, S .most-ints, down)))) (within-yes 0 (parentPortOf t k) 7 (omega arith) (omega (arith, in-port))))
-        (within-yes 1 (granularityOf t k) 16 (g1 .0) (g1 .1))
-
     child-order : intInOrder u (childEntry t k) ≡ true
     child-order =
-        joined _ _ (joined _ _ (joined _ _ (lt-ltb 0 (u .bus .window) (omega (arith, S .window, ap (λ b. b .window) (A .bus)))) (eq-eqb (u .accs) 0 (A .accs))) (eq-eqb k (u .ints) (sym (A .ints))))
+        int-order u (childEntry t k) (omega (arith, S .window, ap (λ b. b .window) (A .bus))) (A .accs) (sym (A .ints))
         (passed _ _ _ (ne-eqb k 0 (omega arith)) ∙ lt-ltb (parentOf t k) k down)
 
     free : portOf u (parentOf t k) (parentPortOf t k) ≡ Empty
     free =
         A .port (parentOf t k) (parentPortOf t k) down in-port
-        ∙ restrict-empty k 0 (portOf t (parentOf t k) (parentPortOf t k)) (λ a q. omega arith) (λ c q. let w = S .parent-carries k z h in let y : c ≡ k = cc in omega arith)
+        ∙ restrict-empty k 0 (portOf t (parentOf t k) (parentPortOf t k)) (λ a q. omega arith)
+        (λ c q. let w = S .parent-carries k z h in let y : c ≡ k = cc in omega arith)
 
     low : levelOf u (parentOf t k) < 4
     low =
@@ -204,7 +236,7 @@ module _ (t : Tree) (e : treeKeeps t ≡ true) where
     pub child-step : (n : ℕ) → treeLine n u (childEntry t k) ≡ given (withChild u k (parentOf t k) (parentPortOf t k) (granularityOf t k))
     unfolding all shaped
     child-step n =
-        line-record n u (childEntry t k) IntLine refl refl child-limits
+        line-record n u (childEntry t k) IntLine refl refl (child-limits k z h)
         ∙ int-child n u (childEntry t k) child-order (omega arith)
         ∙ child-given n u (childEntry t k .values) (ap isEmpty free) low
 
@@ -216,71 +248,84 @@ module _ (t : Tree) (e : treeKeeps t ≡ true) where
 
     -- of the new interconnect, and of those before it
     each : (F : ℕ → Type 0) → F k → ((j : ℕ) → j < k → (j ≡ k → ⊥) → F j) → (j : ℕ) → j < k + 1 → F j
-    each F new old j l = elim (ℕ-discrete j k) [
-      | yes q ↦ subst F (sym q) new
-      | no d ↦ old j (omega arith) d
-    ]
+    each F new old = each-number (λ j. j < k + 1 → F j) k (λ l. new) (λ j d l. old j (omega arith) d)
 
-    child-port : (j p : ℕ) → j < k → p < 8 → (j ≡ k → ⊥) → portOf (withChild u k (parentOf t k) (parentPortOf t k) (granularityOf t k)) j p ≡ restrict (k + 1) 0 (portOf t j p)
-    child-port j p l b d = elim (ℕ-discrete j (parentOf t k)) [
-      | yes q ↦ elim (ℕ-discrete p (parentPortOf t k)) [
-        | yes r ↦ subst (λ i. portOf (withChild u k (parentOf t k) (parentPortOf t k) (granularityOf t k)) i p ≡ restrict (k + 1) 0 (portOf t i p)) (sym q)
-            (subst (λ i. portOf (withChild u k (parentOf t k) (parentPortOf t k) (granularityOf t k)) (parentOf t k) i ≡ restrict (k + 1) 0 (portOf t (parentOf t k) i)) (sym r)
-            (child-port-at u k (parentOf t k) (parentPortOf t k) (granularityOf t k) (A .part) next bound down in-port free
-            ∙ sym (restrict-int (k + 1) 0 k _ (S .parent-carries k z h) (omega arith))))
-        | no r ↦ other (λ x y. r y)
-      ]
-      | no q ↦ other (λ x y. q x)
-    ]
+    child-port : (j p : ℕ) → j < k → p < 8 → (j ≡ k → ⊥) → portOf childTree j p ≡ restrict (k + 1) 0 (portOf t j p)
+    child-port =
+        each-port (λ j p. j < k → p < 8 → (j ≡ k → ⊥) → portOf childTree j p ≡ restrict (k + 1) 0 (portOf t j p)) above above-port
+        (λ l b d. child-port-at u k above above-port g (A .part) next bound down in-port free
+        ∙ sym (restrict-int (k + 1) 0 k _ (S .parent-carries k z h) (omega arith)))
+        other
       where
-        other : (j ≡ parentOf t k → p ≡ parentPortOf t k → ⊥) → portOf (withChild u k (parentOf t k) (parentPortOf t k) (granularityOf t k)) j p ≡ restrict (k + 1) 0 (portOf t j p)
-        other x =
-            child-port-other u k (parentOf t k) (parentPortOf t k) (granularityOf t k) (A .part) next bound down in-port free j p d x
+        -- what another port carries is not interconnect k
+        not-k : (j p c : ℕ) → (j ≡ above → p ≡ above-port → ⊥) → j < k → p < 8 → portOf t j p ≡ Int c → c ≡ k → ⊥
+        not-k j p c x l b q w =
+            let i = S .int-place j p c (omega arith) b q in
+            x (sym (i .2) ∙ ap (parentOf t) w) (sym (i .3) ∙ ap (parentPortOf t) w)
+
+        other : (j p : ℕ) → (j ≡ above → p ≡ above-port → ⊥) → j < k → p < 8 → (j ≡ k → ⊥) → portOf childTree j p ≡ restrict (k + 1) 0 (portOf t j p)
+        other j p x l b d =
+            child-port-other u k above above-port g (A .part) next bound down in-port free j p d x
             ∙ A .port j p l b
-            ∙ restrict-same k 0 (k + 1) 0 (portOf t j p) (λ a q. refl)
-            (λ c q. same-test c k (λ w. let i = S .int-place j p c (omega arith) b q in x (sym (subst (λ n. parentOf t n ≡ j) w (i .2))) (sym (subst (λ n. parentPortOf t n ≡ p) w (i .3)))))
+            ∙ restrict-same k 0 (k + 1) 0 (portOf t j p) (λ a q. refl) (λ c q. same-test c k (not-k j p c x l b q))
 
     pub agrees-child : Agrees t (withChild u k (parentOf t k) (parentPortOf t k) (granularityOf t k)) (k + 1) 0
     agrees-child =
         let g1 = S .granularity k h in
         let P = A .part in
-        let new = child-new u k (parentOf t k) (parentPortOf t k) (granularityOf t k) P next bound down in-port free in
+        let new = child-new u k above above-port g P next bound down in-port free in
         record {
-          part = partial-child u k (parentOf t k) (parentPortOf t k) (granularityOf t k) P next bound down in-port free low (A .accs) (g1 .0) (g1 .1);
+          part = partial-child u k above above-port g P next bound down in-port free low (A .accs) (g1 .0) (g1 .1);
           bus = A .bus;
           ints = omega arith;
           accs = A .accs;
-          parent = each (λ j. parentOf (withChild u k (parentOf t k) (parentPortOf t k) (granularityOf t k)) j ≡ parentOf t j) (ap (λ (c : Interconnect). c .parent) new)
-              (λ j l d. child-parent u k (parentOf t k) (parentPortOf t k) (granularityOf t k) P next bound down in-port free j d ∙ A .parent j l);
-          parent-port = each (λ j. parentPortOf (withChild u k (parentOf t k) (parentPortOf t k) (granularityOf t k)) j ≡ parentPortOf t j) (ap (λ (c : Interconnect). c .port) new)
-              (λ j l d. child-parent-port u k (parentOf t k) (parentPortOf t k) (granularityOf t k) P next bound down in-port free j d ∙ A .parent-port j l);
-          granularity = each (λ j. granularityOf (withChild u k (parentOf t k) (parentPortOf t k) (granularityOf t k)) j ≡ granularityOf t j) (ap (λ (c : Interconnect). c .granularity) new)
-              (λ j l d. child-granularity u k (parentOf t k) (parentPortOf t k) (granularityOf t k) P next bound down in-port free j d ∙ A .granularity j l);
-          port = λ j p l b. each (λ i. portOf (withChild u k (parentOf t k) (parentPortOf t k) (granularityOf t k)) i p ≡ restrict (k + 1) 0 (portOf t i p))
-              (child-port-new u k (parentOf t k) (parentPortOf t k) (granularityOf t k) P next bound down in-port free p
-              ∙ sym (restrict-empty (k + 1) 0 (portOf t k p) (λ a q. omega arith) (λ c q. let i = S .int-place k p c h b q in let w = S .parent c (i .0) (i .1) in omega (arith, i .2))))
+          parent = each (λ j. parentOf childTree j ≡ parentOf t j) (ap (λ (c : Interconnect). c .parent) new)
+              (λ j l d. child-parent u k above above-port g P next bound down in-port free j d ∙ A .parent j l);
+          parent-port = each (λ j. parentPortOf childTree j ≡ parentPortOf t j) (ap (λ (c : Interconnect). c .port) new)
+              (λ j l d. child-parent-port u k above above-port g P next bound down in-port free j d ∙ A .parent-port j l);
+          granularity = each (λ j. granularityOf childTree j ≡ granularityOf t j) (ap (λ (c : Interconnect). c .granularity) new)
+              (λ j l d. child-granularity u k above above-port g P next bound down in-port free j d ∙ A .granularity j l);
+          port = λ j p l b. each (λ i. portOf childTree i p ≡ restrict (k + 1) 0 (portOf t i p))
+              (child-port-new u k above above-port g P next bound down in-port free p
+              ∙ sym (restrict-empty (k + 1) 0 (portOf t k p) (λ a q. omega arith)
+              (λ c q. let i = S .int-place k p c h b q in let w = S .parent c (i .0) (i .1) in omega (arith, i .2))))
               (λ i y d. child-port i p y b d) j l;
           acc = λ a l. absurd (omega arith);
         }
 
   -- the acc line of accelerator m, once all interconnects are read
+  pub acc-limits : (m : ℕ) → m < t .accs → limitsKept AccLine (accEntry t m .values) ≡ true
+  unfolding all
+  acc-limits m h =
+      let r = acc-ranges t e m h in
+      let f = S .limit m h in
+      let b = S .budget m h in
+      joined _ _ (joined _ _ (joined _ _ (joined _ _ (joined _ _ (joined _ _ (joined _ _ (joined _ _
+      (within-yes 0 m 31 (omega arith) (omega (arith, S .most-accs)))
+      (within-yes 0 (homeOf t m) 14 (omega arith) (omega (arith, S .home m h, S .most-ints))))
+      (within-yes 0 (homePortOf t m) 7 (omega arith) (omega (arith, S .home-port m h))))
+      (within-yes 1 (limitOf t m) 16 (f .0) (f .1)))
+      (within-yes 1 (budgetOf t m) 1024 (b .0) (b .1)))
+      (within-yes 0 (acceleratorOf t m .reads) 65535 (omega arith) (r .0)))
+      (within-yes 0 (acceleratorOf t m .writes) 65535 (omega arith) (r .1)))
+      (within-yes 0 (acceleratorOf t m .computing) 4294967295 (omega arith) (r .2)))
+      (within-yes 1 (acceleratorOf t m .period) 4294967295 (r .3) (r .4))
+
   module _ (m : ℕ) (h : m < t .accs) (u : Tree) (A : Agrees t u (t .ints) m) where
-    acc-limits : limitsKept AccLine (accEntry t m .values) ≡ true
-    unfolding all
-    acc-limits =
-        let r = acc-ranges t e m h in
-        let f = S .limit m h in
-        let b = S .budget m h in
-        joined _ _ (joined _ _ (joined _ _ (joined _ _ (joined _ _ (joined _ _ (joined _ _ (joined _ _
-        (within-yes 0 m 31 (omega arith) (omega (arith, S .most-accs)))
-        (within-yes 0 (homeOf t m) 14 (omega arith) (omega (arith, S .home m h, S .most-ints))))
-        (within-yes 0 (homePortOf t m) 7 (omega arith) (omega (arith, S .home-port m h))))
-        (within-yes 1 (limitOf t m) 16 (f .0) (f .1)))
-        (within-yes 1 (budgetOf t m) 1024 (b .0) (b .1)))
-        (within-yes 0 (acceleratorOf t m .reads) 65535 (omega arith) (r .0)))
-        (within-yes 0 (acceleratorOf t m .writes) 65535 (omega arith) (r .1)))
-        (within-yes 0 (acceleratorOf t m .computing) 4294967295 (omega arith) (r .2)))
-        (within-yes 1 (acceleratorOf t m .period) 4294967295 (r .3) (r .4))
+    abbrev v : List ℕ
+    v = accEntry t m .values
+
+    abbrev home : ℕ
+    home = homeOf t m
+
+    abbrev home-port : ℕ
+    home-port = homePortOf t m
+
+    abbrev accTree : Tree
+    accTree = withAcc u v
+
+    limits : limitsKept AccLine (accEntry t m .values) ≡ true
+    limits = acc-limits m h
 
     known : homeOf t m < u .ints
     known = omega (arith, S .home m h, A .ints)
@@ -288,56 +333,54 @@ module _ (t : Tree) (e : treeKeeps t ≡ true) where
     once : limitOf u m ≡ 0
     once = ap (λ (x : Accelerator). x .phi) (A .part .unused-acc m (omega (arith, A .accs)))
 
-    acc-free : portOf u (homeOf t m) (homePortOf t m) ≡ Empty
+    acc-free : portOf u home home-port ≡ Empty
     acc-free =
-        A .port (homeOf t m) (homePortOf t m) (S .home m h) (S .home-port m h)
-        ∙ restrict-empty (t .ints) m (portOf t (homeOf t m) (homePortOf t m))
+        A .port home home-port (S .home m h) (S .home-port m h)
+        ∙ restrict-empty (t .ints) m (portOf t home home-port)
         (λ a q. let w = S .home-carries m h in let y : a ≡ m = cc in omega arith)
         (λ c q. let w = S .home-carries m h in clash cc)
+
+    size : home < length (u .interconnects)
+    size = home-size u v (A .part) limits known once acc-free
 
     pub acc-step : (n : ℕ) → treeLine n u (accEntry t m) ≡ given (withAcc u (accEntry t m .values))
     unfolding all shaped
     acc-step n =
-        line-record n u (accEntry t m) AccLine refl refl acc-limits
+        line-record n u (accEntry t m) AccLine refl refl limits
         ∙ acc-given n u (accEntry t m .values) known (omega (arith, once)) (ap isEmpty acc-free)
 
-    acc-port : (j p : ℕ) → j < t .ints → p < 8 → portOf (withAcc u (accEntry t m .values)) j p ≡ restrict (t .ints) (m + 1) (portOf t j p)
-    acc-port j p l b = elim (ℕ-discrete j (homeOf t m)) [
-      | yes q ↦ elim (ℕ-discrete p (homePortOf t m)) [
-        | yes r ↦ subst (λ i. portOf (withAcc u (accEntry t m .values)) i p ≡ restrict (t .ints) (m + 1) (portOf t i p)) (sym q)
-            (subst (λ i. portOf (withAcc u (accEntry t m .values)) (homeOf t m) i ≡ restrict (t .ints) (m + 1) (portOf t (homeOf t m) i)) (sym r)
-            (acc-at u (accEntry t m .values) (A .part) acc-limits known once acc-free
-            ∙ sym (restrict-acc (t .ints) (m + 1) m _ (S .home-carries m h) (omega arith))))
-        | no r ↦ other (λ x y. r y)
-      ]
-      | no q ↦ other (λ x y. q x)
-    ]
+    acc-port : (j p : ℕ) → j < t .ints → p < 8 → portOf accTree j p ≡ restrict (t .ints) (m + 1) (portOf t j p)
+    acc-port =
+        each-port (λ j p. j < t .ints → p < 8 → portOf accTree j p ≡ restrict (t .ints) (m + 1) (portOf t j p)) home home-port
+        (λ l b. acc-at u v (A .part) limits known once acc-free ∙ sym (restrict-acc (t .ints) (m + 1) m _ (S .home-carries m h) (omega arith)))
+        other
       where
-        other : (j ≡ homeOf t m → p ≡ homePortOf t m → ⊥) → portOf (withAcc u (accEntry t m .values)) j p ≡ restrict (t .ints) (m + 1) (portOf t j p)
-        other x =
-            stored-apart u (homeOf t m) (homePortOf t m) (Acc m) (home-size u (accEntry t m .values) (A .part) acc-limits known once acc-free) j p x
+        -- what another port carries is not accelerator m
+        not-m : (j p a : ℕ) → (j ≡ home → p ≡ home-port → ⊥) → j < t .ints → p < 8 → portOf t j p ≡ Acc a → a ≡ m → ⊥
+        not-m j p a x l b q w =
+            let i = S .acc-place j p a l b q in
+            x (sym (i .1) ∙ ap (homeOf t) w) (sym (i .2) ∙ ap (homePortOf t) w)
+
+        other : (j p : ℕ) → (j ≡ home → p ≡ home-port → ⊥) → j < t .ints → p < 8 → portOf accTree j p ≡ restrict (t .ints) (m + 1) (portOf t j p)
+        other j p x l b =
+            stored-apart u home home-port (Acc m) size j p x
             ∙ A .port j p l b
-            ∙ restrict-same (t .ints) m (t .ints) (m + 1) (portOf t j p)
-            (λ a q. same-test a m (λ w. let i = S .acc-place j p a l b q in x (sym (subst (λ n. homeOf t n ≡ j) w (i .1))) (sym (subst (λ n. homePortOf t n ≡ p) w (i .2)))))
-            (λ c q. refl)
+            ∙ restrict-same (t .ints) m (t .ints) (m + 1) (portOf t j p) (λ a q. same-test a m (not-m j p a x l b q)) (λ c q. refl)
 
     pub agrees-acc : Agrees t (withAcc u (accEntry t m .values)) (t .ints) (m + 1)
     agrees-acc =
         let P = A .part in
-        let size = home-size u (accEntry t m .values) P acc-limits known once acc-free in
         record {
-          part = partial-acc u (accEntry t m .values) P acc-limits known once acc-free;
+          part = partial-acc u v P limits known once acc-free;
           bus = A .bus;
           ints = A .ints;
           accs = omega (arith, A .accs);
-          parent = λ j l. stored-parent u (homeOf t m) (homePortOf t m) (Acc m) size j ∙ A .parent j l;
-          parent-port = λ j l. stored-parent-port u (homeOf t m) (homePortOf t m) (Acc m) size j ∙ A .parent-port j l;
-          granularity = λ j l. stored-granularity u (homeOf t m) (homePortOf t m) (Acc m) size j ∙ A .granularity j l;
+          parent = λ j l. stored-parent u home home-port (Acc m) size j ∙ A .parent j l;
+          parent-port = λ j l. stored-parent-port u home home-port (Acc m) size j ∙ A .parent-port j l;
+          granularity = λ j l. stored-granularity u home home-port (Acc m) size j ∙ A .granularity j l;
           port = acc-port;
-          acc = λ a l. elim (ℕ-discrete a m) [
-            | yes q ↦ subst (λ i. acceleratorOf (withAcc u (accEntry t m .values)) i ≡ acceleratorOf t i) (sym q) (acc-new u (accEntry t m .values) P acc-limits known once acc-free)
-            | no d ↦ acc-old u (accEntry t m .values) P acc-limits known once acc-free a d ∙ A .acc a (omega arith)
-          ];
+          acc = each-number (λ a. a < m + 1 → acceleratorOf accTree a ≡ acceleratorOf t a) m (λ l. acc-new u v P limits known once acc-free)
+              (λ a d l. acc-old u v P limits known once acc-free a d ∙ A .acc a (omega arith));
         }
 
   -- what is unused in a configuration that keeps its rules
@@ -365,9 +408,12 @@ module _ (t : Tree) (e : treeKeeps t ≡ true) where
       }
 
   -- two interconnects with the same fields and ports are equal
-  same-interconnect : (c d : Interconnect) → c .parent ≡ d .parent → c .port ≡ d .port → c .granularity ≡ d .granularity → length (c .ports) ≡ 8 → length (d .ports) ≡ 8 → ((p : ℕ) → p < 8 → getD (c .ports) p emptyCell .port ≡ getD (d .ports) p emptyCell .port) → c ≡ d
+  same-interconnect : (c d : Interconnect) → c .parent ≡ d .parent → c .port ≡ d .port → c .granularity ≡ d .granularity
+      → length (c .ports) ≡ 8 → length (d .ports) ≡ 8
+      → ((p : ℕ) → p < 8 → getD (c .ports) p emptyCell .port ≡ getD (d .ports) p emptyCell .port) → c ≡ d
   same-interconnect c d a b g l m f =
-      let q : c .ports ≡ d .ports = ext-getD emptyCell (c .ports) (d .ports) (l ∙ sym m) (λ p h. ap (λ (x : Port). record { port = x }) (f p (omega arith))) in
+      let cell : Port → PortCell = λ x. record { port = x } in
+      let q : c .ports ≡ d .ports = ext-getD emptyCell (c .ports) (d .ports) (l ∙ sym m) (λ p h. ap cell (f p (omega arith))) in
       λ i. record { parent = a i; port = b i; granularity = g i; ports = q i }
 
   whole-port : (j p : ℕ) → j < t .ints → p < 8 → restrict (t .ints) (t .accs) (portOf t j p) ≡ portOf t j p
@@ -380,11 +426,13 @@ module _ (t : Tree) (e : treeKeeps t ≡ true) where
 
   same-ints : (u : Tree) → Agrees t u (t .ints) (t .accs) → (j : ℕ) → j < 15 → interconnectOf u j ≡ interconnectOf t j
   same-ints u A j b = elim (decLt j (t .ints)) [
-    | yes l ↦ same-interconnect _ _ (A .parent j l) (A .parent-port j l) (A .granularity j l) (A .part .ports-size j) (S .ports-size j) (λ p h. A .port j p l h ∙ whole-port j p l h)
+    | yes l ↦ same-interconnect _ _ (A .parent j l) (A .parent-port j l) (A .granularity j l) (A .part .ports-size j) (S .ports-size j)
+        (λ p h. A .port j p l h ∙ whole-port j p l h)
     | no d ↦
         let o = A .part .unused-int j (omega (arith, A .ints)) in
         let f = unused-fields j (omega arith) b in
-        o ∙ same-interconnect noInterconnect (interconnectOf t j) (sym (f .1)) (sym (f .2)) (sym (f .0)) refl (S .ports-size j) (λ p h. ap (λ (c : PortCell). c .port) (getD-replicate 8 p emptyCell emptyCell h) ∙ sym (unused-port j p (omega arith) b h))
+        o ∙ same-interconnect noInterconnect (interconnectOf t j) (sym (f .1)) (sym (f .2)) (sym (f .0)) refl (S .ports-size j)
+        (λ p h. ap (λ (c : PortCell). c .port) (getD-replicate 8 p emptyCell emptyCell h) ∙ sym (unused-port j p (omega arith) b h))
   ]
 
   same-accs : (u : Tree) → Agrees t u (t .ints) (t .accs) → (a : ℕ) → a < 32 → acceleratorOf u a ≡ acceleratorOf t a
@@ -396,6 +444,8 @@ module _ (t : Tree) (e : treeKeeps t ≡ true) where
   pub agrees-all : (u : Tree) → Agrees t u (t .ints) (t .accs) → u ≡ t
   agrees-all u A =
       let P = A .part in
-      let x : u .interconnects ≡ t .interconnects = ext-getD noInterconnect (u .interconnects) (t .interconnects) (P .ints-size ∙ sym (S .ints-size)) (λ j h. same-ints u A j (omega (arith, P .ints-size))) in
-      let y : u .accelerators ≡ t .accelerators = ext-getD noAccelerator (u .accelerators) (t .accelerators) (P .accs-size ∙ sym (S .accs-size)) (λ a h. same-accs u A a (omega (arith, P .accs-size))) in
+      let x = ext-getD noInterconnect (u .interconnects) (t .interconnects) (P .ints-size ∙ sym (S .ints-size))
+      (λ j h. same-ints u A j (omega (arith, P .ints-size))) in
+      let y = ext-getD noAccelerator (u .accelerators) (t .accelerators) (P .accs-size ∙ sym (S .accs-size))
+      (λ a h. same-accs u A a (omega (arith, P .accs-size))) in
       λ i. record { bus = A .bus i; interconnects = x i; accelerators = y i; ints = A .ints i; accs = A .accs i }

@@ -66,8 +66,11 @@ root-plain g h (suc (suc (suc (suc i)))) l = absurd (omega arith)
 
 pub root-read : (t : Tree) → granularityOf t 0 < 10000000000 → lineOf (intText t 0) ≡ rootEntry t
 unfolding pushed
-root-read t h = line-read IntLine (λ i. getD (formOf IntLine .dashes) i false) (Number 0 ∷ Dash ∷ Dash ∷ Number (granularityOf t 0) ∷ []) (root-plain (granularityOf t 0) h)
+root-read t h =
+    let g = granularityOf t 0 in
+    line-read IntLine (λ i. getD (formOf IntLine .dashes) i false) (Number 0 ∷ Dash ∷ Dash ∷ Number g ∷ []) (root-plain g h)
 
-pub child-read : (t : Tree) (j : ℕ) → (j ≡ 0 → ⊥) → Below (j ∷ parentOf t j ∷ parentPortOf t j ∷ granularityOf t j ∷ []) → lineOf (intText t j) ≡ childEntry t j
+pub child-read : (t : Tree) (j : ℕ) → (j ≡ 0 → ⊥) → Below (j ∷ parentOf t j ∷ parentPortOf t j ∷ granularityOf t j ∷ [])
+    → lineOf (intText t j) ≡ childEntry t j
 unfolding pushed
 child-read t j d B = ap lineOf (passed _ _ _ (ne-eqb j 0 d)) ∙ numbers-read IntLine B

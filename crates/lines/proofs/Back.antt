@@ -22,7 +22,8 @@ use Rattle.text.proofs.Back.{fields-exactly, same-back, number-exactly, dash-ex
 use Rattle.lines.specs.declared.Kind.{Kind}
 use Rattle.lines.specs.declared.Kind.the-variants.{NoRecord, BusLine, IntLine, AccLine, OfferLine}
 use Rattle.lines.specs.declared.Line.{Line}
-use Rattle.lines.specs.Lines.{nameOf, kindOf, named, push, pushed, lineWith, lineFrom, lineOf, valueAt, dashAt, formOf, dashKept, dashesKept, noDashes, isRecord, shaped}
+use Rattle.lines.specs.Lines.{nameOf, kindOf, named, push, pushed, lineWith, lineFrom, lineOf, valueAt, dashAt}
+use Rattle.lines.specs.Lines.{formOf, dashKept, dashesKept, noDashes, isRecord, shaped}
 use Rattle.lines.specs.LineText.{mayStand, WritesLine}
 use Rattle.lines.proofs.Fields.{form-count, push-count}
 use Rattle.lines.proofs.Written.{name-read, Plain, plain-first, line-read}
@@ -353,5 +354,6 @@ rows-numbers (suc n) k l h =
 pub numbers-written : (s : List ℕ) (k : Kind) → lineOf s .kind ≡ k → formOf k .dashes ≡ noDashes → shaped (lineOf s) ≡ true
     → s ≡ lineText (nameOf k) (rows (formOf k .count) 0 (λ i. decimalText (valueAt (lineOf s) i)))
 numbers-written s k q z e =
+    let none : (i : ℕ) → getD (formOf k .dashes) i false ≡ false = λ i. ap (λ (d : List Bool). getD d i false) z ∙ never-dash 10 i in
     line-written s k q e
-    ∙ ap (lineText (nameOf k)) (rows-numbers (formOf k .count) 0 (lineOf s) (λ i m. no-dash-at (lineOf s) k q e i (omega arith) (ap (λ (d : List Bool). getD d i false) z ∙ never-dash 10 i)))
+    ∙ ap (lineText (nameOf k)) (rows-numbers (formOf k .count) 0 (lineOf s) (λ i m. no-dash-at (lineOf s) k q e i (omega arith) (none i)))

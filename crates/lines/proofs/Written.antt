@@ -1,13 +1,14 @@
 -- A line as it is written is read as its record and its fields. By the laws of written names, numbers and fields.
-use Prim.Native.Nat.{ℕ, zero, suc, _<_}
+use Prim.Native.Nat.{ℕ, zero, suc, _+_, _≤_, _<_}
 use mathlib.Core.Bool.{Bool, true, false}
 use mathlib.Core.List.{List, [], _∷_, map}
 use mathlib.Core.Path.{_≡_, refl, sym, _∙_, ap, ap₂, subst}
 use native.Mathlib.Omega.{arith}
-use lib.Dec.{lit<}
+use lib.Dec.{ltb, lit<}
 use lib.ListN.{length, getD}
 use borrow.Author.Tests.{lt-ltb, ltb-true}
-use Rattle.folds.proofs.Folds.{clash}
+use Rattle.folds.specs.Fold.{all}
+use Rattle.folds.proofs.Folds.{all-at, clash}
 use Rattle.text.specs.declared.Field.{Field}
 use Rattle.text.specs.declared.Field.the-variants.{Malformed, Dash, Number}
 use Rattle.text.specs.Text.{same, fieldOf}
@@ -16,8 +17,9 @@ use Rattle.text.proofs.Written.{Clean, clean-none, clean-more, AllClean, all-no
 use Rattle.text.proofs.Back.{dash-exactly}
 use Rattle.lines.specs.declared.Kind.{Kind}
 use Rattle.lines.specs.declared.Kind.the-variants.{NoRecord, BusLine, IntLine, AccLine, OfferLine}
-use Rattle.lines.specs.Lines.{nameOf, kindOf, lineWith, lineFrom, lineOf}
+use Rattle.lines.specs.Lines.{formOf, nameOf, kindOf, lineWith, lineFrom, lineOf, limitsKept}
 use Rattle.lines.specs.LineText.{mayStand}
+use Rattle.lines.proofs.Limits.{most}
 
 pub name-read : (k : Kind) → kindOf (nameOf k) ≡ k
 unfolding kindOf same
@@ -75,6 +77,31 @@ line-read k d fs P =
 pub data Below : List ℕ → Type 0 where
   below-none : Below []
   below-more : {x : ℕ} {xs : List ℕ} → x < 10000000000 → Below xs → Below (x ∷ xs)
+
+-- no limit of a field has more than ten digits, so neither have the fields of a line that keeps its limits
+high-below : (k : Kind) (i : ℕ) → i < formOf k .count → getD (formOf k .highs) i 0 < 10000000000
+unfolding all
+high-below k i h = ltb-true _ _ (all-at (formOf k .count) (λ j. ltb (getD (formOf k .highs) j 0) 10000000000) (highs k) i h)
+  where
+    highs : (k : Kind) → all (formOf k .count) (λ j. ltb (getD (formOf k .highs) j 0) 10000000000) ≡ true
+    highs NoRecord = refl
+    highs BusLine = refl
+    highs IntLine = refl
+    highs AccLine = refl
+    highs OfferLine = refl
+
+-- the n numbers of v from number i on
+unfoldable pub fieldsFrom : ℕ → ℕ → List ℕ → List ℕ
+fieldsFrom zero i v = []
+fieldsFrom (suc n) i v = getD v i 0 ∷ fieldsFrom n (suc i) v
+
+pub limits-below : (k : Kind) (v : List ℕ) → limitsKept k v ≡ true → Below (fieldsFrom (formOf k .count) 0 v)
+unfolding fieldsFrom
+limits-below k v e = go (formOf k .count) 0 (omega arith)
+  where
+    go : (n i : ℕ) → i + n ≤ formOf k .count → Below (fieldsFrom n i v)
+    go zero i h = below-none
+    go (suc n) i h = below-more {x = getD v i 0} (omega (arith, most k v e i (omega arith), high-below k i (omega arith))) (go n (suc i) (omega arith))
 
 below-plain : {xs : List ℕ} → Below xs → Plain (λ i. false) (map Number xs)
 below-plain below-none i h = absurd (omega arith)

@@ -41,9 +41,10 @@ pub report-end : {d e : List ℕ} {first : ℕ} (t : Tree) (a : ℕ) (b : Bool) 
 unfolding reportText
 report-end t a b k h l m p q r =
     let f = le-antisymm h l in
+    let v = m ∙ ap (λ (n : ℕ). all n (λ i. analysisOf t i .meets)) f in
     put-most (omega (arith, sound t k .most-accs))
     (put-as
-    (ap₂ (λ (n : ℕ) (v : Bool). headLine ++ joined n (λ i. rowText i (analysisOf t i)) ++ allLine v) f (m ∙ ap (λ (n : ℕ). all n (λ i. analysisOf t i .meets)) f)
+    (ap₂ (λ (n : ℕ) (w : Bool). headLine ++ joined n (λ i. rowText i (analysisOf t i)) ++ allLine w) f v
     ∙ sym (picked (treeKeeps t) _ _ k))
     (put-then (put-then p q) r))
 

@@ -2,7 +2,7 @@
 -- and a line its fields, written again: so lines, fields and numbers are said by writing them, both ways. By induction on what is
 -- read.
 use Prim.Native.Nat.{ℕ, zero, suc, _+_, _-_, _*_, _^_, _/_, _%_, _≤_, _<_}
-use mathlib.Core.Bool.{Bool, true, false, _&&_, not, cond}
+use mathlib.Core.Bool.{Bool, true, false, _&&_, not}
 use mathlib.Core.List.{List, [], _∷_, _++_, append-assoc}
 use mathlib.Core.Logic.{_↔_}
 use mathlib.Core.Path.{_≡_, refl, sym, _∙_, ap, ap₂, subst}
@@ -12,14 +12,16 @@ use native.Mathlib.Omega.{arith}
 use lib.Dec.{eqb, ltb, leb, lit<}
 use lib.ListN.{length, getD, length-append}
 use borrow.Author.Tests.{eq-eqb, ne-eqb, leb-true, eqb-true, ltb-false}
-use Rattle.folds.proofs.Folds.{both, clash}
+use Rattle.folds.specs.Fold.{pick}
+use Rattle.folds.proofs.Folds.{both, clash, picked, passed}
 use Rattle.text.specs.declared.Field.{Field}
 use Rattle.text.specs.declared.Field.the-variants.{Malformed, Dash, Number}
 use Rattle.text.specs.Text.{parts, behind, butLast, final, lines, unended, fields, same, isDigit, allDigits, decimal, leadingZero, fieldOf}
 use Rattle.text.specs.Write.{decimalText, dash, fieldsText, lineText, fileText}
-use Rattle.text.proofs.Parts.{taken, left, first-part}
+use Rattle.text.proofs.Parts.{first-part}
 use Rattle.text.proofs.Decimal.{decimal-one, decimal-more}
-use Rattle.text.proofs.Written.{Clean, clean-none, clean-more, AllClean, all-none, all-more, append-nil, fields-read, lines-read-on, decimal-last, number-read}
+use Rattle.text.proofs.Written.{Clean, clean-none, clean-more, AllClean, all-none, all-more}
+use Rattle.text.proofs.Written.{append-nil, fields-read, lines-read-on, decimal-last, number-read}
 
 -- parts, each after a separator; rejoin: the first without one
 after : ℕ → List (List ℕ) → List ℕ
@@ -44,9 +46,13 @@ parts-back : (sep : ℕ) (s : List ℕ) → rejoin sep (parts sep s) ≡ s
 unfolding parts rejoin after
 parts-back sep [] = refl
 parts-back sep (b ∷ s) = elim (ℕ-discrete b sep) [
-  | yes e ↦ ap (rejoin sep) (taken _ _ _ (eq-eqb b sep e)) ∙ rejoin-after sep (parts sep s) (first-part sep s) ∙ ap₂ (λ (x : ℕ) (y : List ℕ). x ∷ y) (sym e) (parts-back sep s)
-  | no d ↦ ap (rejoin sep) (left _ _ _ (ne-eqb b sep d)) ∙ rejoin-behind sep b (parts sep s) ∙ ap (λ (y : List ℕ). b ∷ y) (parts-back sep s)
+  | yes e ↦ ap (rejoin sep) (picked _ _ _ (eq-eqb b sep e)) ∙ rejoin-after sep (parts sep s) (first-part sep s) ∙ ap₂ _∷_ (sym e) (parts-back sep s)
+  | no d ↦ ap (rejoin sep) (passed _ _ _ (ne-eqb b sep d)) ∙ rejoin-behind sep b (parts sep s) ∙ ap (λ (y : List ℕ). b ∷ y) (parts-back sep s)
 ]
+
+pub nothing : (u : List ℕ) → length u ≡ 0 → u ≡ []
+nothing [] z = refl
+nothing (b ∷ u) z = absurd (omega arith)
 
 -- a line is its fields
 after-fields : (fs : List (List ℕ)) → after 9 fs ≡ fieldsText fs
@@ -63,8 +69,8 @@ parts-apart : (sep : ℕ) (s : List ℕ) → AllClean sep (parts sep s)
 unfolding parts
 parts-apart sep [] = all-more clean-none all-none
 parts-apart sep (b ∷ s) = elim (ℕ-discrete b sep) [
-  | yes e ↦ subst (AllClean sep) (sym (taken _ _ _ (eq-eqb b sep e))) (all-more clean-none (parts-apart sep s))
-  | no d ↦ subst (AllClean sep) (sym (left _ _ _ (ne-eqb b sep d))) (go d (parts sep s) (parts-apart sep s))
+  | yes e ↦ subst (AllClean sep) (sym (picked _ _ _ (eq-eqb b sep e))) (all-more clean-none (parts-apart sep s))
+  | no d ↦ subst (AllClean sep) (sym (passed _ _ _ (ne-eqb b sep d))) (go d (parts sep s) (parts-apart sep s))
 ]
   where
     go : (b ≡ sep → ⊥) → (ps : List (List ℕ)) → AllClean sep ps → AllClean sep (behind b ps)
@@ -105,8 +111,10 @@ last-apart (p ∷ (q ∷ ps)) (all-more C A) = let i = last-apart (q ∷ ps) A i
 pub lines-exactly : (s : List ℕ) (ls : List (List ℕ)) (e : List ℕ)
     → ((lines s ≡ ls) × (unended s ≡ e)) ↔ ((s ≡ fileText ls ++ e) × AllClean 10 ls × Clean 10 e)
 lines-exactly s ls e = (
-  λ h. let c = last-apart (parts 10 s) (parts-apart 10 s) in
-      (text-back s ∙ ap₂ (λ (xs : List (List ℕ)) (x : List ℕ). fileText xs ++ x) (h .0) (h .1), subst (AllClean 10) (h .0) (c .0), subst (Clean 10) (h .1) (c .1)),
+  λ h.
+      let c = last-apart (parts 10 s) (parts-apart 10 s) in
+      let t = ap₂ (λ (xs : List (List ℕ)) (x : List ℕ). fileText xs ++ x) (h .0) (h .1) in
+      (text-back s ∙ t, subst (AllClean 10) (h .0) (c .0), subst (Clean 10) (h .1) (c .1)),
   λ h. let r = lines-read-on (h .1) (h .2) in (ap lines (h .0) ∙ r .0, ap unended (h .0) ∙ r .1),
 )
 
@@ -201,7 +209,7 @@ unfolding fieldOf
 says s = go (same s dash) (ltb (length s) 1) (ltb 10 (length s)) (leadingZero s) (allDigits s) refl refl refl refl refl
   where
     go : (a b c d e : Bool) → same s dash ≡ a → ltb (length s) 1 ≡ b → ltb 10 (length s) ≡ c → leadingZero s ≡ d → allDigits s ≡ e
-        → Says s (cond a Dash (cond b Malformed (cond c Malformed (cond d Malformed (cond e (Number (decimal s)) Malformed)))))
+        → Says s (pick a Dash (pick b Malformed (pick c Malformed (pick d Malformed (pick e (Number (decimal s)) Malformed)))))
     go true b c d e f g h i j = says-dash (same-back s dash f)
     go false true c d e f g h i j = says-none
     go false false true d e f g h i j = says-none

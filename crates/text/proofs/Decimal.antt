@@ -1,7 +1,7 @@
 -- The decimal text of a number: one digit below 10, else the text of n / 10 and the last digit. By induction on the count
 -- of digits allowed, which n + 1 always covers since n / 10 is below n.
 use Prim.Native.Nat.{ℕ, zero, suc, _+_, _/_, _%_, _^_, _≤_, _<_}
-use mathlib.Core.List.{List, [], _∷_, _++_}
+use mathlib.Core.List.{[], _∷_, _++_}
 use mathlib.Core.Path.{_≡_}
 use native.Mathlib.Decide.{decLt}
 use native.Mathlib.Nat.{pow-suc, div-lt-iff-lt-mul}

@@ -11,15 +11,16 @@ use lib.Dec.{eqb, lit<}
 use lib.ListN.{length, getD, drop, length-drop, drop-of-length-le}
 use lib.Seq.{drop-cons}
 use borrow.Author.Tests.{eq-eqb, ne-eqb, lt-ltb, le-ltb, le-leb, lt-leb}
+use Rattle.folds.proofs.Folds.{picked, passed}
 use Rattle.text.specs.declared.Field.the-variants.{Malformed, Dash}
 use Rattle.text.specs.Text.{same, allDigits, decimal, leadingZero, digitsOf, fieldOf}
-use Rattle.text.proofs.Parts.{taken, left}
 
 pub same-end : (a b : List ℕ) (i : ℕ) → length a ≤ i → length b ≤ i → same (drop i a) (drop i b) ≡ true
 unfolding same
 same-end a b i h k = rw (drop-of-length-le a h, drop-of-length-le b k)
 
-pub same-next : (a b : List ℕ) (i : ℕ) → i < length a → i < length b → getD a i 0 ≡ getD b i 0 → same (drop i a) (drop i b) ≡ same (drop (i + 1) a) (drop (i + 1) b)
+pub same-next : (a b : List ℕ) (i : ℕ) → i < length a → i < length b → getD a i 0 ≡ getD b i 0
+    → same (drop i a) (drop i b) ≡ same (drop (i + 1) a) (drop (i + 1) b)
 unfolding same
 same-next a b i h k e = rw (add-one, drop-cons a i 0 h, drop-cons b i 0 k, eq-eqb _ _ e) refl
 
@@ -58,7 +59,8 @@ place-up : (v d n r : ℕ) → v * (n * 10) + (d * n + r) ≡ (v * 10 + d) * n +
 place-up v d n r = omega (arith, add-mul (v * 10) d n, mul-assoc v 10 n, ap (λ k. v * k) (mul-comm n 10))
 
 -- one more digit moves what was read one place up
-pub decimal-next : (s : List ℕ) (i v : ℕ) → i < length s → v * 10 ^ (length s - i) + decimal (drop i s) ≡ (v * 10 + (getD s i 0 - 48)) * 10 ^ (length s - (i + 1)) + decimal (drop (i + 1) s)
+pub decimal-next : (s : List ℕ) (i v : ℕ) → i < length s
+    → v * 10 ^ (length s - i) + decimal (drop i s) ≡ (v * 10 + (getD s i 0 - 48)) * 10 ^ (length s - (i + 1)) + decimal (drop (i + 1) s)
 unfolding decimal
 decimal-next s i v h =
     let m : length s - i ≡ suc (length s - suc i) = omega arith in
@@ -76,20 +78,20 @@ ten-fits i v h k = omega (arith, pow-le-pow-right {n = 10} (lit< tt) h)
 module _ (s : List ℕ) where
   pub field-dash : same s (45 ∷ []) ≡ true → fieldOf s ≡ Dash
   unfolding fieldOf
-  field-dash e = taken _ _ _ e
+  field-dash e = picked _ _ _ e
 
   pub field-short : same s (45 ∷ []) ≡ false → length s < 1 → fieldOf s ≡ Malformed
   unfolding fieldOf
-  field-short e l = left _ _ _ e ∙ taken _ _ _ (lt-ltb _ _ l)
+  field-short e l = passed _ _ _ e ∙ picked _ _ _ (lt-ltb _ _ l)
 
   pub field-long : same s (45 ∷ []) ≡ false → 1 ≤ length s → 10 < length s → fieldOf s ≡ Malformed
   unfolding fieldOf
-  field-long e l m = left _ _ _ e ∙ left _ _ _ (le-ltb _ _ l) ∙ taken _ _ _ (lt-ltb _ _ m)
+  field-long e l m = passed _ _ _ e ∙ passed _ _ _ (le-ltb _ _ l) ∙ picked _ _ _ (lt-ltb _ _ m)
 
   pub field-zero : same s (45 ∷ []) ≡ false → 1 ≤ length s → length s ≤ 10 → leadingZero s ≡ true → fieldOf s ≡ Malformed
   unfolding fieldOf
-  field-zero e l m z = left _ _ _ e ∙ left _ _ _ (le-ltb _ _ l) ∙ left _ _ _ (le-ltb _ _ m) ∙ taken _ _ _ z
+  field-zero e l m z = passed _ _ _ e ∙ passed _ _ _ (le-ltb _ _ l) ∙ passed _ _ _ (le-ltb _ _ m) ∙ picked _ _ _ z
 
   pub field-digits : same s (45 ∷ []) ≡ false → 1 ≤ length s → length s ≤ 10 → leadingZero s ≡ false → fieldOf s ≡ digitsOf s
   unfolding fieldOf
-  field-digits e l m z = left _ _ _ e ∙ left _ _ _ (le-ltb _ _ l) ∙ left _ _ _ (le-ltb _ _ m) ∙ left _ _ _ z
+  field-digits e l m z = passed _ _ _ e ∙ passed _ _ _ (le-ltb _ _ l) ∙ passed _ _ _ (le-ltb _ _ m) ∙ passed _ _ _ z

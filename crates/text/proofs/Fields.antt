@@ -9,8 +9,8 @@ use native.Mathlib.Omega.{arith}
 use lib.ListN.{length, getD, take, drop, length-drop, drop-of-length-le}
 use lib.Seq.{drop-cons, drop-drop}
 use borrow.Author.Tests.{eq-eqb, ne-eqb}
+use Rattle.folds.proofs.Folds.{picked, passed}
 use Rattle.text.specs.Text.{parts, partLength, fieldLength, behind, fields, lineAt}
-use Rattle.text.proofs.Parts.{taken, left}
 
 pub field-none : (s : List ℕ) (e : ℕ) → length s ≤ e → fieldLength (drop e s) ≡ 0
 unfolding fieldLength
@@ -18,16 +18,16 @@ field-none s e h = rw (drop-of-length-le s h)
 
 pub field-tab : (s : List ℕ) (e : ℕ) → e < length s → getD s e 0 ≡ 9 → fieldLength (drop e s) ≡ 0
 unfolding fieldLength
-field-tab s e h d = rw (drop-cons s e 0 h) (taken _ _ _ (eq-eqb _ _ d))
+field-tab s e h d = rw (drop-cons s e 0 h) (picked _ _ _ (eq-eqb _ _ d))
 
 module _ (s : List ℕ) (e : ℕ) (h : e < length s) (d : getD s e 0 ≡ 9 → ⊥) where
   pub field-lf : getD s e 0 ≡ 10 → fieldLength (drop e s) ≡ 0
   unfolding fieldLength
-  field-lf f = rw (drop-cons s e 0 h) (left _ _ _ (ne-eqb _ _ d) ∙ taken _ _ _ (eq-eqb _ _ f))
+  field-lf f = rw (drop-cons s e 0 h) (passed _ _ _ (ne-eqb _ _ d) ∙ picked _ _ _ (eq-eqb _ _ f))
 
   pub field-more : (getD s e 0 ≡ 10 → ⊥) → fieldLength (drop e s) ≡ suc (fieldLength (drop (e + 1) s))
   unfolding fieldLength
-  field-more f = rw (add-one, drop-cons s e 0 h) (left _ _ _ (ne-eqb _ _ d) ∙ left _ _ _ (ne-eqb _ _ f))
+  field-more f = rw (add-one, drop-cons s e 0 h) (passed _ _ _ (ne-eqb _ _ d) ∙ passed _ _ _ (ne-eqb _ _ f))
 
 -- the bytes before the first LF
 abbrev firstLine : List ℕ → List ℕ
@@ -36,33 +36,33 @@ firstLine s = take (partLength 10 s) s
 module _ (b : ℕ) (s : List ℕ) where
   len-tab : b ≡ 9 → fieldLength (b ∷ s) ≡ 0
   unfolding fieldLength
-  len-tab e = taken _ _ _ (eq-eqb b 9 e)
+  len-tab e = picked _ _ _ (eq-eqb b 9 e)
 
   len-lf : (b ≡ 9 → ⊥) → b ≡ 10 → fieldLength (b ∷ s) ≡ 0
   unfolding fieldLength
-  len-lf d e = left _ _ _ (ne-eqb b 9 d) ∙ taken _ _ _ (eq-eqb b 10 e)
+  len-lf d e = passed _ _ _ (ne-eqb b 9 d) ∙ picked _ _ _ (eq-eqb b 10 e)
 
   len-more : (b ≡ 9 → ⊥) → (b ≡ 10 → ⊥) → fieldLength (b ∷ s) ≡ suc (fieldLength s)
   unfolding fieldLength
-  len-more d f = left _ _ _ (ne-eqb b 9 d) ∙ left _ _ _ (ne-eqb b 10 f)
+  len-more d f = passed _ _ _ (ne-eqb b 9 d) ∙ passed _ _ _ (ne-eqb b 10 f)
 
   part-lf : b ≡ 10 → partLength 10 (b ∷ s) ≡ 0
   unfolding partLength
-  part-lf e = taken _ _ _ (eq-eqb b 10 e)
+  part-lf e = picked _ _ _ (eq-eqb b 10 e)
 
   part-on : (b ≡ 10 → ⊥) → partLength 10 (b ∷ s) ≡ suc (partLength 10 s)
   unfolding partLength
-  part-on f = left _ _ _ (ne-eqb b 10 f)
+  part-on f = passed _ _ _ (ne-eqb b 10 f)
 
   parts-tab : b ≡ 9 → parts 9 (b ∷ s) ≡ [] ∷ parts 9 s
   unfolding parts
-  parts-tab e = taken _ _ _ (eq-eqb b 9 e)
+  parts-tab e = picked _ _ _ (eq-eqb b 9 e)
 
   parts-on : (b ≡ 9 → ⊥) → parts 9 (b ∷ s) ≡ behind b (parts 9 s)
   unfolding parts
-  parts-on d = left _ _ _ (ne-eqb b 9 d)
+  parts-on d = passed _ _ _ (ne-eqb b 9 d)
 
--- where neither ends the field, no LF is left
+-- where neither ends the field, no LF is passed
 list-end : (s : List ℕ) → length s ≤ fieldLength s → partLength 10 s ≡ length s
 unfolding partLength
 list-end [] h = refl
@@ -74,8 +74,9 @@ list-end (b ∷ s) h = elim (ℕ-discrete b 9) [
   ]
 ]
 
--- a field that a tab ends, and what is left of the line
-list-tab : (s : List ℕ) (k : ℕ) → fieldLength s ≡ k → k < length s → getD s k 0 ≡ 9 → (parts 9 (firstLine s) ≡ take k s ∷ parts 9 (firstLine (drop (suc k) s))) × (partLength 10 s ≡ suc k + partLength 10 (drop (suc k) s))
+-- a field that a tab ends, and what is passed of the line
+list-tab : (s : List ℕ) (k : ℕ) → fieldLength s ≡ k → k < length s → getD s k 0 ≡ 9
+    → (parts 9 (firstLine s) ≡ take k s ∷ parts 9 (firstLine (drop (suc k) s))) × (partLength 10 s ≡ suc k + partLength 10 (drop (suc k) s))
 list-tab [] k q h g = absurd (omega arith)
 list-tab (b ∷ s) zero q h g =
     let p = part-on b s (λ f. omega arith) in
@@ -92,7 +93,8 @@ list-tab (b ∷ s) (suc k) q h g = elim (ℕ-discrete b 9) [
 ]
 
 -- a field that the LF ends
-list-lf : (s : List ℕ) (k : ℕ) → fieldLength s ≡ k → k < length s → (getD s k 0 ≡ 9 → ⊥) → (parts 9 (firstLine s) ≡ take k s ∷ []) × (partLength 10 s ≡ k) × (getD s k 0 ≡ 10)
+list-lf : (s : List ℕ) (k : ℕ) → fieldLength s ≡ k → k < length s → (getD s k 0 ≡ 9 → ⊥)
+    → (parts 9 (firstLine s) ≡ take k s ∷ []) × (partLength 10 s ≡ k) × (getD s k 0 ≡ 10)
 unfolding parts
 list-lf [] k q h g = absurd (omega arith)
 list-lf (b ∷ s) zero q h g = elim (ℕ-discrete b 10) [
@@ -140,7 +142,9 @@ module _ (s : List ℕ) (at e : ℕ) (q : e ≡ at + fieldLength (drop at s)) wh
     fits = let l = length-drop at s in omega (arith, l)
 
     -- a tab: the line goes on
-    pub field-then : getD s e 0 ≡ 9 → (fields (lineAt s at) ≡ take (e - at) (drop at s) ∷ fields (lineAt s (e + 1))) × (at + partLength 10 (drop at s) ≡ (e + 1) + partLength 10 (drop (e + 1) s))
+    pub field-then : getD s e 0 ≡ 9
+        → (fields (lineAt s at) ≡ take (e - at) (drop at s) ∷ fields (lineAt s (e + 1)))
+        × (at + partLength 10 (drop at s) ≡ (e + 1) + partLength 10 (drop (e + 1) s))
     field-then g =
         let r = list-tab (drop at s) _ refl fits (byte ∙ g) in
         (r .0 ∙ ap₂ (λ p t. p ∷ parts 9 (firstLine t)) same-field same-rest, omega (arith, r .1, ap (partLength 10) same-rest))

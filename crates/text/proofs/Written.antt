@@ -10,11 +10,11 @@ use native.Mathlib.Omega.{arith}
 use lib.Dec.{leb, lit<}
 use lib.ListN.{length, getD, length-append}
 use borrow.Author.Tests.{eq-eqb, ne-eqb, le-leb, leb-true}
-use Rattle.folds.proofs.Folds.{both}
+use Rattle.folds.proofs.Folds.{both, picked, passed}
 use Rattle.text.specs.declared.Field.the-variants.{Number}
 use Rattle.text.specs.Text.{parts, behind, butLast, final, lines, unended, fields, same, isDigit, allDigits, decimal, leadingZero, fieldOf}
 use Rattle.text.specs.Write.{decimalText, fieldsText, lineText, fileText}
-use Rattle.text.proofs.Parts.{taken, left, parts-some, final-some}
+use Rattle.text.proofs.Parts.{parts-some, final-some}
 use Rattle.text.proofs.Digits.{field-digits}
 use Rattle.text.proofs.Decimal.{decimal-one, decimal-more, decimal-some, decimal-short, by-tens}
 
@@ -30,12 +30,12 @@ clean-append (clean-more d S) R = clean-more d (clean-append S R)
 pub parts-clean : (sep : ℕ) {p : List ℕ} → Clean sep p → parts sep p ≡ p ∷ []
 unfolding parts
 parts-clean sep clean-none = refl
-parts-clean sep (clean-more {b = b} {s = s} d C) = left _ _ _ (ne-eqb b sep d) ∙ ap (behind b) (parts-clean sep C)
+parts-clean sep (clean-more {b = b} {s = s} d C) = passed _ _ _ (ne-eqb b sep d) ∙ ap (behind b) (parts-clean sep C)
 
 pub parts-part : (sep : ℕ) {p : List ℕ} (r : List ℕ) → Clean sep p → parts sep (p ++ (sep ∷ r)) ≡ p ∷ parts sep r
 unfolding parts
-parts-part sep r clean-none = taken _ _ _ (eq-eqb sep sep refl)
-parts-part sep r (clean-more {b = b} {s = s} d C) = left _ _ _ (ne-eqb b sep d) ∙ ap (behind b) (parts-part sep r C)
+parts-part sep r clean-none = picked _ _ _ (eq-eqb sep sep refl)
+parts-part sep r (clean-more {b = b} {s = s} d C) = passed _ _ _ (ne-eqb b sep d) ∙ ap (behind b) (parts-part sep r C)
 
 pub append-nil : (s : List ℕ) → s ++ [] ≡ s
 append-nil [] = refl
@@ -136,7 +136,7 @@ pub number-read : (n : ℕ) → n < 10000000000 → fieldOf (decimalText n) ≡ 
 number-read n h =
     let W = decimal-digits n in
     field-digits (decimalText n) (not-dash (decimalText n) (W .every)) (decimal-some n) (decimal-short 9 n h) (no-lead n)
-    ∙ taken _ _ _ (W .every) ∙ ap Number (W .value)
+    ∙ picked _ _ _ (W .every) ∙ ap Number (W .value)
 
 pub number-length : (n : ℕ) → n < 10000000000 → length (decimalText n) ≤ 10
 number-length n h = decimal-short 9 n h

@@ -18,10 +18,11 @@
 -- fieldOf s           what a field says: "-", or a number ("Numbers are decimal, 1 to 10 digits, no sign, no leading zero
 --                     except 0 itself"), or it is malformed
 use Prim.Native.Nat.{ℕ, suc, _+_, _-_, _*_, _^_}
-use mathlib.Core.Bool.{Bool, true, false, _&&_, not, cond}
+use mathlib.Core.Bool.{Bool, true, false, _&&_, not}
 use mathlib.Core.List.{List, [], _∷_}
 use lib.ListN.{length, getD, take, drop}
 use lib.Dec.{leb, ltb, eqb}
+use Rattle.folds.specs.Fold.{pick}
 use Rattle.text.specs.declared.Field.{Field}
 use Rattle.text.specs.declared.Field.the-variants.{Malformed, Dash, Number}
 
@@ -32,15 +33,15 @@ behind b (p ∷ ps) = (b ∷ p) ∷ ps
 
 unfoldable pub parts : ℕ → List ℕ → List (List ℕ)
 parts sep [] = [] ∷ []
-parts sep (b ∷ s) = cond (eqb b sep) ([] ∷ parts sep s) (behind b (parts sep s))
+parts sep (b ∷ s) = pick (eqb b sep) ([] ∷ parts sep s) (behind b (parts sep s))
 
 unfoldable pub partLength : ℕ → List ℕ → ℕ
 partLength sep [] = 0
-partLength sep (b ∷ s) = cond (eqb b sep) 0 (suc (partLength sep s))
+partLength sep (b ∷ s) = pick (eqb b sep) 0 (suc (partLength sep s))
 
 unfoldable pub fieldLength : List ℕ → ℕ
 fieldLength [] = 0
-fieldLength (b ∷ s) = cond (eqb b 9) 0 (cond (eqb b 10) 0 (suc (fieldLength s)))
+fieldLength (b ∷ s) = pick (eqb b 9) 0 (pick (eqb b 10) 0 (suc (fieldLength s)))
 
 unfoldable pub butLast : List (List ℕ) → List (List ℕ)
 butLast [] = []
@@ -85,13 +86,13 @@ abbrev pub leadingZero : List ℕ → Bool
 leadingZero s = eqb (getD s 0 0) 48 && not (eqb (length s) 1)
 
 abbrev pub digitsOf : List ℕ → Field
-digitsOf s = cond (allDigits s) (Number (decimal s)) Malformed
+digitsOf s = pick (allDigits s) (Number (decimal s)) Malformed
 
 -- "-" is byte 45
 unfoldable pub fieldOf : List ℕ → Field
 fieldOf s =
-    cond (same s (45 ∷ [])) Dash
-    (cond (ltb (length s) 1) Malformed
-    (cond (ltb 10 (length s)) Malformed
-    (cond (leadingZero s) Malformed
+    pick (same s (45 ∷ [])) Dash
+    (pick (ltb (length s) 1) Malformed
+    (pick (ltb 10 (length s)) Malformed
+    (pick (leadingZero s) Malformed
     (digitsOf s))))

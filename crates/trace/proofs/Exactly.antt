@@ -12,7 +12,7 @@ use borrow.Author.Tests.{leb-true, ltb-true, lt-ltb, eqb-true, le-leb, eq-eqb}
 use Rattle.text.specs.Text.{lines, unended}
 use Rattle.text.specs.Write.{numbers, rows, fileText}
 use Rattle.text.proofs.Written.{Clean, clean-append, fields-clean, AllClean, all-none, all-more, lines-read}
-use Rattle.text.proofs.Back.{file-back}
+use Rattle.text.proofs.Back.{file-back, nothing}
 use Rattle.model.specs.declared.Tree.{Tree}
 use Rattle.model.specs.declared.Refusal.{Refusal}
 use Rattle.model.specs.declared.Refusal.the-variants.{Shape}
@@ -29,7 +29,8 @@ use Rattle.lines.proofs.Back.{numbers-written, no-dash-at, value-small, never-d
 use Rattle.trace.specs.declared.Request.{Request}
 use Rattle.trace.specs.declared.OfferRead.{OfferRead}
 use Rattle.trace.specs.declared.OfferRead.the-variants.{Offer}
-use Rattle.trace.specs.TraceFile.{requestOf, totalOf, added, offerLine, afterOffer, readOffers, noTotals, readTrace, requests, rising, inRange, allInRange, totalFor}
+use Rattle.trace.specs.TraceFile.{requestOf, totalOf, added, offerLine, afterOffer, readOffers, noTotals, readTrace, requests}
+use Rattle.trace.specs.TraceFile.{rising, inRange, allInRange, totalFor}
 use Rattle.trace.specs.TraceText.{requestText, TraceKeeps, WritesTrace}
 use Rattle.trace.specs.TraceRefused.{tenDigits}
 use Rattle.trace.specs.OfferText.{offerOf}
@@ -82,7 +83,9 @@ module _ (accs : ℕ) (m : accs ≤ 32) (r : Request) (e : inRange accs r ≡ tr
   pub range-digits : tenDigits r ≡ true
   range-digits =
       let h = range-facts accs r e in
-      joined _ _ (joined _ _ (lt-ltb (r .slot) 10000000000 (omega (arith, h .0))) (lt-ltb (r .accelerator) 10000000000 (omega (arith, h .1)))) (lt-ltb (r .count) 10000000000 (omega (arith, h .3)))
+      joined _ _
+      (joined _ _ (lt-ltb (r .slot) 10000000000 (omega (arith, h .0))) (lt-ltb (r .accelerator) 10000000000 (omega (arith, h .1))))
+      (lt-ltb (r .count) 10000000000 (omega (arith, h .3)))
 
   range-limits : limitsKept OfferLine (offerOf (r .slot) (r .accelerator) (r .count) .values) ≡ true
   unfolding all
@@ -96,12 +99,9 @@ module _ (accs : ℕ) (m : accs ≤ 32) (r : Request) (e : inRange accs r ≡ tr
   pub request-read : (last : ℕ) (totals : List ℕ) → last ≤ r .slot → totalOf totals (r .accelerator) + r .count ≤ 65535
       → offerLine accs last totals (lineOf (requestText r)) ≡ Offer r
   request-read last totals h k =
+      let l = offerOf (r .slot) (r .accelerator) (r .count) in
       ap (offerLine accs last totals) (request-line r range-digits)
-      ∙ offer-good accs last totals (offerOf (r .slot) (r .accelerator) (r .count)) (offer-shaped (r .slot) (r .accelerator) (r .count)) range-limits (range-facts accs r e .1) h k
-
-pub nothing : (u : List ℕ) → length u ≡ 0 → u ≡ []
-nothing [] z = refl
-nothing (b ∷ u) z = absurd (omega arith)
+      ∙ offer-good accs last totals l (offer-shaped (r .slot) (r .accelerator) (r .count)) range-limits (range-facts accs r e .1) h k
 
 -- an accepted trace is written by its requests
 lines-written : (ls : List (List ℕ)) (n accs last : ℕ) (totals u : List ℕ) → readOffers n accs last totals ls u ≡ Accepted
@@ -115,13 +115,15 @@ lines-written [] n accs last totals u e = (go (eqb (length u) 0) refl e, refl)
 lines-written (l ∷ ls) n accs last totals u e =
     let o = taken-offer n (offerLine accs last totals (lineOf l)) _ e in
     let i = lines-written ls (n + 1) accs (o .0 .slot) (added totals (o .0)) u (o .2) in
-    (i .0, ap₂ (λ (x : List ℕ) (xs : List (List ℕ)). x ∷ xs) (request-written l (offer-says accs last totals (lineOf l) (o .0) (o .1) .offer)) (i .1))
+    (i .0, ap₂ _∷_ (request-written l (offer-says accs last totals (lineOf l) (o .0) (o .1) .offer)) (i .1))
 
 -- a request's count and the total before it
 pub own-fits : (totals : List ℕ) (r : Request) (rs : List Request) → getD totals (r .accelerator) 0 + totalFor (r .accelerator) (r ∷ rs) ≤ 65535
     → totalOf totals (r .accelerator) + r .count ≤ 65535
 unfolding totalFor
-own-fits totals r rs h = omega (arith, h, picked {A = ℕ} (eqb (r .accelerator) (r .accelerator)) (r .count) 0 (eq-eqb (r .accelerator) (r .accelerator) refl))
+own-fits totals r rs h =
+    let a = r .accelerator in
+    omega (arith, h, picked {A = ℕ} (eqb a a) (r .count) 0 (eq-eqb a a refl))
 
 -- the requests are read from their text
 requests-read : (rs : List Request) (n accs last : ℕ) (totals : List ℕ) → accs ≤ 32 → length totals ≡ 32 → rising last rs ≡ true
@@ -133,10 +135,11 @@ requests-read (r ∷ rs) n accs last totals m z o g t =
     let b = both (leb last (r .slot)) (rising (r .slot) rs) o in
     let c = both (inRange accs r) (allInRange accs rs) g in
     let h : r .accelerator < length totals = omega (arith, range-facts accs r (c .0) .1) in
-    let i = requests-read rs (n + 1) accs (r .slot) (added totals r) m (length-set totals (r .accelerator) _ ∙ z) (b .1) (c .1) (λ a. omega (arith, added-total totals r a h, t a)) in
+    let u : (a : ℕ) → getD (added totals r) a 0 + totalFor a rs ≤ 65535 = λ a. omega (arith, added-total totals r a h, t a) in
+    let i = requests-read rs (n + 1) accs (r .slot) (added totals r) m (length-set totals (r .accelerator) _ ∙ z) (b .1) (c .1) u in
     let k = request-read accs m r (c .0) last totals (leb-true _ _ (b .0)) (own-fits totals r rs (t (r .accelerator))) in (
       ap (λ (y : OfferRead). afterOffer n y (λ q. readOffers (n + 1) accs (q .slot) (added totals q) (map requestText rs) [])) k ∙ i .0,
-      ap₂ (λ (y : Request) (ys : List Request). y ∷ ys) (ap (λ (l : Line). requestOf (l .values)) (request-line r (range-digits accs m r (c .0)))) (i .1),
+      ap₂ _∷_ (ap (λ (l : Line). requestOf (l .values)) (request-line r (range-digits accs m r (c .0)))) (i .1),
       all-more (request-clean r) (i .2),
     )
 

@@ -141,12 +141,14 @@ module _ (s : List ℕ) (at : ℕ) where
   ]
 
   -- where no number is followed by a tab, the line has no LF, or its next field is its last or no number
-  pub no-number-then : numberAt s at 9 ≡ NoNumber → endAt s at < length s → (f g : List ℕ) (fs : List (List ℕ)) (x : ℕ) → fields (lineAt s at) ≡ f ∷ (g ∷ fs) → fieldOf f ≡ Number x → ⊥
+  pub no-number-then : numberAt s at 9 ≡ NoNumber → endAt s at < length s → (f g : List ℕ) (fs : List (List ℕ)) (x : ℕ)
+      → fields (lineAt s at) ≡ f ∷ (g ∷ fs) → fieldOf f ≡ Number x → ⊥
   no-number-then r w f g fs x p n = elim (decLt e (length s)) [
     | no h ↦ omega (arith, field-unended s at e refl (omega arith))
     | yes h ↦ elim (ℕ-discrete (getD s e 0) 9) [
       | no d ↦ one-two (sym (field-last s at e refl h d .0) ∙ p)
-      | yes t ↦ not-number (fieldOf field) (e + 1) x (sym (number-here s at 9 e refl h t) ∙ r) (ap fieldOf (heads (sym (field-then s at e refl h t .0) ∙ p)) ∙ n)
+      | yes t ↦ not-number (fieldOf field) (e + 1) x (sym (number-here s at 9 e refl h t) ∙ r)
+          (ap fieldOf (heads (sym (field-then s at e refl h t .0) ∙ p)) ∙ n)
     ]
   ]
 
@@ -237,7 +239,8 @@ pub record OfferFields (name : List ℕ) (fs : List (List ℕ)) : Type 0 where
 abbrev pub isOfferLine : Line → Bool
 isOfferLine l = inTrace (l .kind) && shaped l
 
-three-parts : (name : List ℕ) (fs : List (List ℕ)) → length fs ≡ 3 → shaped (lineWith OfferLine (map fieldOf fs)) ≡ true → same name (111 ∷ []) ≡ true → OfferFields name fs
+three-parts : (name : List ℕ) (fs : List (List ℕ)) → length fs ≡ 3 → shaped (lineWith OfferLine (map fieldOf fs)) ≡ true
+    → same name (111 ∷ []) ≡ true → OfferFields name fs
 unfolding pushed
 three-parts name [] l e n = absurd (omega arith)
 three-parts name (f ∷ []) l e n = absurd (omega arith)
@@ -246,7 +249,16 @@ three-parts name (f ∷ (g ∷ (h ∷ (i ∷ fs)))) l e n = absurd (omega arith)
 three-parts name (f ∷ (g ∷ (h ∷ []))) l e n =
     let t = both (isNumber (fieldOf f) && isNumber (fieldOf g)) _ (sym (three-fields (fieldOf f) (fieldOf g) (fieldOf h)) ∙ e) in
     let u = both (isNumber (fieldOf f)) _ (t .0) in
-    record { named = n; first = f; second = g; third = h; parts = refl; slot = number-is _ (u .0); accelerator = number-is _ (u .1); count = number-is _ (t .1) }
+    record {
+      named = n;
+      first = f;
+      second = g;
+      third = h;
+      parts = refl;
+      slot = number-is _ (u .0);
+      accelerator = number-is _ (u .1);
+      count = number-is _ (t .1);
+    }
 
 mapped : {A B : Type 0} (f : A → B) (xs : List A) → length (map f xs) ≡ length xs
 mapped f [] = refl
@@ -263,7 +275,8 @@ offer-fields name fs e =
     (subst (λ (x : Kind). shaped (lineWith x (map fieldOf fs)) ≡ true) n (b .1)) (name-says name n)
 
 -- three numbers after the name are an o line
-pub offer-line : (f g h : List ℕ) (x y z : ℕ) → fieldOf f ≡ Number x → fieldOf g ≡ Number y → fieldOf h ≡ Number z → lineWith OfferLine (map fieldOf (f ∷ (g ∷ (h ∷ [])))) ≡ offerOf x y z
+pub offer-line : (f g h : List ℕ) (x y z : ℕ) → fieldOf f ≡ Number x → fieldOf g ≡ Number y → fieldOf h ≡ Number z
+    → lineWith OfferLine (map fieldOf (f ∷ (g ∷ (h ∷ [])))) ≡ offerOf x y z
 unfolding pushed
 offer-line f g h x y z p q r =
     ap (λ (k : Field). push (push (push (named OfferLine) k) (fieldOf g)) (fieldOf h)) p
@@ -288,7 +301,8 @@ module _ (s : List ℕ) (at : ℕ) where
   unfolding lineOf
   line-parts name fs p = ap lineFrom p
 
-  pub parts-none : (name : List ℕ) (fs : List (List ℕ)) → fields (lineAt s at) ≡ name ∷ fs → (endAt s at < length s → OfferFields name fs → ⊥) → offerText s at ≡ Unshaped
+  pub parts-none : (name : List ℕ) (fs : List (List ℕ)) → fields (lineAt s at) ≡ name ∷ fs → (endAt s at < length s → OfferFields name fs → ⊥)
+      → offerText s at ≡ Unshaped
   parts-none name fs p d = text-none (λ h e. d h (offer-fields name fs (sym (ap isOfferLine (line-parts name fs p)) ∙ e)))
 
 false-true : {b : Bool} → b ≡ false → b ≡ true → ⊥
@@ -318,7 +332,8 @@ module _ (s : List ℕ) (at e : ℕ) (q : e ≡ at + fieldLength (drop at s)) wh
 
       module _ (n : same name (111 ∷ []) ≡ true) where
         pub offer-no-slot : numberAt s (e + 1) 9 ≡ NoNumber → offerText s at ≡ Unshaped
-        offer-no-slot r = parts-none s at name _ rest (λ w o. no-number-then s (e + 1) r (omega (arith, ends)) (o .first) (o .second) _ _ (o .parts) (o .slot .1))
+        offer-no-slot r =
+            parts-none s at name _ rest (λ w o. no-number-then s (e + 1) r (omega (arith, ends)) (o .first) (o .second) _ _ (o .parts) (o .slot .1))
 
         module _ (x b : ℕ) (r1 : numberAt s (e + 1) 9 ≡ NumberTo x b) where
           abbrev T1 : Then s (e + 1) x b

@@ -11,6 +11,7 @@ use lib.Dec.{leb, ltb, eqb}
 use lib.ListN.{length, getD, length-set}
 use borrow.Author.Tests.{leb-true, ltb-true, le-leb, lt-leb, lt-ltb, le-ltb, eq-eqb, ne-eqb}
 use Rattle.text.specs.Text.{lines, unended}
+use Rattle.text.proofs.Back.{nothing}
 use Rattle.model.specs.declared.Tree.{Tree}
 use Rattle.model.specs.declared.Refusal.{Refusal}
 use Rattle.model.specs.declared.Refusal.the-variants.{Shape, Limit, Falling, Unknown}
@@ -26,14 +27,16 @@ use Rattle.lines.specs.Lines.{lineOf, limitsKept}
 use Rattle.trace.specs.declared.Request.{Request}
 use Rattle.trace.specs.declared.OfferRead.{OfferRead}
 use Rattle.trace.specs.declared.OfferRead.the-variants.{NoOffer, Offer}
-use Rattle.trace.specs.TraceFile.{requestOf, totalOf, added, offerLine, afterOffer, readOffers, noTotals, readTrace, rising, inRange, allInRange, totalFor}
+use Rattle.trace.specs.TraceFile.{requestOf, totalOf, added, offerLine, afterOffer, readOffers, noTotals, readTrace}
+use Rattle.trace.specs.TraceFile.{rising, inRange, allInRange, totalFor}
 use Rattle.trace.specs.TraceText.{requestText}
-use Rattle.trace.specs.TraceRefused.{lastSlot, tenDigits, offerRules, OfferBreaks, not-ended, not-shaped, breaks, TraceBreaks, TraceRefused, too-long, at-line}
+use Rattle.trace.specs.TraceRefused.{lastSlot, tenDigits, offerRules, OfferBreaks, not-ended, not-shaped, breaks}
+use Rattle.trace.specs.TraceRefused.{TraceBreaks, TraceRefused, too-long, at-line}
 use Rattle.trace.specs.OfferText.{offerOf}
 use Rattle.trace.proofs.Offers.{isOfferLine, offer-shaped}
 use Rattle.trace.proofs.Traces.{Good, offer-shape, offer-says, trace-size, trace-start}
 use Rattle.trace.proofs.Requests.{good-range, added-total, added-fits}
-use Rattle.trace.proofs.Exactly.{request-written, request-digits, request-line, request-read, range-facts, own-fits, none, nothing}
+use Rattle.trace.proofs.Exactly.{request-written, request-digits, request-line, request-read, range-facts, own-fits, none}
 
 abbrev sums : List ℕ → ℕ → ℕ
 sums totals a = getD totals a 0
@@ -69,11 +72,16 @@ limits-same r e =
     go true w = refl
     go false w = refl
 
+-- the answer to a request, by which of its rules are kept
+abbrev answered : ℕ → Bool → Bool → Bool → Bool → FileAnswer
+answered n limits known order total =
+    pick limits (pick known (pick order (pick total Accepted (Refused Limit n)) (Refused Falling n)) (Refused Unknown n)) (Refused Limit n)
+
 -- the tests of a request are the rules in their order
 module _ (n : ℕ) where
   answers : (b c d e : Bool) (r : Request)
       → afterOffer n (pick (not b) (NoOffer Limit) (pick c (NoOffer Unknown) (pick d (NoOffer Falling) (pick e (NoOffer Limit) (Offer r))))) (λ q. Accepted)
-      ≡ pick b (pick (not c) (pick (not d) (pick (not e) Accepted (Refused Limit n)) (Refused Falling n)) (Refused Unknown n)) (Refused Limit n)
+      ≡ answered n b (not c) (not d) (not e)
   answers false c d e r = refl
   answers true true d e r = refl
   answers true false true e r = refl
@@ -81,12 +89,12 @@ module _ (n : ℕ) where
   answers true false false false r = refl
 
   rules-same : (accs last : ℕ) (totals : List ℕ) (r : Request) (b : Bool) → b ≡ leb (r .slot) 4294967294 && within 1 (r .count) 16
-      → pick b (pick (not (leb accs (r .accelerator))) (pick (not (ltb (r .slot) last)) (pick (not (ltb 65535 (totalOf totals (r .accelerator) + r .count))) Accepted (Refused Limit n)) (Refused Falling n)) (Refused Unknown n)) (Refused Limit n)
+      → answered n b (not (leb accs (r .accelerator))) (not (ltb (r .slot) last)) (not (ltb 65535 (totalOf totals (r .accelerator) + r .count)))
       ≡ broken n (offerRules accs last (sums totals) r)
   unfolding broken
   rules-same accs last totals r b e =
       rw (not-leb accs (r .accelerator), not-ltb (r .slot) last, not-ltb 65535 (totalOf totals (r .accelerator) + r .count))
-      (ap (λ (x : Bool). pick x (pick (ltb (r .accelerator) accs) (pick (leb last (r .slot)) (pick (leb (totalOf totals (r .accelerator) + r .count) 65535) Accepted (Refused Limit n)) (Refused Falling n)) (Refused Unknown n)) (Refused Limit n)) e)
+      (ap (λ (x : Bool). answered n x (ltb (r .accelerator) accs) (leb last (r .slot)) (leb (totalOf totals (r .accelerator) + r .count) 65535)) e)
 
   offer-rules : (accs last : ℕ) (totals : List ℕ) (l : List ℕ) (q : Request) → tenDigits q ≡ true → l ≡ requestText q
       → afterOffer n (offerLine accs last totals (lineOf l)) (λ r. Accepted) ≡ broken n (offerRules accs last (sums totals) q)
@@ -116,7 +124,8 @@ unfolding addedAll totalFor allInRange
 all-added [] accs totals m z g a = omega arith
 all-added (r ∷ rs) accs totals m z g a =
     let c = both (inRange accs r) (allInRange accs rs) g in
-    omega (arith, all-added rs accs (added totals r) m (length-set totals (r .accelerator) _ ∙ z) (c .1) a, added-total totals r a (omega (arith, range-facts accs r (c .0) .1)))
+    let h : r .accelerator < length totals = omega (arith, range-facts accs r (c .0) .1) in
+    omega (arith, all-added rs accs (added totals r) m (length-set totals (r .accelerator) _ ∙ z) (c .1) a, added-total totals r a h)
 
 -- the first line that breaks a rule, of the lines from line n on
 record Found (n accs last : ℕ) (totals : List ℕ) (ls : List (List ℕ)) (u : List ℕ) (x : Refusal) (m : ℕ) : Type 0 where
@@ -135,10 +144,12 @@ plus n = omega arith
 here : (n accs last : ℕ) (totals : List ℕ) (ls : List (List ℕ)) (u : List ℕ) (x : Refusal) → OfferBreaks accs last (sums totals) n ls u x
     → Found n accs last totals ls u x n
 unfolding rising allInRange totalFor lastSlot addedAll
-here n accs last totals ls u x e = record { before = []; after = ls; split = refl; order = refl; range = refl; total = λ a h. omega arith; line = sym (plus n); first = e }
+here n accs last totals ls u x e =
+    record { before = []; after = ls; split = refl; order = refl; range = refl; total = λ a h. omega arith; line = sym (plus n); first = e }
 
 on : (n accs last : ℕ) (totals : List ℕ) (l : List ℕ) (ls : List (List ℕ)) (u : List ℕ) (x : Refusal) (i : ℕ) (r : Request) → accs ≤ 32
-    → length totals ≡ 32 → Good accs last totals (lineOf l) r → Found (n + 1) accs (r .slot) (added totals r) ls u x i → Found n accs last totals (l ∷ ls) u x i
+    → length totals ≡ 32 → Good accs last totals (lineOf l) r → Found (n + 1) accs (r .slot) (added totals r) ls u x i
+    → Found n accs last totals (l ∷ ls) u x i
 unfolding rising allInRange totalFor lastSlot addedAll
 on n accs last totals l ls u x i r m z G F =
     let h : r .accelerator < length totals = omega (arith, G .known) in
@@ -146,7 +157,7 @@ on n accs last totals l ls u x i r m z G F =
     record {
       before = r ∷ F .before;
       after = F .after;
-      split = ap₂ (λ (y : List ℕ) (ys : List (List ℕ)). y ∷ ys) (request-written l (G .offer) ∙ ap requestText (G .same)) (F .split);
+      split = ap₂ _∷_ (request-written l (G .offer) ∙ ap requestText (G .same)) (F .split);
       order = joined _ _ (le-leb _ _ (G .rising)) (F .order);
       range = joined _ _ (good-range accs last totals (lineOf l) r G) (F .range);
       total = λ a b. omega (arith, F .total a (added-fits totals r a h (G .total) b), added-total totals r a h);
@@ -173,7 +184,8 @@ found [] n accs last totals u x m b z e = go (eqb (length u) 0) refl e
     go true q e = clash cc
     go false q e = found-at e (here n accs last totals [] u Shape (not-ended (λ w. let y = sym q ∙ eq-eqb (length u) 0 (ap length w) in clash cc)))
 found (l ∷ ls) n accs last totals u x m b z e =
-    go (isOfferLine (lineOf l)) refl (offerLine accs last totals (lineOf l)) refl e (λ r. found ls (n + 1) accs (r .slot) (added totals r) u x m b (length-set totals (r .accelerator) _ ∙ z))
+    go (isOfferLine (lineOf l)) refl (offerLine accs last totals (lineOf l)) refl e
+    (λ r. found ls (n + 1) accs (r .slot) (added totals r) u x m b (length-set totals (r .accelerator) _ ∙ z))
   where
     go : (c : Bool) → isOfferLine (lineOf l) ≡ c → (o : OfferRead) → offerLine accs last totals (lineOf l) ≡ o
         → afterOffer n o (goesOn n accs totals ls u) ≡ Refused x m
@@ -201,8 +213,9 @@ led (r ∷ rs) n accs last totals ls u m z o g t =
     let h : r .accelerator < length totals = omega (arith, range-facts accs r (c .0) .1) in
     let q = request-read accs m r (c .0) last totals (leb-true _ _ (b .0)) (own-fits totals r rs (t (r .accelerator))) in
     let k : n + 1 + length rs ≡ n + suc (length rs) = omega arith in
+    let v : (a : ℕ) → getD (added totals r) a 0 + totalFor a rs ≤ 65535 = λ a. omega (arith, added-total totals r a h, t a) in
     ap (λ (y : OfferRead). afterOffer n y (λ p. readOffers (n + 1) accs (p .slot) (added totals p) (map requestText rs ++ ls) u)) q
-    ∙ led rs (n + 1) accs (r .slot) (added totals r) ls u m (length-set totals (r .accelerator) _ ∙ z) (b .1) (c .1) (λ a. omega (arith, added-total totals r a h, t a))
+    ∙ led rs (n + 1) accs (r .slot) (added totals r) ls u m (length-set totals (r .accelerator) _ ∙ z) (b .1) (c .1) v
     ∙ ap (λ (i : ℕ). readOffers i accs (lastSlot (r .slot) rs) (addedAll (added totals r) rs) ls u) k
 
 next-refused : (n accs last : ℕ) (totals : List ℕ) (ls : List (List ℕ)) (u : List ℕ) (x : Refusal) → OfferBreaks accs last (sums totals) n ls u x
@@ -239,13 +252,15 @@ module _ (t : Tree) (s : List ℕ) (k : treeKeeps t ≡ true) where
         split = F .split;
         keeps = record { range = F .range; order = F .order; total = λ a. omega (arith, F .total a (omega (arith, none 32 a)), none 32 a) };
         line = F .line;
-        breaks = subst (λ (f : ℕ → ℕ). OfferBreaks (t .accs) (lastSlot 0 (F .before)) f n (F .after) (unended s) r) (sym (summed (F .before) (F .range))) (F .first);
+        breaks = subst (λ (f : ℕ → ℕ). OfferBreaks (t .accs) (lastSlot 0 (F .before)) f n (F .after) (unended s) r)
+            (sym (summed (F .before) (F .range))) (F .first);
       }
 
   back : (r : Refusal) (n : ℕ) → length s ≤ 65536 → TraceBreaks (t .accs) s r n → readTrace t s ≡ Refused r n
   back r n h F =
       let G = F .keeps in
-      let b = subst (λ (f : ℕ → ℕ). OfferBreaks (t .accs) (lastSlot 0 (F .before)) f n (F .after) (unended s) r) (summed (F .before) (G .range)) (F .breaks) in
+      let b = subst (λ (f : ℕ → ℕ). OfferBreaks (t .accs) (lastSlot 0 (F .before)) f n (F .after) (unended s) r)
+      (summed (F .before) (G .range)) (F .breaks) in
       trace-start t s k h
       ∙ ap (λ (ls : List (List ℕ)). readOffers 1 (t .accs) 0 noTotals ls (unended s)) (F .split)
       ∙ led (F .before) 1 (t .accs) 0 noTotals (F .after) (unended s) m refl (G .order) (G .range) (λ a. omega (arith, G .total a, none 32 a))

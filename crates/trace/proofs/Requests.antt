@@ -28,9 +28,11 @@ use Rattle.trace.specs.declared.NextRequest.the-variants.{Done, Due}
 use Rattle.lines.specs.declared.FileAnswer.{FileAnswer}
 use Rattle.lines.specs.declared.FileAnswer.the-variants.{Accepted, Refused}
 use Rattle.lines.specs.Lines.{lineOf, valueAt}
-use Rattle.trace.specs.TraceFile.{totalOf, added, offerLine, afterOffer, readOffers, noTotals, readTrace, requests, rising, inRange, allInRange, totalFor, isOffer, requestAt}
+use Rattle.trace.specs.TraceFile.{totalOf, added, offerLine, afterOffer, readOffers, noTotals, readTrace}
+use Rattle.trace.specs.TraceFile.{requests, rising, inRange, allInRange, totalFor, isOffer, requestAt}
 use Rattle.lines.proofs.Limits.{most, least}
-use Rattle.trace.proofs.Traces.{Good, offer-says, traceFrom, trace-broken, trace-size, trace-start, trace-unended, trace-line, request-done, request-line}
+use Rattle.trace.proofs.Traces.{Good, offer-says, traceFrom, request-done, request-line}
+use Rattle.trace.proofs.Traces.{trace-broken, trace-size, trace-start, trace-unended, trace-line}
 
 pub not-accepted : {A : Type 0} (x : Refusal) (n : ℕ) → Refused x n ≡ Accepted → A
 not-accepted x n e = clash cc
@@ -47,19 +49,25 @@ good-range accs last totals l r G =
     let s = ap (λ (q : Request). q .slot) (G .same) in
     let c = ap (λ (q : Request). q .count) (G .same) in
     joined _ _ (joined _ _ (le-leb (r .slot) 4294967294 (omega (arith, most OfferLine v (G .limits) 0 (lit< tt)))) (lt-ltb _ _ (G .known)))
-    (joined _ _ (le-leb 1 (r .count) (omega (arith, least OfferLine v (G .limits) 2 (lit< tt)))) (le-leb (r .count) 16 (omega (arith, most OfferLine v (G .limits) 2 (lit< tt)))))
+    (joined _ _ (le-leb 1 (r .count) (omega (arith, least OfferLine v (G .limits) 2 (lit< tt))))
+    (le-leb (r .count) 16 (omega (arith, most OfferLine v (G .limits) 2 (lit< tt)))))
 
 -- the totals after a request
-pub added-total : (totals : List ℕ) (r : Request) (a : ℕ) → r .accelerator < length totals → getD (added totals r) a 0 ≡ getD totals a 0 + pick (eqb a (r .accelerator)) (r .count) 0
+pub added-total : (totals : List ℕ) (r : Request) (a : ℕ) → r .accelerator < length totals
+    → getD (added totals r) a 0 ≡ getD totals a 0 + pick (eqb a (r .accelerator)) (r .count) 0
 added-total totals r a h = elim (ℕ-discrete a (r .accelerator)) [
-  | yes e ↦ subst (λ (k : ℕ). getD (added totals r) k 0 ≡ getD totals k 0 + pick (eqb k (r .accelerator)) (r .count) 0) (sym e)
-      (getD-set-same totals (r .accelerator) _ 0 h ∙ ap (λ (k : ℕ). getD totals (r .accelerator) 0 + k) (sym (picked _ _ _ (eq-eqb (r .accelerator) (r .accelerator) refl))))
+  | yes e ↦
+      let b = r .accelerator in
+      subst (λ (k : ℕ). getD (added totals r) k 0 ≡ getD totals k 0 + pick (eqb k b) (r .count) 0) (sym e)
+      (getD-set-same totals b _ 0 h ∙ ap (λ (k : ℕ). getD totals b 0 + k) (sym (picked _ _ _ (eq-eqb b b refl))))
   | no d ↦ getD-set-other totals (r .accelerator) a _ 0 d ∙ omega (arith, passed (eqb a (r .accelerator)) (r .count) 0 (ne-eqb _ _ d))
 ]
 
-pub added-fits : (totals : List ℕ) (r : Request) (a : ℕ) → r .accelerator < length totals → totalOf totals (r .accelerator) + r .count ≤ 65535 → getD totals a 0 ≤ 65535 → getD (added totals r) a 0 ≤ 65535
+pub added-fits : (totals : List ℕ) (r : Request) (a : ℕ) → r .accelerator < length totals → totalOf totals (r .accelerator) + r .count ≤ 65535
+    → getD totals a 0 ≤ 65535 → getD (added totals r) a 0 ≤ 65535
 added-fits totals r a h k m = elim (ℕ-discrete a (r .accelerator)) [
-  | yes e ↦ subst (λ (i : ℕ). getD (added totals r) i 0 ≤ 65535) (sym e) (omega (arith, getD-set-same totals (r .accelerator) (totalOf totals (r .accelerator) + r .count) 0 h))
+  | yes e ↦ subst (λ (i : ℕ). getD (added totals r) i 0 ≤ 65535) (sym e)
+      (omega (arith, getD-set-same totals (r .accelerator) (totalOf totals (r .accelerator) + r .count) 0 h))
   | no d ↦ omega (arith, getD-set-other totals (r .accelerator) a (totalOf totals (r .accelerator) + r .count) 0 d)
 ]
 
@@ -68,7 +76,8 @@ pub record Sound-requests (accs last : ℕ) (totals : List ℕ) (rs : List Reque
   pub range : allInRange accs rs ≡ true
   pub total : (a : ℕ) → getD totals a 0 ≤ 65535 → getD totals a 0 + totalFor a rs ≤ 65535
 
-sound-lines : (ls : List (List ℕ)) (n accs last : ℕ) (totals u : List ℕ) → length totals ≡ 32 → accs ≤ 32 → readOffers n accs last totals ls u ≡ Accepted → Sound-requests accs last totals (requests ls)
+sound-lines : (ls : List (List ℕ)) (n accs last : ℕ) (totals u : List ℕ) → length totals ≡ 32 → accs ≤ 32
+    → readOffers n accs last totals ls u ≡ Accepted → Sound-requests accs last totals (requests ls)
 unfolding readOffers requests rising allInRange totalFor
 sound-lines [] n accs last totals u z m e = record { order = refl; range = refl; total = λ a h. omega arith }
 sound-lines (l ∷ ls) n accs last totals u z m e =
@@ -133,7 +142,8 @@ pub record Step (n accs last : ℕ) (totals s : List ℕ) (at : ℕ) : Type 0 wh
   pub known : request .accelerator < accs
   pub left : traceFrom (n + 1) accs (request .slot) (added totals request) s place ≡ Accepted
 
-pub walk-step : (n accs last : ℕ) (totals s : List ℕ) (at : ℕ) → accs ≤ 32 → at < length s → traceFrom n accs last totals s at ≡ Accepted → Step n accs last totals s at
+pub walk-step : (n accs last : ℕ) (totals s : List ℕ) (at : ℕ) → accs ≤ 32 → at < length s → traceFrom n accs last totals s at ≡ Accepted
+    → Step n accs last totals s at
 unfolding requests
 walk-step n accs last totals s at m h e = go (ℕ-discrete end (length s))
   where
@@ -146,7 +156,8 @@ walk-step n accs last totals s at m h e = go (ℕ-discrete end (length s))
     go : Dec (end ≡ length s) → Step n accs last totals s at
     go (yes q) = not-accepted Shape n (sym (trace-unended n accs last totals s at end h refl q) ∙ e)
     go (no q) =
-        let o = taken-offer n (offerLine accs last totals l) (λ r. traceFrom (n + 1) accs (r .slot) (added totals r) s (end + 1)) (sym (trace-line n accs last totals s at end h refl q _ refl) ∙ e) in
+        let o = taken-offer n (offerLine accs last totals l) (λ r. traceFrom (n + 1) accs (r .slot) (added totals r) s (end + 1))
+        (sym (trace-line n accs last totals s at end h refl q _ refl) ∙ e) in
         let G = offer-says accs last totals l (o .0) (o .1) in
         let f = part-fits 10 s at (omega arith) in
         let b : end < length s = omega arith in

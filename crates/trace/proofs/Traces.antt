@@ -153,7 +153,8 @@ module _ (n accs last : ℕ) (totals s : List ℕ) (at : ℕ) where
         ap₂ (readOffers n accs last totals) (r .0) (r .1) ∙ passed _ _ _ (ne-eqb _ _ (nonempty s at e (omega arith) (omega arith)))
 
     -- one line, and what is left after it
-    pub trace-line : (e ≡ length s → ⊥) → (x : OfferRead) → x ≡ offerLine accs last totals (lineOf (take (e - at) (drop at s))) → traceFrom n accs last totals s at ≡ afterOffer n x (λ r. traceFrom (n + 1) accs (r .slot) (added totals r) s (e + 1))
+    pub trace-line : (e ≡ length s → ⊥) → (x : OfferRead) → x ≡ offerLine accs last totals (lineOf (take (e - at) (drop at s)))
+        → traceFrom n accs last totals s at ≡ afterOffer n x (λ r. traceFrom (n + 1) accs (r .slot) (added totals r) s (e + 1))
     unfolding readOffers
     trace-line l x o =
         let f = part-fits 10 s at (omega arith) in
@@ -175,7 +176,8 @@ module _ (s : List ℕ) (at e : ℕ) (q : e ≡ at + partLength 10 (drop at s)) 
   request-line h = passed _ _ _ (lt-leb (length s) (at + partLength 10 (drop at s)) (omega arith)) ∙ ap₂ requestOn (ap lineOf (sym same-part)) (sym q)
 
 -- the answers by what the code has read of the line
-same-offers : (accs last : ℕ) (totals : List ℕ) (l : Line) → isOfferLine l ≡ true → offerLine accs last totals l ≡ offerLine accs last totals (offerOf (valueAt l 0) (valueAt l 1) (valueAt l 2))
+same-offers : (accs last : ℕ) (totals : List ℕ) (l : Line) → isOfferLine l ≡ true
+    → offerLine accs last totals l ≡ offerLine accs last totals (offerOf (valueAt l 0) (valueAt l 1) (valueAt l 2))
 unfolding offerLine all
 same-offers accs last totals l e = passed _ _ _ (no-not _ e) ∙ sym (passed _ _ _ (no-not _ (offer-shaped (valueAt l 0) (valueAt l 1) (valueAt l 2))))
 
@@ -195,10 +197,12 @@ module _ (s : List ℕ) (at : ℕ) where
       | yes q ↦ trace-unended n accs last totals s at (endAt s at) h refl q
       | no d ↦
           let w = part-fits 10 s at (omega arith) in
-          trace-line n accs last totals s at (endAt s at) h refl d (NoOffer Shape) (sym (ap (offerLine accs last totals) same-line ∙ offer-shape accs last totals line (text-not s at r (omega arith))))
+          let no = offer-shape accs last totals line (text-not s at r (omega arith)) in
+          trace-line n accs last totals s at (endAt s at) h refl d (NoOffer Shape) (sym (ap (offerLine accs last totals) same-line ∙ no))
     ]
 
-    trace-read : (x y z next : ℕ) → Read s at x y z next → (o : OfferRead) → o ≡ offerLine accs last totals (offerOf x y z) → traceFrom n accs last totals s at ≡ afterOffer n o (λ r. traceFrom (n + 1) accs (r .slot) (added totals r) s next)
+    trace-read : (x y z next : ℕ) → Read s at x y z next → (o : OfferRead) → o ≡ offerLine accs last totals (offerOf x y z)
+        → traceFrom n accs last totals s at ≡ afterOffer n o (λ r. traceFrom (n + 1) accs (r .slot) (added totals r) s next)
     trace-read x y z next R o q =
         trace-line n accs last totals s at (endAt s at) h refl (λ e. omega (arith, R .within)) o
         (q
@@ -222,7 +226,8 @@ module _ (s : List ℕ) (at : ℕ) where
         ∙ passed _ _ _ (ap (λ b. b && limitsKept OfferLine (line .values) && ltb (valueAt line 1) 32) (text-not s at r h))
   ]
 
-  request-read : (x y z next : ℕ) → Read s at x y z next → requestAt s at ≡ pick (limitsKept OfferLine (offerOf x y z .values) && ltb y 32) (Due (requestOf (offerOf x y z .values)) next) Done
+  request-read : (x y z next : ℕ) → Read s at x y z next
+      → requestAt s at ≡ pick (limitsKept OfferLine (offerOf x y z .values) && ltb y 32) (Due (requestOf (offerOf x y z .values)) next) Done
   request-read x y z next R =
       request-line s at (endAt s at) refl (R .within)
       ∙ ap (λ (l : Line). requestOn l (endAt s at)) same-line

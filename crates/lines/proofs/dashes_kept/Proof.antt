@@ -23,11 +23,20 @@ loop-holds c =
 
 loop-again : tie.Need-loop-again Inv-loop μ-loop
 loop-again c =
-    (c .before .before .loop .inv .0, omega arith, all-turn _ (dashKept (c .before .before .before .form-of .result) (c .before .before .before .before .args .t2)) _ _ (c .before .before .loop .inv .2) refl)
+    let at-form-of = c .before .before .before in
+    let at-args = at-form-of .before in (
+      c .before .before .loop .inv .0,
+      omega arith,
+      all-turn _ (dashKept (at-form-of .form-of .result) (at-args .args .t2)) _ _ (c .before .before .loop .inv .2) refl,
+    )
 
 returns : tie.Need-returns Inv-loop μ-loop
 returns c =
-    all-end _ _ (dashKept (c .before .before .form-of .result) (c .before .before .before .args .t2)) _ (c .before .loop .inv .2) (c .before .loop .inv .1) (c .loop-test .left) ∙ ap (λ (f : Form). all (f .count) (dashKept f (c .before .before .before .args .t2))) (c .before .before .form-of .ensures)
+    let at-args = c .before .before .before in
+    all-end _ _ (dashKept (c .before .before .form-of .result) (at-args .args .t2)) _ (c .before .loop .inv .2) (c .before .loop .inv .1) (c .loop-test .left)
+    ∙ ap (λ (f : Form). all (f .count) (dashKept f (at-args .args .t2))) (c .before .before .form-of .ensures)
 
 pub dashes-kept-spec : {M : Type 1} → statement M
-dashes-kept-spec = tie.close (tie.spec Inv-loop μ-loop (λ c κs. search needs) loop-holds (λ c. search needs) (λ c. search needs) (λ c. search needs) (λ c. search needs) loop-again returns)
+dashes-kept-spec =
+    tie.close (tie.spec Inv-loop μ-loop (λ c κs. search needs) loop-holds (λ c. search needs) (λ c. search needs) (λ c. search needs)
+    (λ c. search needs) loop-again returns)

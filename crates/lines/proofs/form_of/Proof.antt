@@ -21,4 +21,6 @@ returns-5 : tie.Need-returns-5
 returns-5 c = sym (ap formOf (c .enum-told5 .given .1))
 
 pub form-of-spec : {M : Type 1} → statement M
-form-of-spec = tie.close (tie.spec (λ c. search needs) (λ c. search needs) (λ c. search needs) (λ c. search needs) (λ c. search needs) returns returns-2 returns-3 returns-4 returns-5)
+form-of-spec =
+    tie.close (tie.spec (λ c. search needs) (λ c. search needs) (λ c. search needs) (λ c. search needs) (λ c. search needs) returns returns-2
+    returns-3 returns-4 returns-5)

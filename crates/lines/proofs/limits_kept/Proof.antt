@@ -23,11 +23,19 @@ loop-holds c =
 
 loop-again : tie.Need-loop-again Inv-loop μ-loop
 loop-again c =
-    (c .before .before .before .loop .inv .0, omega arith, all-turn _ (limitKept (c .before .before .before .before .form-of .result) (c .before .before .before .before .before .args .t2)) _ _ (c .before .before .before .loop .inv .2) refl)
+    let at-loop = c .before .before .before in
+    let at-form-of = at-loop .before in
+    let at-args = at-form-of .before in
+    (at-loop .loop .inv .0, omega arith, all-turn _ (limitKept (at-form-of .form-of .result) (at-args .args .t2)) _ _ (at-loop .loop .inv .2) refl)
 
 returns : tie.Need-returns Inv-loop μ-loop
 returns c =
-    all-end _ _ (limitKept (c .before .before .form-of .result) (c .before .before .before .args .t2)) _ (c .before .loop .inv .2) (c .before .loop .inv .1) (c .loop-test .left) ∙ ap (λ (f : Form). all (f .count) (limitKept f (c .before .before .before .args .t2))) (c .before .before .form-of .ensures)
+    let at-args = c .before .before .before in
+    all-end _ _ (limitKept (c .before .before .form-of .result) (at-args .args .t2)) _ (c .before .loop .inv .2) (c .before .loop .inv .1) (c .loop-test .left)
+    ∙ ap (λ (f : Form). all (f .count) (limitKept f (at-args .args .t2))) (c .before .before .form-of .ensures)
 
 pub limits-kept-spec : {M : Type 1} → statement M
-limits-kept-spec = tie.close (tie.spec Inv-loop μ-loop (λ c κs. search needs) loop-holds (λ c. search needs) (λ c. search needs) (λ c. search needs) (λ c. search needs) (λ c. search needs) (λ c. search needs) (λ c. search needs) (λ c. search needs) (λ c. search needs) (λ c. search needs) loop-again returns)
+limits-kept-spec =
+    tie.close (tie.spec Inv-loop μ-loop (λ c κs. search needs) loop-holds (λ c. search needs) (λ c. search needs) (λ c. search needs)
+    (λ c. search needs) (λ c. search needs) (λ c. search needs) (λ c. search needs) (λ c. search needs) (λ c. search needs) (λ c. search needs)
+    loop-again returns)

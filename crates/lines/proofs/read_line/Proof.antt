@@ -23,36 +23,51 @@ part-kind-of-end c =
 
 loop-holds : tie.Need-loop-holds Inv-loop μ-loop
 loop-holds c =
-    let q = part-fits 9 (c .before .before .before .before .before .args .s .now) 0 (omega arith) in
-    let b = c .before .before .before .part-end .ensures in (
-      omega (arith, c .before .before .before .part-end .ensures),
-      subst (λ (l : Line). l .count ≤ c .before .before .before .part-end .result) (sym (c .begun .ensures)) (search needs),
-      line-begun (c .before .before .before .before .before .args .s .now) _ (c .before .before .before .part-end .ensures) ∙ ap (λ (l : Line). pushed l (later (c .before .before .before .before .before .args .s .now) (c .before .before .before .part-end .result))) (sym (c .begun .ensures ∙ ap named (c .before .kind-of .ensures))),
+    let at-part-end = c .before .before .before in
+    let at-args = at-part-end .before .before in
+    let q = part-fits 9 (at-args .args .s .now) 0 (omega arith) in
+    let b = at-part-end .part-end .ensures in (
+      omega (arith, at-part-end .part-end .ensures),
+      subst (λ (l : Line). l .count ≤ at-part-end .part-end .result) (sym (c .begun .ensures)) (search needs),
+      line-begun (at-args .args .s .now) _ (at-part-end .part-end .ensures)
+          ∙ ap (λ (l : Line). pushed l (later (at-args .args .s .now) (at-part-end .part-end .result)))
+          (sym (c .begun .ensures ∙ ap named (c .before .kind-of .ensures))),
     )
 
 part-read-field-end : tie.Need-part-read-field-end Inv-loop μ-loop
 part-read-field-end c =
-    let q = part-fits 9 (c .before .before .before .before .before .before .before .before .args .s .now) (c .before .before .loop .end + 1) (search needs) in omega (arith, c .part-end2 .ensures)
+    let at-args = c .before .before .before .before .before .before .before .before in
+    let q = part-fits 9 (at-args .args .s .now) (c .before .before .loop .end + 1) (search needs) in
+    omega (arith, c .part-end2 .ensures)
 
 with-field-requires : tie.Need-with-field-requires Inv-loop μ-loop
 with-field-requires c κs = omega (arith, c .before .before .before .before .loop .inv .1)
 
 loop-less : tie.Need-loop-less Inv-loop μ-loop
 loop-less c =
-    let q = part-fits 9 (c .before .before .before .before .before .before .before .before .before .before .before .args .s .now) (c .before .before .before .before .before .loop .end + 1) (search needs) in let e = c .before .before .before .part-end2 .ensures in omega arith
+    let at-part-end2 = c .before .before .before in
+    let at-loop = at-part-end2 .before .before in
+    let at-args = at-loop .before .before .before .before .before .before in
+    let q = part-fits 9 (at-args .args .s .now) (at-loop .loop .end + 1) (search needs) in
+    let e = at-part-end2 .part-end2 .ensures in
+    omega arith
 
 loop-again : tie.Need-loop-again Inv-loop μ-loop
 loop-again c =
-    let s = c .before .before .before .before .before .before .before .before .before .before .before .args .s .now in
-    let q = part-fits 9 s (c .before .before .before .before .before .loop .end + 1) (search needs) in
-    let e = c .before .before .before .part-end2 .ensures in
+    let at-part-end2 = c .before .before .before in
+    let at-loop-test = at-part-end2 .before in
+    let at-loop = at-loop-test .before in
+    let at-args = at-loop .before .before .before .before .before .before in
+    let s = at-args .args .s .now in
+    let q = part-fits 9 s (at-loop .loop .end + 1) (search needs) in
+    let e = at-part-end2 .part-end2 .ensures in
     let f = c .with-field .ensures in
-    let n = ap (λ (l : Line). l .count) f ∙ push-count (c .before .before .before .before .before .loop .r) (c .before .read-field .result) in (
+    let n = ap (λ (l : Line). l .count) f ∙ push-count (at-loop .loop .r) (c .before .read-field .result) in (
       omega arith,
       omega arith,
-      c .before .before .before .before .before .loop .inv .2
-          ∙ line-next s _ _ _ (c .before .before .before .before .loop-test .taken) e
-          ∙ ap (λ (l : Line). pushed l (later s (c .before .before .before .part-end2 .result))) (sym (f ∙ ap (push (c .before .before .before .before .before .loop .r)) (c .before .read-field .ensures))),
+      at-loop .loop .inv .2
+          ∙ line-next s _ _ _ (at-loop-test .loop-test .taken) e
+          ∙ ap (λ (l : Line). pushed l (later s (at-part-end2 .part-end2 .result))) (sym (f ∙ ap (push (at-loop .loop .r)) (c .before .read-field .ensures))),
     )
 
 returns : tie.Need-returns Inv-loop μ-loop
@@ -60,4 +75,7 @@ returns c =
     sym (c .before .loop .inv .2 ∙ line-end (c .before .before .before .before .before .before .before .args .s .now) _ _ (c .loop-test .left))
 
 pub read-line-spec : {M : Type 1} → statement M
-read-line-spec = tie.close (tie.spec Inv-loop μ-loop (λ c κs. search needs) (λ c. search needs) (λ c. search needs) part-kind-of-end (λ c κs. search needs) (λ c κs. search needs) loop-holds (λ c. search needs) (λ c κs. search needs) (λ c. search needs) (λ c. search needs) part-read-field-end (λ c κs. search needs) with-field-requires loop-less loop-again returns)
+read-line-spec =
+    tie.close (tie.spec Inv-loop μ-loop (λ c κs. search needs) (λ c. search needs) (λ c. search needs) part-kind-of-end (λ c κs. search needs)
+    (λ c κs. search needs) loop-holds (λ c. search needs) (λ c κs. search needs) (λ c. search needs) (λ c. search needs) part-read-field-end
+    (λ c κs. search needs) with-field-requires loop-less loop-again returns)

@@ -12,8 +12,13 @@ use Rattle.lines.proofs.shape_kept.Tie as tie
 returns : tie.Need-returns
 unfolding shaped
 returns c =
-    let l = c .before .before .before .before .before .before .before .args .l in
-    both (ap₂ (λ (r : Bool) (f : Form). r && eqb (l .count) (f .count) && not (l .malformed)) (c .before .before .before .before .is-record .ensures) (c .before .before .before .before .before .form-of .ensures)) (c .dashes-kept .ensures)
+    let at-is-record = c .before .before .before .before in
+    let at-form-of = at-is-record .before in
+    let at-args = at-form-of .before .before in
+    let l = at-args .args .l in
+    both
+    (ap₂ (λ (r : Bool) (f : Form). r && eqb (l .count) (f .count) && not (l .malformed)) (at-is-record .is-record .ensures) (at-form-of .form-of .ensures))
+    (c .dashes-kept .ensures)
 
 pub shape-kept-spec : {M : Type 1} → statement M
 shape-kept-spec = tie.close (tie.spec (λ c κs. search needs) (λ c κs. search needs) (λ c κs. search needs) returns)

@@ -18,7 +18,8 @@ returns-2 c =
 
 returns-3 : tie.Need-returns-3
 returns-3 c =
-    dash-past (c .before .before .before .args .l) (let e : length (c .before .before .before .args .l .dashes) ≡ 10 = search (needs, long) in omega arith) ∙ sym (ap (push (c .before .before .before .args .l)) (c .before .enum-told2 .given .1))
+    let at-args = c .before .before .before in
+    dash-past _ (let e : length (at-args .args .l .dashes) ≡ 10 = search (needs, long) in omega arith) ∙ sym (ap (push _) (c .before .enum-told2 .given .1))
 
 returns-4 : tie.Need-returns-4
 returns-4 c =
@@ -26,7 +27,10 @@ returns-4 c =
 
 returns-5 : tie.Need-returns-5
 returns-5 c =
-    number-past (c .before .before .before .before .args .l) _ (let e : length (c .before .before .before .before .args .l .values) ≡ 10 = search needs in omega arith) ∙ sym (ap (push (c .before .before .before .before .args .l)) (c .before .before .f .given .1))
+    let at-args = c .before .before .before .before in
+    number-past _ _ (let e : length (at-args .args .l .values) ≡ 10 = search needs in omega arith) ∙ sym (ap (push _) (c .before .before .f .given .1))
 
 pub with-field-spec : {M : Type 1} → statement M
-with-field-spec = tie.close (tie.spec (λ c. search needs) (λ c. search needs) (λ c. search needs) (λ c. search needs) (λ c. search needs) (λ c. search needs) (λ c. search needs) returns returns-2 returns-3 returns-4 returns-5)
+with-field-spec =
+    tie.close (tie.spec (λ c. search needs) (λ c. search needs) (λ c. search needs) (λ c. search needs) (λ c. search needs) (λ c. search needs)
+    (λ c. search needs) returns returns-2 returns-3 returns-4 returns-5)

@@ -8,7 +8,9 @@ use Rattle.listing.proofs.put_refusal.Tie as tie
 returns : tie.Need-returns
 unfolding refusalText
 returns c =
-    put-then (c .before .before .before .before .before .before .before .before .before .before .put-bytes .ensures) (put-then (c .before .before .before .before .before .before .put-field .ensures) (c .before .before .put-field2 .ensures))
+    let at-put-field = c .before .before .before .before .before .before in
+    let at-put-bytes = at-put-field .before .before .before .before in
+    put-then (at-put-bytes .put-bytes .ensures) (put-then (at-put-field .put-field .ensures) (c .before .before .put-field2 .ensures))
 
 pub put-refusal-spec : {M : Type 1} → statement M
 put-refusal-spec = tie.close (tie.spec (λ c. search needs) (λ c κs. search needs) (λ c κs. search needs) (λ c κs. search needs) (λ c. search needs) returns)

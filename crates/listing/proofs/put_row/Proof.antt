@@ -34,7 +34,11 @@ returns c =
     let f3 = f4 .before .before .before .before in
     let f2 = f3 .before .before .before .before in
     let f1 = f2 .before .before .before .before .before in
-    put-then (put-then (put-then (put-then (put-then (put-then (put-then (f1 .put-field .ensures) (f2 .put-field2 .ensures)) (f3 .put-field3 .ensures)) (f4 .put-field4 .ensures)) (f5 .put-field5 .ensures)) (f6 .put-field6 .ensures)) (f7 .put-field7 .ensures)) (c .before .before .put-verdict .ensures)
+    put-then (put-then (put-then (put-then (put-then (put-then (put-then (f1 .put-field .ensures) (f2 .put-field2 .ensures))
+    (f3 .put-field3 .ensures)) (f4 .put-field4 .ensures)) (f5 .put-field5 .ensures)) (f6 .put-field6 .ensures)) (f7 .put-field7 .ensures))
+    (c .before .before .put-verdict .ensures)
 
 pub put-row-spec : {M : Type 1} → statement M
-put-row-spec = tie.close (tie.spec (λ c κs. search needs) (λ c. search needs) (λ c κs. search needs) (λ c κs. search needs) (λ c κs. search needs) (λ c κs. search needs) (λ c κs. search needs) (λ c κs. search needs) (λ c κs. search needs) same-length returns)
+put-row-spec =
+    tie.close (tie.spec (λ c κs. search needs) (λ c. search needs) (λ c κs. search needs) (λ c κs. search needs) (λ c κs. search needs)
+    (λ c κs. search needs) (λ c κs. search needs) (λ c κs. search needs) (λ c κs. search needs) same-length returns)

@@ -10,11 +10,15 @@ use Rattle.listing.proofs.put_verdict.Tie as tie
 
 returns : tie.Need-returns
 returns c =
-    put-most (omega arith) (put-as (sym (ap ended (picked _ _ _ (c .before .before .before .before .before .if1 .taken)))) (c .before .before .put-bytes .ensures))
+    let at-if1 = c .before .before .before .before .before in
+    put-most (omega arith) (put-as (sym (ap ended (picked _ _ _ (at-if1 .if1 .taken)))) (c .before .before .put-bytes .ensures))
 
 returns-2 : tie.Need-returns-2
 returns-2 c =
-    put-most (omega arith) (put-as (sym (ap ended (passed _ _ _ (c .before .before .before .before .before .if1 .left)))) (c .before .before .put-bytes2 .ensures))
+    let at-if1 = c .before .before .before .before .before in
+    put-most (omega arith) (put-as (sym (ap ended (passed _ _ _ (at-if1 .if1 .left)))) (c .before .before .put-bytes2 .ensures))
 
 pub put-verdict-spec : {M : Type 1} → statement M
-put-verdict-spec = tie.close (tie.spec (λ c. search needs) (λ c κs. search needs) (λ c. search needs) returns (λ c. search needs) (λ c κs. search needs) (λ c. search needs) returns-2)
+put-verdict-spec =
+    tie.close (tie.spec (λ c. search needs) (λ c κs. search needs) (λ c. search needs) returns (λ c. search needs) (λ c κs. search needs)
+    (λ c. search needs) returns-2)

@@ -17,19 +17,27 @@ abbrev μ-loop : tie.MeasureT-loop
 
 returns : tie.Need-returns Inv-loop μ-loop
 returns c =
-    omega (arith, field-tab (c .before .before .before .before .args .s .now) (c .before .before .before .loop .end) (search needs) (c .if1 .taken), c .before .before .before .loop .inv .1)
+    let at-loop = c .before .before .before in
+    let at-args = at-loop .before in
+    omega (arith, field-tab (at-args .args .s .now) (at-loop .loop .end) (search needs) (c .if1 .taken), at-loop .loop .inv .1)
 
 returns-2 : tie.Need-returns-2 Inv-loop μ-loop
 returns-2 c =
-    omega (arith, field-lf (c .before .before .before .before .before .before .args .s .now) (c .before .before .before .before .before .loop .end) (search needs) (c .before .before .if1 .left) (c .if2 .taken), c .before .before .before .before .before .loop .inv .1)
+    let at-loop = c .before .before .before .before .before in
+    let at-args = at-loop .before in
+    omega (arith, field-lf (at-args .args .s .now) (at-loop .loop .end) (search needs) (c .before .before .if1 .left) (c .if2 .taken), at-loop .loop .inv .1)
 
 loop-again : tie.Need-loop-again Inv-loop μ-loop
 loop-again c =
-    omega (arith, field-more (c .before .before .before .before .before .before .args .s .now) (c .before .before .before .before .before .loop .end) (search needs) (c .before .before .if1 .left) (c .if2 .left), c .before .before .before .before .before .loop .inv .1)
+    let at-loop = c .before .before .before .before .before in
+    let at-args = at-loop .before in
+    omega (arith, field-more (at-args .args .s .now) (at-loop .loop .end) (search needs) (c .before .before .if1 .left) (c .if2 .left), at-loop .loop .inv .1)
 
 returns-3 : tie.Need-returns-3 Inv-loop μ-loop
 returns-3 c =
     omega (arith, field-none (c .before .before .args .s .now) (c .before .loop .end) (search needs), c .before .loop .inv .1)
 
 pub field-end-spec : {M : Type 1} → statement M
-field-end-spec = tie.close (tie.spec Inv-loop μ-loop (λ c. search needs) (λ c. search needs) returns (λ c. search needs) returns-2 (λ c. search needs) (λ c. search needs) loop-again returns-3)
+field-end-spec =
+    tie.close (tie.spec Inv-loop μ-loop (λ c. search needs) (λ c. search needs) returns (λ c. search needs) returns-2 (λ c. search needs)
+    (λ c. search needs) loop-again returns-3)

@@ -18,15 +18,20 @@ abbrev μ-loop : tie.MeasureT-loop
 
 returns : tie.Need-returns Inv-loop μ-loop
 returns c =
-    omega (arith, part-here (c .before .before .before .before .args .sep) (c .before .before .before .before .args .s .now) (c .before .before .before .loop .end) (search needs) (c .if1 .taken), c .before .before .before .loop .inv .1)
+    let at-loop = c .before .before .before in
+    let at-args = at-loop .before in
+    omega (arith, part-here (at-args .args .sep) (at-args .args .s .now) (at-loop .loop .end) (search needs) (c .if1 .taken), at-loop .loop .inv .1)
 
 loop-again : tie.Need-loop-again Inv-loop μ-loop
 loop-again c =
-    omega (arith, part-more (c .before .before .before .before .args .sep) (c .before .before .before .before .args .s .now) (c .before .before .before .loop .end) (search needs) (c .if1 .left), c .before .before .before .loop .inv .1)
+    let at-loop = c .before .before .before in
+    let at-args = at-loop .before in
+    omega (arith, part-more (at-args .args .sep) (at-args .args .s .now) (at-loop .loop .end) (search needs) (c .if1 .left), at-loop .loop .inv .1)
 
 returns-2 : tie.Need-returns-2 Inv-loop μ-loop
 returns-2 c =
     omega (arith, part-none (c .before .before .args .sep) (c .before .before .args .s .now) (c .before .loop .end) (search needs), c .before .loop .inv .1)
 
 pub part-end-spec : {M : Type 1} → statement M
-part-end-spec = tie.close (tie.spec Inv-loop μ-loop (λ c. search needs) (λ c. search needs) returns (λ c. search needs) (λ c. search needs) loop-again returns-2)
+part-end-spec =
+    tie.close (tie.spec Inv-loop μ-loop (λ c. search needs) (λ c. search needs) returns (λ c. search needs) (λ c. search needs) loop-again returns-2)

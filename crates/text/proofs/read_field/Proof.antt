@@ -18,11 +18,20 @@ returns-3 c =
 
 returns-4 : tie.Need-returns-4
 returns-4 c =
-    sym (field-zero _ (sym (c .before .before .before .before .before .same-bytes .ensures) ∙ c .before .before .before .before .if1 .left) (c .before .before .before .if2 .left) (c .before .before .if3 .left) (c .if4 .taken))
+    let at-if2 = c .before .before .before in
+    let at-if1 = at-if2 .before in
+    let at-same-bytes = at-if1 .before in
+    sym (field-zero _ (sym (at-same-bytes .same-bytes .ensures) ∙ at-if1 .if1 .left) (at-if2 .if2 .left) (c .before .before .if3 .left) (c .if4 .taken))
 
 returns-5 : tie.Need-returns-5
 returns-5 c =
-    c .read-digits .ensures ∙ sym (field-digits _ (sym (c .before .before .before .before .before .before .same-bytes .ensures) ∙ c .before .before .before .before .before .if1 .left) (c .before .before .before .before .if2 .left) (c .before .before .before .if3 .left) (c .before .if4 .left))
+    let at-if3 = c .before .before .before in
+    let at-if2 = at-if3 .before in
+    let at-if1 = at-if2 .before in
+    let at-same-bytes = at-if1 .before in
+    c .read-digits .ensures
+    ∙ sym (field-digits _ (sym (at-same-bytes .same-bytes .ensures) ∙ at-if1 .if1 .left) (at-if2 .if2 .left) (at-if3 .if3 .left) (c .before .if4 .left))
 
 pub read-field-spec : {M : Type 1} → statement M
-read-field-spec = tie.close (tie.spec (λ c. search needs) (λ c κs. search needs) returns returns-2 returns-3 (λ c. search needs) returns-4 (λ c κs. search needs) returns-5)
+read-field-spec =
+    tie.close (tie.spec (λ c. search needs) (λ c κs. search needs) returns returns-2 returns-3 (λ c. search needs) returns-4 (λ c κs. search needs) returns-5)

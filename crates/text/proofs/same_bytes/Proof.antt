@@ -22,15 +22,19 @@ loop-holds c = (c .if1 .left, search needs, refl)
 
 returns-2 : tie.Need-returns-2 Inv-loop μ-loop
 returns-2 c =
-    sym (c .before .before .before .before .loop .inv .2 ∙ same-not (c .before .before .before .before .before .before .args .a .now) (c .before .before .before .before .before .before .args .b .now) (c .before .before .before .before .loop .i) (search needs) (search needs) (c .if2 .taken))
+    let at-loop = c .before .before .before .before in
+    sym (at-loop .loop .inv .2 ∙ same-not _ _ (at-loop .loop .i) (search needs) (search needs) (c .if2 .taken))
 
 loop-again : tie.Need-loop-again Inv-loop μ-loop
 loop-again c =
-    (c .before .before .before .before .loop .inv .0, search needs, c .before .before .before .before .loop .inv .2 ∙ same-next (c .before .before .before .before .before .before .args .a .now) (c .before .before .before .before .before .before .args .b .now) (c .before .before .before .before .loop .i) (search needs) (search needs) (c .if2 .left))
+    let at-loop = c .before .before .before .before in
+    (at-loop .loop .inv .0, search needs, at-loop .loop .inv .2 ∙ same-next _ _ (at-loop .loop .i) (search needs) (search needs) (c .if2 .left))
 
 returns-3 : tie.Need-returns-3 Inv-loop μ-loop
 returns-3 c =
-    sym (c .before .loop .inv .2 ∙ same-end (c .before .before .before .args .a .now) (c .before .before .before .args .b .now) (c .before .loop .i) (search needs) (search needs))
+    sym (c .before .loop .inv .2 ∙ same-end _ _ (c .before .loop .i) (search needs) (search needs))
 
 pub same-bytes-spec : {M : Type 1} → statement M
-same-bytes-spec = tie.close (tie.spec Inv-loop μ-loop returns loop-holds (λ c. search needs) (λ c. search needs) returns-2 (λ c. search needs) (λ c. search needs) loop-again returns-3)
+same-bytes-spec =
+    tie.close (tie.spec Inv-loop μ-loop returns loop-holds (λ c. search needs) (λ c. search needs) returns-2 (λ c. search needs) (λ c. search needs)
+    loop-again returns-3)

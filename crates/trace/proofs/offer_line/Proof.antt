@@ -14,33 +14,69 @@ use Rattle.trace.proofs.offer_line.Statement.{statement}
 use Rattle.trace.proofs.offer_line.Tie as tie
 
 returns : tie.Need-returns
-returns c = sym (offer-limit (c .before .before .args .accs) (c .before .before .args .last) (c .before .before .args .totals .now) (offerOf (c .before .before .args .slot) (c .before .before .args .accelerator) (c .before .before .args .count)) (offer-shaped (c .before .before .args .slot) (c .before .before .args .accelerator) (c .before .before .args .count)) (sym (c .before .limits-kept .ensures) ∙ not-true _ (c .if1 .taken)))
+returns c = sym (offer-limit _ _ _ (offerOf _ _ _) (offer-shaped _ _ _) (sym (c .before .limits-kept .ensures) ∙ not-true _ (c .if1 .taken)))
 
 returns-2 : tie.Need-returns-2
-returns-2 c = sym (offer-unknown (c .before .before .before .args .accs) (c .before .before .before .args .last) (c .before .before .before .args .totals .now) (offerOf (c .before .before .before .args .slot) (c .before .before .before .args .accelerator) (c .before .before .before .args .count)) (offer-shaped (c .before .before .before .args .slot) (c .before .before .before .args .accelerator) (c .before .before .before .args .count)) (sym (c .before .before .limits-kept .ensures) ∙ not-false _ (c .before .if1 .left)) (c .if2 .taken))
+returns-2 c =
+    sym (offer-unknown _ _ _ (offerOf _ _ _) (offer-shaped _ _ _) (sym (c .before .before .limits-kept .ensures) ∙ not-false _ (c .before .if1 .left))
+    (c .if2 .taken))
 
 request-of-requires : tie.Need-request-of-requires
-request-of-requires c κs = ((sym (c .before .before .limits-kept .ensures) ∙ not-false _ (c .before .if1 .left)), omega (arith, c .if2 .left, c .before .before .before .pre))
+request-of-requires c κs =
+    let at-pre = c .before .before .before in
+    ((sym (c .before .before .limits-kept .ensures) ∙ not-false _ (c .before .if1 .left)), omega (arith, c .if2 .left, at-pre .pre))
 
 returns-3 : tie.Need-returns-3
 returns-3 c =
-    sym (offer-falling (c .before .before .before .before .before .before .args .accs) (c .before .before .before .before .before .before .args .last) (c .before .before .before .before .before .before .args .totals .now) (offerOf (c .before .before .before .before .before .before .args .slot) (c .before .before .before .before .before .before .args .accelerator) (c .before .before .before .before .before .before .args .count)) (offer-shaped (c .before .before .before .before .before .before .args .slot) (c .before .before .before .before .before .before .args .accelerator) (c .before .before .before .before .before .before .args .count)) (sym (c .before .before .before .before .before .limits-kept .ensures) ∙ not-false _ (c .before .before .before .before .if1 .left)) (c .before .before .before .if2 .left) (subst (λ (r : Request). r .slot < c .before .before .before .before .before .before .args .last) (c .before .before .request-of .ensures) (c .if3 .taken)))
+    let at-if2 = c .before .before .before in
+    let at-if1 = at-if2 .before in
+    let at-limits-kept = at-if1 .before in
+    let at-args = at-limits-kept .before in
+    sym (offer-falling _ _ _ (offerOf _ _ _) (offer-shaped _ _ _) (sym (at-limits-kept .limits-kept .ensures) ∙ not-false _ (at-if1 .if1 .left))
+    (at-if2 .if2 .left) (subst (λ (r : Request). r .slot < at-args .args .last) (c .before .before .request-of .ensures) (c .if3 .taken)))
 
 mul-over-total : tie.Need-mul-over-total
 mul-over-total c =
-    let e = ap (λ (r : Request). r .accelerator) (c .before .before .before .request-of .ensures) in omega (arith, c .before .before .before .before .if2 .left, c .before .before .before .before .before .before .before .pre)
+    let at-request-of = c .before .before .before in
+    let at-if2 = at-request-of .before in
+    let at-pre = at-if2 .before .before .before in
+    let e = ap (λ (r : Request). r .accelerator) (at-request-of .request-of .ensures) in omega (arith, at-if2 .if2 .left, at-pre .pre)
 
 element-copy-out-over-total : tie.Need-element-copy-out-over-total
 element-copy-out-over-total c =
-    let e = ap (λ (r : Request). r .accelerator) (c .before .before .before .request-of .ensures) in omega (arith, c .before .before .before .before .if2 .left, c .before .before .before .before .before .before .before .pre)
+    let at-request-of = c .before .before .before in
+    let at-if2 = at-request-of .before in
+    let at-pre = at-if2 .before .before .before in
+    let e = ap (λ (r : Request). r .accelerator) (at-request-of .request-of .ensures) in omega (arith, at-if2 .if2 .left, at-pre .pre)
 
 returns-4 : tie.Need-returns-4
 returns-4 c =
-    sym (offer-total (c .before .before .before .before .before .before .before .before .before .before .args .accs) (c .before .before .before .before .before .before .before .before .before .before .args .last) (c .before .before .before .before .before .before .before .before .before .before .args .totals .now) (offerOf (c .before .before .before .before .before .before .before .before .before .before .args .slot) (c .before .before .before .before .before .before .before .before .before .before .args .accelerator) (c .before .before .before .before .before .before .before .before .before .before .args .count)) (offer-shaped (c .before .before .before .before .before .before .before .before .before .before .args .slot) (c .before .before .before .before .before .before .before .before .before .before .args .accelerator) (c .before .before .before .before .before .before .before .before .before .before .args .count)) (sym (c .before .before .before .before .before .before .before .before .before .limits-kept .ensures) ∙ not-false _ (c .before .before .before .before .before .before .before .before .if1 .left)) (c .before .before .before .before .before .before .before .if2 .left) (subst (λ (r : Request). c .before .before .before .before .before .before .before .before .before .before .args .last ≤ r .slot) (c .before .before .before .before .before .before .request-of .ensures) (c .before .before .before .before .if3 .left)) (subst (λ (r : Request). 65535 < totalOf (c .before .before .before .before .before .before .before .before .before .before .args .totals .now) (r .accelerator) + r .count) (c .before .before .before .before .before .before .request-of .ensures) (ltb-true _ _ (sym (c .before .over-total .ensures) ∙ c .if4 .taken))))
+    let at-if3 = c .before .before .before .before in
+    let at-request-of = at-if3 .before .before in
+    let at-if2 = at-request-of .before in
+    let at-if1 = at-if2 .before in
+    let at-limits-kept = at-if1 .before in
+    let at-args = at-limits-kept .before in
+    sym (offer-total _ _ _ (offerOf _ _ _) (offer-shaped _ _ _) (sym (at-limits-kept .limits-kept .ensures) ∙ not-false _ (at-if1 .if1 .left))
+    (at-if2 .if2 .left) (subst (λ (r : Request). at-args .args .last ≤ r .slot) (at-request-of .request-of .ensures) (at-if3 .if3 .left))
+    (subst (λ (r : Request). 65535 < totalOf (at-args .args .totals .now) (r .accelerator) + r .count) (at-request-of .request-of .ensures)
+    (ltb-true _ _ (sym (c .before .over-total .ensures) ∙ c .if4 .taken))))
 
 returns-5 : tie.Need-returns-5
 returns-5 c =
-    ap Offer (c .before .before .before .before .before .before .request-of .ensures) ∙ sym (offer-good (c .before .before .before .before .before .before .before .before .before .before .args .accs) (c .before .before .before .before .before .before .before .before .before .before .args .last) (c .before .before .before .before .before .before .before .before .before .before .args .totals .now) (offerOf (c .before .before .before .before .before .before .before .before .before .before .args .slot) (c .before .before .before .before .before .before .before .before .before .before .args .accelerator) (c .before .before .before .before .before .before .before .before .before .before .args .count)) (offer-shaped (c .before .before .before .before .before .before .before .before .before .before .args .slot) (c .before .before .before .before .before .before .before .before .before .before .args .accelerator) (c .before .before .before .before .before .before .before .before .before .before .args .count)) (sym (c .before .before .before .before .before .before .before .before .before .limits-kept .ensures) ∙ not-false _ (c .before .before .before .before .before .before .before .before .if1 .left)) (c .before .before .before .before .before .before .before .if2 .left) (subst (λ (r : Request). c .before .before .before .before .before .before .before .before .before .before .args .last ≤ r .slot) (c .before .before .before .before .before .before .request-of .ensures) (c .before .before .before .before .if3 .left)) (subst (λ (r : Request). totalOf (c .before .before .before .before .before .before .before .before .before .before .args .totals .now) (r .accelerator) + r .count ≤ 65535) (c .before .before .before .before .before .before .request-of .ensures) (ltb-false _ _ (sym (c .before .over-total .ensures) ∙ c .if4 .left))))
+    let at-if3 = c .before .before .before .before in
+    let at-request-of = at-if3 .before .before in
+    let at-if2 = at-request-of .before in
+    let at-if1 = at-if2 .before in
+    let at-limits-kept = at-if1 .before in
+    let at-args = at-limits-kept .before in
+    ap Offer (at-request-of .request-of .ensures) ∙ sym (offer-good _ _ _ (offerOf _ _ _) (offer-shaped _ _ _)
+    (sym (at-limits-kept .limits-kept .ensures) ∙ not-false _ (at-if1 .if1 .left)) (at-if2 .if2 .left)
+    (subst (λ (r : Request). at-args .args .last ≤ r .slot) (at-request-of .request-of .ensures) (at-if3 .if3 .left))
+    (subst (λ (r : Request). totalOf (at-args .args .totals .now) (r .accelerator) + r .count ≤ 65535) (at-request-of .request-of .ensures)
+    (ltb-false _ _ (sym (c .before .over-total .ensures) ∙ c .if4 .left))))
 
 pub offer-line-spec : {M : Type 1} → statement M
-offer-line-spec = tie.close (tie.spec (λ c κs. search needs) returns returns-2 request-of-requires returns-3 (λ c. search needs) mul-over-total element-copy-out-over-total (λ c κs. search needs) returns-4 returns-5)
+offer-line-spec =
+    tie.close (tie.spec (λ c κs. search needs) returns returns-2 request-of-requires returns-3 (λ c. search needs) mul-over-total
+    element-copy-out-over-total (λ c κs. search needs) returns-4 returns-5)
