@@ -1,8 +1,8 @@
--- What a file that was read to its end gave, and what one read did.
+-- What a file that was read to its end gave, and what one read or write did.
 --
 -- sizeOf x             how many bytes of the buffer are the file's: none where a read failed
--- answerOf z n         what a read that was lent n bytes answered by the number z: below 0 it failed, else so many bytes were read
---                      (no more than were lent); 0 is the end of the file
+-- answerOf z n         what a read or a write of n bytes answered by the number z: below 0 it failed, else it moved so many bytes,
+--                      at most n; a read that moves none is at the end of the file
 use Prim.Native.Nat.{ℕ, min}
 use lib.IntN.{ℤ, pos, negsuc}
 use Rattle.input.specs.declared.Input.{Input}

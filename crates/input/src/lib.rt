@@ -10,7 +10,7 @@ ghost use Prim.Native.Nat.{_≤_};
 ghost use lib.ListN.{length};
 ghost use Rattle.input.specs.Input.{sizeOf, answerOf};
 
-// A file read to its end, or until the buffer is full; or a read failed.
+// A file read to its end, or until the buffer is full; or a read failed. Likewise of one read and one write.
 pub enum Input {
     Bytes(usize),
     Failed,
@@ -25,7 +25,8 @@ pub fn words() -> usize {
     n - 1
 }
 
-// What a read that was lent the buffer answered: below 0 it failed, 0 is the end of the file, else so many bytes were read.
+// What a read or a write of the buffer answered: below 0 it failed, else it moved so many bytes; a read that moves none is at
+// the end of the file.
 fn answered(got: isize, buf: &[u8]) -> Input
     ensures { λ r. ⌜ r ≡ answerOf got (length (now (buf .entry))) ⌝ }
 {
@@ -109,13 +110,40 @@ pub fn load(name: &[u8], buf: &mut [u8]) -> Input
     read_opened(name, os::open_read(name), buf)
 }
 
-// Writes a text on standard output, or says why it cannot be written; answers whether all of it was.
-pub fn write_out(text: &[u8]) -> bool {
-    if io::write_all(STDOUT_FILENO, text) {
-        return true;
+// One write on standard output, tried again as a read is.
+fn write_some(text: &[u8]) -> Input
+    ensures { λ r. ⌜ sizeOf r ≤ length (now (text .entry)) ⌝ }
+{
+    let mut tries: u32 = 0;
+    while tries < 100 {
+        let got = libc::write(STDOUT_FILENO, text);
+        if (0 <= got) | (os::errno() != libc::EINTR) {
+            return answered(got, text);
+        }
+        tries += 1;
     }
-    os::fail(b"standard output cannot be written");
-    false
+    Input::Failed
+}
+
+// Writes a text on standard output, after a short write the rest, or says why it cannot be written; answers whether all of it was.
+pub fn write_out(text: &[u8]) -> bool {
+    let mut sent = 0;
+    while sent < text.len() {
+        let put = write_some(&text[sent..]);
+        let Input::Bytes(more) = put else {
+            os::fail(b"standard output cannot be written");
+            return false;
+        };
+        if more == 0 {
+            io::write_all(
+                STDERR_FILENO,
+                b"standard output cannot be written: it takes no byte\n",
+            );
+            return false;
+        }
+        sent += more;
+    }
+    true
 }
 
 // Says something of a file on standard error: its name, and what.
