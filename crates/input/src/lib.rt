@@ -1,6 +1,7 @@
 // The words of a program, files read to their end and texts written, for every program. Only an answer of 0 is the end of a
-// file: a read that fails is no end. What cannot be read or written is said on standard error, once. What the system read or
-// wrote is outside of every contract (`libc`), so a contract here bounds the bytes and says nothing of which file they are.
+// file: a read that fails is no end. What cannot be read or written is said on standard error, once. `answered` has an equation
+// for what one call answered; which calls were answered so, and what stands in a file, is outside of every contract (`libc`),
+// so the others bound the bytes alone.
 use libc::STDERR_FILENO;
 use libc::STDIN_FILENO;
 use libc::STDOUT_FILENO;

@@ -1,10 +1,11 @@
--- What the program `simulate` does by its words and prints: the word SLOTS, what a refusal is of, and the text of a run's outcome (document 01: "It writes one byte
--- a slot .. and reports done or stopped, and the number of slots used"; "A refusal prints one line only").
+-- What the program `simulate` does by its words and prints: the word SLOTS, what a refusal is of, and the text of a run's outcome
+-- (document 01: "It writes one byte a slot .. and reports done or stopped, and the number of slots used"; "A refusal prints one
+-- line only").
 --
 -- plainNumber w        the word w is a number: digits, at least one, "no sign, no leading zero except 0 itself"
 -- slotsAsked w         how many slots the word SLOTS asks for; 65,537, which a run refuses by 2, stands for every number above
 --                      65,536; usage where it is no number
--- twoFiles a b         the words a and b name two files: none is an option, and standard input, "-", is one of them at most
+-- twoFiles a b         the words a and b name two files: neither is an option, and standard input, "-", is one of them at most
 -- simulateAsked n a b c   what `simulate` does, started with n words, of which a, b and c are the first three: help, if asked;
 --                      with two files, 65,536 slots or what a third word asks; usage for any other words
 -- refusedPart o n      what the outcome o of a run over n slots refuses: the tree, else SLOTS if above 65,536, else the trace

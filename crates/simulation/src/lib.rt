@@ -69,7 +69,7 @@ pub fn slots_asked(word: &[u8]) -> Asked
     Asked::Slots(value)
 }
 
-// Whether the words can be two files: none is an option, and standard input is one of them at most.
+// Whether the words can be two files: neither is an option, and standard input is one of them at most.
 fn two_files(tree: &[u8], trace: &[u8]) -> bool
     ensures { λ r. ⌜ r ≡ twoFiles (now (tree .entry)) (now (trace .entry)) ⌝ }
 {
