@@ -1,16 +1,55 @@
-// Files read to their end and texts written, for every program. Only an answer of 0 is the end of a file: a read that fails is
-// no end. What cannot be read or written is said on standard error.
+// The words of a program, files read to their end and texts written, for every program. Only an answer of 0 is the end of a
+// file: a read that fails is no end. What cannot be read or written is said on standard error, once. `answered` has an equation
+// for what one call answered; which calls were answered so, and what stands in a file, is outside of every contract (`libc`),
+// so the others bound the bytes alone.
 use libc::STDERR_FILENO;
 use libc::STDIN_FILENO;
 use libc::STDOUT_FILENO;
+use usage::is_dash;
+ghost use mathlib.Core.Path.{_≡_};
 ghost use Prim.Native.Nat.{_≤_};
 ghost use lib.ListN.{length};
-ghost use Rattle.input.specs.Input.{sizeOf};
+ghost use Rattle.input.specs.Input.{sizeOf, answerOf};
 
-// A file read to its end, or until the buffer is full; or a read failed.
+// A file read to its end, or until the buffer is full; or a read failed. Likewise of one read and one write.
 pub enum Input {
     Bytes(usize),
     Failed,
+}
+
+// How many words stand after the program's name.
+pub fn words() -> usize {
+    let n = os::arg_count();
+    if n == 0 {
+        return 0;
+    }
+    n - 1
+}
+
+// What a read or a write of the buffer answered: below 0 it failed, else it moved so many bytes; a read that moves none is at
+// the end of the file.
+fn answered(got: isize, buf: &[u8]) -> Input
+    ensures { λ r. ⌜ r ≡ answerOf got (length (now (buf .entry))) ⌝ }
+{
+    if got < 0 {
+        return Input::Failed;
+    }
+    Input::Bytes(io::count(got, buf))
+}
+
+// One read. Where a signal came before a byte did it reads again, a hundred times at most, since every function here ends.
+fn read_some(fd: i32, buf: &mut [u8]) -> Input
+    ensures { λ r. ⌜ sizeOf r ≤ length (now (buf .exit)) ⌝ }
+{
+    let mut tries: u32 = 0;
+    while tries < 100 {
+        let got = libc::read(fd, buf);
+        if (0 <= got) | (os::errno() != libc::EINTR) {
+            return answered(got, buf);
+        }
+        tries += 1;
+    }
+    Input::Failed
 }
 
 // Reads into the buffer until the end of the file or of the buffer: after a short read it reads again.
@@ -19,11 +58,10 @@ pub fn read_all(fd: i32, buf: &mut [u8]) -> Input
 {
     let mut done = 0;
     while done < buf.len() {
-        let got = libc::read(fd, &mut buf[done..]);
-        if got < 0 {
+        let got = read_some(fd, &mut buf[done..]);
+        let Input::Bytes(more) = got else {
             return Input::Failed;
-        }
-        let more = io::count(got, &buf[done..]);
+        };
         if more == 0 {
             return Input::Bytes(done);
         }
@@ -50,8 +88,17 @@ fn read_opened(name: &[u8], fd: i32, buf: &mut [u8]) -> Input
 
 // Says which file cannot be read, and why.
 fn cannot_read(name: &[u8]) {
-    io::write_all(STDERR_FILENO, name);
+    say_name(name);
     os::fail(b" cannot be read");
+}
+
+// Writes the name of a file on standard error: of an empty one the quotes, which otherwise nobody would see.
+fn say_name(name: &[u8]) {
+    if name.len() == 0 {
+        io::write_all(STDERR_FILENO, b"\"\"");
+        return;
+    }
+    io::write_all(STDERR_FILENO, name);
 }
 
 // Reads the file of that name, standard input where the name is "-", or says why it cannot be read.
@@ -64,21 +111,40 @@ pub fn load(name: &[u8], buf: &mut [u8]) -> Input
     read_opened(name, os::open_read(name), buf)
 }
 
-// Whether the name is "-", which stands for standard input.
-pub fn is_dash(name: &[u8]) -> bool {
-    if name.len() == 1 {
-        return name[0] == b'-';
+// One write on standard output, tried again as a read is.
+fn write_some(text: &[u8]) -> Input
+    ensures { λ r. ⌜ sizeOf r ≤ length (now (text .entry)) ⌝ }
+{
+    let mut tries: u32 = 0;
+    while tries < 100 {
+        let got = libc::write(STDOUT_FILENO, text);
+        if (0 <= got) | (os::errno() != libc::EINTR) {
+            return answered(got, text);
+        }
+        tries += 1;
     }
-    false
+    Input::Failed
 }
 
-// Writes a text on standard output, or says why it cannot be written; answers whether all of it was.
+// Writes a text on standard output, after a short write the rest, or says why it cannot be written; answers whether all of it was.
 pub fn write_out(text: &[u8]) -> bool {
-    if io::write_all(STDOUT_FILENO, text) {
-        return true;
+    let mut sent = 0;
+    while sent < text.len() {
+        let put = write_some(&text[sent..]);
+        let Input::Bytes(more) = put else {
+            os::fail(b"standard output cannot be written");
+            return false;
+        };
+        if more == 0 {
+            io::write_all(
+                STDERR_FILENO,
+                b"standard output cannot be written: it takes no byte\n",
+            );
+            return false;
+        }
+        sent += more;
     }
-    os::fail(b"standard output cannot be written");
-    false
+    true
 }
 
 // Says something of a file on standard error: its name, and what.

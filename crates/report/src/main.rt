@@ -3,6 +3,7 @@
 use input::Input;
 use libc::STDERR_FILENO;
 use libc::STDIN_FILENO;
+use usage::Asked;
 
 // The refusal: the line of document 01, and for a person the file's name and what is wrong.
 fn refuse(name: &[u8], tree: &[u8], number: u8, line: u32) {
@@ -46,25 +47,26 @@ fn say_help() {
     input::write_out(&page[..n]);
 }
 
+// What the first three words ask; the longest word of Linux fits an array.
 fn main() {
-    let count = os::arg_count();
-    let mut word = [0u8; 4096];
-    let n = os::arg(1, &mut word);
-    if usage::asks_help(&word[..n]) {
-        say_help();
-        return;
+    let mut first = [0u8; 131072];
+    let mut second = [0u8; 131072];
+    let mut third = [0u8; 131072];
+    let a = os::arg(1, &mut first);
+    let b = os::arg(2, &mut second);
+    let c = os::arg(3, &mut third);
+    let terminal = libc::isatty(STDIN_FILENO) == 1;
+    let asked = usage::report_asked(
+        input::words(),
+        &first[..a],
+        &second[..b],
+        &third[..c],
+        terminal,
+    );
+    match asked {
+        Asked::Usage => say_usage(),
+        Asked::Help => say_help(),
+        Asked::Input => report_file(b"-"),
+        Asked::File => report_file(&first[..a]),
     }
-    if (2 < count) | usage::is_option(&word[..n]) {
-        say_usage();
-        return;
-    }
-    if count == 2 {
-        report_file(&word[..n]);
-        return;
-    }
-    if libc::isatty(STDIN_FILENO) == 1 {
-        say_usage();
-        return;
-    }
-    report_file(b"-");
 }

@@ -4,6 +4,7 @@ use answers::Outcome;
 use input::Input;
 use libc::STDERR_FILENO;
 use simulation::Asked;
+use simulation::Part;
 
 fn say_usage() {
     let mut page = [0u8; 65536];
@@ -15,16 +16,6 @@ fn say_help() {
     let mut page = [0u8; 65536];
     let n = usage::simulate_help(&mut page);
     input::write_out(&page[..n]);
-}
-
-// The argument SLOTS, which is 65,536 where it is not given. The longest argument of Linux fits the array.
-fn slots_asked(count: usize) -> Asked {
-    if count < 4 {
-        return Asked::Slots(65536);
-    }
-    let mut word = [0u8; 131072];
-    let n = os::arg(3, &mut word);
-    simulation::slots_asked(&word[..n])
 }
 
 // Writes one page of the outcome's text; answers whether all of it was written.
@@ -56,7 +47,7 @@ fn explain(name: &[u8], trace: bool, bytes: &[u8], number: u8, line: u32) {
     input::say_of(name, &page[..n]);
 }
 
-// What was refused: the tree, then SLOTS, then the trace.
+// What was refused, if anything was.
 fn explain_outcome(
     o: Outcome,
     slots: usize,
@@ -65,24 +56,20 @@ fn explain_outcome(
     trace_name: &[u8],
     trace: &[u8],
 ) {
-    if o.kind == 2 {
-        explain(tree_name, false, tree, o.number, o.line);
-        return;
+    let part = simulation::refused_part(o, slots);
+    match part {
+        Part::Nothing => {}
+        Part::Tree => explain(tree_name, false, tree, o.number, o.line),
+        Part::Word => explain(b"SLOTS", true, trace, o.number, o.line),
+        Part::Trace => explain(trace_name, true, trace, o.number, o.line),
     }
-    if 65536 < slots {
-        explain(b"SLOTS", true, trace, o.number, o.line);
-        return;
-    }
-    explain(trace_name, true, trace, o.number, o.line);
 }
 
 // Runs over the buffer, of a byte for each slot asked.
 fn run_over(served: &mut [u8], tree_name: &[u8], tree: &[u8], trace_name: &[u8], trace: &[u8]) {
     let o = razhikum::razhikum_run(tree, trace, served);
     show(o, served);
-    if 2 <= o.kind {
-        explain_outcome(o, served.len(), tree_name, tree, trace_name, trace);
-    }
+    explain_outcome(o, served.len(), tree_name, tree, trace_name, trace);
 }
 
 // One slot more than a run may have shows that more were asked.
@@ -112,32 +99,23 @@ fn run_files(slots: usize, tree_name: &[u8], trace_name: &[u8]) {
     run_tree(slots, tree_name, &tree[..n], trace_name);
 }
 
-// Whether the names can be two files: no option among them, and standard input at most once.
-fn are_files(tree_name: &[u8], trace_name: &[u8]) -> bool {
-    if usage::is_option(tree_name) | usage::is_option(trace_name) {
-        return false;
-    }
-    !(input::is_dash(tree_name) & input::is_dash(trace_name))
-}
-
+// What the first three words ask; the longest word of Linux fits an array.
 fn main() {
-    let count = os::arg_count();
-    let mut tree_name = [0u8; 4096];
+    let mut tree_name = [0u8; 131072];
+    let mut trace_name = [0u8; 131072];
+    let mut word = [0u8; 131072];
     let n = os::arg(1, &mut tree_name);
-    if usage::asks_help(&tree_name[..n]) {
-        say_help();
-        return;
-    }
-    let mut trace_name = [0u8; 4096];
     let m = os::arg(2, &mut trace_name);
-    let asked = slots_asked(count);
-    let Asked::Slots(slots) = asked else {
-        say_usage();
-        return;
-    };
-    if (count < 3) | (4 < count) | !are_files(&tree_name[..n], &trace_name[..m]) {
-        say_usage();
-        return;
+    let k = os::arg(3, &mut word);
+    let asked = simulation::simulate_asked(
+        input::words(),
+        &tree_name[..n],
+        &trace_name[..m],
+        &word[..k],
+    );
+    match asked {
+        Asked::Usage => say_usage(),
+        Asked::Help => say_help(),
+        Asked::Slots(slots) => run_files(slots, &tree_name[..n], &trace_name[..m]),
     }
-    run_files(slots, &tree_name[..n], &trace_name[..m]);
 }

@@ -1,37 +1,56 @@
--- What the program `simulate` asks and prints: the word SLOTS, and the text of a run's outcome (document 01: "It writes one byte
--- a slot .. and reports done or stopped, and the number of slots used"; "A refusal prints one line only").
+-- What the program `simulate` does by its words and prints: the word SLOTS, what a refusal is of, and the text of a run's outcome
+-- (document 01: "It writes one byte a slot .. and reports done or stopped, and the number of slots used"; "A refusal prints one
+-- line only").
 --
 -- plainNumber w        the word w is a number: digits, at least one, "no sign, no leading zero except 0 itself"
 -- slotsAsked w         how many slots the word SLOTS asks for; 65,537, which a run refuses by 2, stands for every number above
---                      65,536; or it is no number
+--                      65,536; usage where it is no number
+-- twoFiles a b         the words a and b name two files: neither is an option, and standard input, "-", is one of them at most
+-- simulateAsked n a b c   what `simulate` does, started with n words, of which a, b and c are the first three: help, if asked;
+--                      with two files, 65,536 slots or what a third word asks; usage for any other words
+-- refusedPart o n      what the outcome o of a run over n slots refuses: the tree, else SLOTS if above 65,536, else the trace
 -- isRun o              the outcome o is that of a run, done or stopped, and no refusal
 -- used o bs            the bytes of the slots used, of the buffer bs
 -- simulationText o bs  what is printed of an outcome and the buffer: the slots and the end of a run, or a refusal's one line
 -- pageCount o          the pages that text is given in; simulationPage o bs i: page i of it, from 0
 use Prim.Native.Nat.{ℕ, min}
-use mathlib.Core.Bool.{Bool, _&&_, not}
+use mathlib.Core.Bool.{Bool, _&&_, _||_, not}
 use mathlib.Core.List.{List}
 use lib.Dec.{ltb, eqb}
 use lib.ListN.{length, take}
-use Rattle.folds.specs.Fold.{pick}
+use Rattle.folds.specs.Fold.{pick, within}
 use Rattle.text.specs.Text.{allDigits, decimal, leadingZero}
 use Rattle.answers.specs.declared.Outcome.{Outcome}
 use Rattle.listing.specs.Listing.{refusalText}
 use Rattle.journal.specs.Journal.{runText, pages, pageText}
+use Rattle.usage.specs.Usage.{helpAsked, isOption, isDash}
 use Rattle.simulation.specs.declared.Asked.{Asked}
-use Rattle.simulation.specs.declared.Asked.the-variants.{Slots, NoNumber}
+use Rattle.simulation.specs.declared.Asked.the-variants.{Usage, Help, Slots}
+use Rattle.simulation.specs.declared.Part.{Part}
+use Rattle.simulation.specs.declared.Part.the-variants.{Nothing, Tree, Word, Trace}
 
 abbrev pub plainNumber : List ℕ → Bool
 plainNumber w = not (eqb (length w) 0) && not (leadingZero w) && allDigits w
 
 unfoldable pub slotsAsked : List ℕ → Asked
-slotsAsked w = pick (plainNumber w) (Slots (min (decimal w) 65537)) NoNumber
+slotsAsked w = pick (plainNumber w) (Slots (min (decimal w) 65537)) Usage
+
+abbrev pub twoFiles : List ℕ → List ℕ → Bool
+twoFiles a b = not (isOption a || isOption b) && not (isDash a && isDash b)
+
+unfoldable pub simulateAsked : ℕ → List ℕ → List ℕ → List ℕ → Asked
+simulateAsked n a b c =
+    pick (helpAsked a b c) Help
+    (pick (within 2 n 3 && twoFiles a b) (pick (eqb n 2) (Slots 65536) (slotsAsked c)) Usage)
 
 abbrev pub isRun : Outcome → Bool
 isRun o = ltb (o .kind) 2
 
 abbrev pub isDone : Outcome → Bool
 isDone o = eqb (o .kind) 0
+
+unfoldable pub refusedPart : Outcome → ℕ → Part
+refusedPart o n = pick (isRun o) Nothing (pick (eqb (o .kind) 2) Tree (pick (ltb 65536 n) Word Trace))
 
 abbrev pub used : Outcome → List ℕ → List ℕ
 used o bs = take (o .slots) bs

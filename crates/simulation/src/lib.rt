@@ -1,17 +1,30 @@
-// What the program `simulate` asks and prints: the word SLOTS read, and the text of a run's outcome, page by page.
+// What the program `simulate` does by its words and prints: the words read, the text of a run's outcome page by page, and what a
+// refusal is of.
 use answers::Outcome;
 use journal::pages;
 use listing::refusal_text;
+use usage::help_asked;
+use usage::is_dash;
+use usage::is_option;
 ghost use mathlib.Core.Path.{_≡_};
 ghost use Prim.Native.Nat.{_≤_, min};
 ghost use lib.ListN.{length, take};
 ghost use Rattle.put.specs.Page.{Written};
-ghost use Rattle.simulation.specs.Simulation.{slotsAsked, pageCount, simulationPage};
+ghost use Rattle.simulation.specs.Simulation.{slotsAsked, twoFiles, simulateAsked, refusedPart, pageCount, simulationPage};
 
-// What the word SLOTS asks: so many slots, 65,537 for every number above 65,536; or it is no number.
+// What `simulate` does by its words: it runs so many slots, 65,537 for every number above 65,536, or says its usage or its help.
 pub enum Asked {
+    Usage,
+    Help,
     Slots(usize),
-    NoNumber,
+}
+
+// What a refusal is of: the tree, the word SLOTS or the trace; or nothing is refused.
+pub enum Part {
+    Nothing,
+    Tree,
+    Word,
+    Trace,
 }
 
 // A number, or 65,537 if it is larger.
@@ -30,30 +43,69 @@ fn wide(b: u8) -> usize
     b as usize
 }
 
-// How many slots the word asks for.
+// How many slots the word SLOTS asks for; usage where it is no number.
 pub fn slots_asked(word: &[u8]) -> Asked
     ensures { λ r. ⌜ r ≡ slotsAsked (now (word .entry)) ⌝ }
 {
     if word.len() == 0 {
-        return Asked::NoNumber;
+        return Asked::Usage;
     }
     if (word[0] == 48) & (word.len() != 1) {
-        return Asked::NoNumber;
+        return Asked::Usage;
     }
     let mut value: usize = 0;
     let mut i = 0;
     while i < word.len() {
         let b = word[i];
         if b < 48 {
-            return Asked::NoNumber;
+            return Asked::Usage;
         }
         if 57 < b {
-            return Asked::NoNumber;
+            return Asked::Usage;
         }
         value = capped(value * 10 + wide(b - 48));
         i += 1;
     }
     Asked::Slots(value)
+}
+
+// Whether the words can be two files: neither is an option, and standard input is one of them at most.
+fn two_files(tree: &[u8], trace: &[u8]) -> bool
+    ensures { λ r. ⌜ r ≡ twoFiles (now (tree .entry)) (now (trace .entry)) ⌝ }
+{
+    !(is_option(tree) | is_option(trace)) & !(is_dash(tree) & is_dash(trace))
+}
+
+// What `simulate` does, started with `count` words, of which these are the first three.
+pub fn simulate_asked(count: usize, tree: &[u8], trace: &[u8], slots: &[u8]) -> Asked
+    ensures { λ r. ⌜ r ≡ simulateAsked count (now (tree .entry)) (now (trace .entry)) (now (slots .entry)) ⌝ }
+{
+    if help_asked(tree, trace, slots) {
+        return Asked::Help;
+    }
+    if (2 <= count) & (count <= 3) & two_files(tree, trace) {
+        if count == 2 {
+            return Asked::Slots(65536);
+        }
+        return slots_asked(slots);
+    }
+    Asked::Usage
+}
+
+// What the outcome of a run over so many slots refuses: first the tree is read, then SLOTS, then the trace.
+pub fn refused_part(o: Outcome, slots: usize) -> Part
+    ensures { λ r. ⌜ r ≡ refusedPart o slots ⌝ }
+{
+    if o.kind < 2 {
+        return Part::Nothing;
+    }
+    if o.kind == 2 {
+        return Part::Tree;
+    }
+    if 65536 < slots {
+        return Part::Word;
+    }
+    Part::Trace
 }
 
 // How many bytes of the buffer tell slots: at most all.

@@ -1,8 +1,10 @@
 // A program that writes every text the programs print: help and usage, the report and refusals of tree files, simulations of
-// refused, done and stopped runs by the word SLOTS, and refusals in words. The file `stdout` holds them, written apart from the
-// definitions.
+// refused, done and stopped runs by the word SLOTS, and refusals in words; what the programs do by their words; and which files
+// can be read. The file `stdout` holds them, written apart from the definitions.
+use input::Input;
 use libc::STDOUT_FILENO;
 use simulation::Asked;
+use simulation::Part;
 
 fn show(page: &[u8], n: usize) {
     if n <= page.len() {
@@ -24,6 +26,114 @@ fn show_usage() {
     show_page(&page, n);
     let n = usage::simulate_help(&mut page);
     show_page(&page, n);
+}
+
+fn say_line(line: &[u8]) {
+    io::write_all(STDOUT_FILENO, line);
+}
+
+// What `report` does, started with so many words.
+fn report_does(count: usize, first: &[u8], second: &[u8], third: &[u8], terminal: bool) {
+    let asked = usage::report_asked(count, first, second, third, terminal);
+    match asked {
+        usage::Asked::Usage => say_line(b"report: usage\n"),
+        usage::Asked::Help => say_line(b"report: help\n"),
+        usage::Asked::Input => say_line(b"report: standard input\n"),
+        usage::Asked::File => say_line(b"report: the file\n"),
+    }
+}
+
+fn report_all() {
+    report_does(0, b"", b"", b"", true);
+    report_does(0, b"", b"", b"", false);
+    report_does(1, b"--help", b"", b"", true);
+    report_does(1, b"-h", b"", b"", false);
+    report_does(1, b"--helpme", b"", b"", false);
+    report_does(1, b"-x", b"", b"", false);
+    report_does(1, b"--", b"", b"", false);
+    report_does(1, b"-", b"", b"", false);
+    report_does(1, b"-", b"", b"", true);
+    report_does(1, b"a.tree", b"", b"", true);
+    report_does(1, b"", b"", b"", true);
+    report_does(2, b"a.tree", b"b.tree", b"", false);
+    report_does(2, b"-", b"-", b"", false);
+    report_does(2, b"a.tree", b"--help", b"", false);
+    report_does(3, b"a.tree", b"b.tree", b"-h", false);
+    report_does(4, b"a.tree", b"b.tree", b"c.tree", false);
+}
+
+// What `simulate` does, started with so many words.
+fn simulate_does(count: usize, tree: &[u8], trace: &[u8], slots: &[u8]) {
+    let asked = simulation::simulate_asked(count, tree, trace, slots);
+    match asked {
+        Asked::Usage => say_line(b"simulate: usage\n"),
+        Asked::Help => say_line(b"simulate: help\n"),
+        Asked::Slots(k) => {
+            say_line(b"simulate: slots ");
+            io::print_decimal(STDOUT_FILENO, k as u64);
+            say_line(b"\n");
+        }
+    }
+}
+
+fn simulate_all() {
+    simulate_does(0, b"", b"", b"");
+    simulate_does(1, b"--help", b"", b"");
+    simulate_does(1, b"-h", b"", b"");
+    simulate_does(1, b"a.tree", b"", b"");
+    simulate_does(2, b"a.tree", b"a.trace", b"");
+    simulate_does(2, b"-", b"a.trace", b"");
+    simulate_does(2, b"a.tree", b"-", b"");
+    simulate_does(2, b"-", b"-", b"");
+    simulate_does(2, b"-x", b"a.trace", b"");
+    simulate_does(2, b"a.tree", b"--slots", b"");
+    simulate_does(2, b"a.tree", b"--help", b"");
+    simulate_does(4, b"a.tree", b"a.trace", b"1");
+    slots_all();
+}
+
+// The third word.
+fn slots_all() {
+    simulate_does(3, b"a.tree", b"a.trace", b"0");
+    simulate_does(3, b"a.tree", b"a.trace", b"1");
+    simulate_does(3, b"a.tree", b"-", b"65536");
+    simulate_does(3, b"a.tree", b"a.trace", b"65537");
+    simulate_does(3, b"a.tree", b"a.trace", b"99999999999999999999");
+    simulate_does(3, b"a.tree", b"a.trace", b"x");
+    simulate_does(3, b"a.tree", b"a.trace", b"");
+    simulate_does(3, b"a.tree", b"a.trace", b"-");
+    simulate_does(3, b"a.tree", b"a.trace", b"+1");
+    simulate_does(3, b"-", b"-", b"1");
+    simulate_does(3, b"a.tree", b"a.trace", b"-h");
+}
+
+// The first 16 bytes of a file, or that it cannot be read.
+fn load(name: &[u8]) {
+    let mut bytes = [0u8; 16];
+    let read = input::load(name, &mut bytes);
+    match read {
+        Input::Bytes(n) => {
+            say_line(b"read: ");
+            show(&bytes, n);
+            say_line(b"\n");
+        }
+        Input::Failed => say_line(b"cannot be read\n"),
+    }
+}
+
+// Files that are there, standard input, and then what is no file: no such name, two directories, no name, a name too long, and
+// standard input again, which is closed.
+fn load_all() {
+    load(b"five.txt");
+    load(b"twenty.txt");
+    load(b"empty.txt");
+    load(b"-");
+    load(b"missing.txt");
+    load(b".");
+    load(b"/");
+    load(b"");
+    load(&[b'x'; 5000]);
+    load(b"-");
 }
 
 // The report; of a refused tree the first byte of the page, which is left as it was, and the refusal.
@@ -168,17 +278,25 @@ fn say_numbers() {
     say(false, tree, 3, 0);
 }
 
+// Of a refusal also what is refused.
 fn run_over(served: &mut [u8], tree: &[u8], trace: &[u8]) {
     let o = razhikum::razhikum_run(tree, trace, served);
     let mut page = [0u8; 65536];
     let n = simulation::page_text(o, served, 0, &mut page);
     show_page(&page, n);
+    let part = simulation::refused_part(o, served.len());
+    match part {
+        Part::Nothing => {}
+        Part::Tree => say_line(b"of the tree\n"),
+        Part::Word => say_line(b"of SLOTS\n"),
+        Part::Trace => say_line(b"of the trace\n"),
+    }
 }
 
 fn simulate(tree: &[u8], trace: &[u8], word: &[u8]) {
     let asked = simulation::slots_asked(word);
     let Asked::Slots(k) = asked else {
-        io::write_all(STDOUT_FILENO, b"no number\n");
+        say_line(b"no number\n");
         return;
     };
     let mut served = [0u8; 65537];
@@ -210,7 +328,12 @@ fn main() {
     report(b"");
     simulate_words(tree, b"o\t0\t0\t1\no\t1\t1\t1\n");
     simulate(b"x\n", b"", b"1");
+    simulate(b"x\n", b"", b"65537");
     simulate(tree, b"o\t0\t2\t1\n", b"1");
+    simulate(tree, b"o\t0\t2\t1\n", b"65537");
+    report_all();
+    simulate_all();
+    load_all();
     say_shapes();
     say_limits();
     say_numbers();

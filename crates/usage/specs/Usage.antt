@@ -1,6 +1,11 @@
--- What the programs say of themselves, and which words ask for it.
+-- What the programs say of themselves, which words ask for it, and what `report` does by its words.
 --
--- asksHelp w           the word asks for help; isOption w: it begins as an option does, and is not "-"
+-- asksHelp w           the word asks for help
+-- helpAsked a b c      one of a program's first three words does, wherever it stands among them; a word that is not given is empty
+-- isOption w           the word begins as an option does, and is not "-"; isDash w: it is "-", which stands for standard input
+-- reportAsked n a b c t   what `report` does, started with n words, of which a, b and c are the first three: help, if asked; usage,
+--                      for more than one word or an option; the file that its one word names, "-" too; without a word standard
+--                      input, or usage where that is a terminal (t)
 -- reportUsage, simulateUsage   what is said where the arguments are wrong
 -- reportHelp, simulateHelp     what is said where help is asked for
 use Prim.Native.Nat.{ℕ}
@@ -8,14 +13,30 @@ use mathlib.Core.Bool.{Bool, _&&_, _||_}
 use mathlib.Core.List.{List, _++_}
 use lib.Dec.{eqb, ltb}
 use lib.ListN.{length, getD}
+use Rattle.folds.specs.Fold.{pick}
 use Rattle.text.specs.Text.{same}
 use Rattle.put.specs.Page.{bytes}
+use Rattle.usage.specs.declared.Asked.{Asked}
+use Rattle.usage.specs.declared.Asked.the-variants.{Usage, Help, Input, File}
 
 abbrev pub asksHelp : List ℕ → Bool
 asksHelp w = same w (bytes "-h") || same w (bytes "--help")
 
+abbrev pub helpAsked : List ℕ → List ℕ → List ℕ → Bool
+helpAsked a b c = (asksHelp a || asksHelp b) || asksHelp c
+
 abbrev pub isOption : List ℕ → Bool
 isOption w = ltb 1 (length w) && eqb (getD w 0 0) 45
+
+abbrev pub isDash : List ℕ → Bool
+isDash w = same w (bytes "-")
+
+unfoldable pub reportAsked : ℕ → List ℕ → List ℕ → List ℕ → Bool → Asked
+reportAsked n a b c t =
+    pick (helpAsked a b c) Help
+    (pick (ltb 1 n || isOption a) Usage
+    (pick (eqb n 1) File
+    (pick t Usage Input)))
 
 abbrev pub reportUsage : List ℕ
 reportUsage = bytes "usage: report [FILE]\nexample: report scanner.tree\n"

@@ -1,9 +1,18 @@
-// What the programs say of themselves, each text put into a page that the caller lends, and which words ask for it.
+// What the programs say of themselves, each text put into a page that the caller lends; which words ask for it, and what `report`
+// does by its words. `simulate`, which also reads a number, is in `simulation`.
 use put::put_bytes;
 use text::same_bytes;
 ghost use mathlib.Core.Path.{_≡_};
 ghost use Rattle.put.specs.Page.{Written};
-ghost use Rattle.usage.specs.Usage.{asksHelp, isOption, reportUsage, reportHelp, simulateUsage, simulateHelp};
+ghost use Rattle.usage.specs.Usage.{asksHelp, helpAsked, isOption, isDash, reportAsked, reportUsage, reportHelp, simulateUsage, simulateHelp};
+
+// What `report` does by its words.
+pub enum Asked {
+    Usage,
+    Help,
+    Input,
+    File,
+}
 
 // Whether the word is -h or --help.
 pub fn asks_help(word: &[u8]) -> bool
@@ -20,6 +29,45 @@ pub fn is_option(word: &[u8]) -> bool
         return false;
     }
     word[0] == 45
+}
+
+// Whether one of the first three words asks for help; a word that was not given is empty.
+pub fn help_asked(first: &[u8], second: &[u8], third: &[u8]) -> bool
+    ensures { λ r. ⌜ r ≡ helpAsked (now (first .entry)) (now (second .entry)) (now (third .entry)) ⌝ }
+{
+    asks_help(first) | asks_help(second) | asks_help(third)
+}
+
+// Whether the word is "-", which stands for standard input.
+pub fn is_dash(word: &[u8]) -> bool
+    ensures { λ r. ⌜ r ≡ isDash (now (word .entry)) ⌝ }
+{
+    same_bytes(word, b"-")
+}
+
+// What `report` does, started with `count` words, of which these are the first three; `terminal`: standard input is one.
+pub fn report_asked(
+    count: usize,
+    first: &[u8],
+    second: &[u8],
+    third: &[u8],
+    terminal: bool,
+) -> Asked
+    ensures { λ r. ⌜ r ≡ reportAsked count (now (first .entry)) (now (second .entry)) (now (third .entry)) terminal ⌝ }
+{
+    if help_asked(first, second, third) {
+        return Asked::Help;
+    }
+    if (1 < count) | is_option(first) {
+        return Asked::Usage;
+    }
+    if count == 1 {
+        return Asked::File;
+    }
+    if terminal {
+        return Asked::Usage;
+    }
+    Asked::Input
 }
 
 // What `report` says where its arguments are wrong.

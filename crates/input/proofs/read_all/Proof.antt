@@ -3,6 +3,7 @@ use mathlib.Core.Path.{_≡_}
 use Prim.Native.Nat.{_≤_, _-_}
 use lib.ListN.{length}
 use borrow.Author.Needs.{needs}
+use Rattle.input.proofs.Sizes.{read-within}
 use Rattle.input.proofs.read_all.Statement.{statement}
 use Rattle.input.proofs.read_all.Tie as tie
 
@@ -11,6 +12,16 @@ Inv-loop fd buf₀ done₀ buf done = (done ≤ length buf) × (length buf ≡ l
 
 abbrev μ-loop : tie.MeasureT-loop
 μ-loop fd buf₀ done₀ buf done = length buf - done
+
+add-done : tie.Need-add-done Inv-loop μ-loop
+add-done c =
+    let w = read-within (c .before .before .got .given .1) (c .before .before .before .before .before .before .read-some .ensures) in
+    search needs
+
+loop-again : tie.Need-loop-again Inv-loop μ-loop
+loop-again c =
+    let w = read-within (c .before .before .got .given .1) (c .before .before .before .before .before .before .read-some .ensures) in
+    (search needs, search needs)
 
 pub read-all-spec : {M : Type 1} → statement M
 read-all-spec =
@@ -28,11 +39,9 @@ read-all-spec =
     (λ c. search needs)
     (λ c. search needs)
     (λ c. search needs)
-    (λ c κs. search needs)
     (λ c. search needs)
+    add-done
     (λ c. search needs)
-    (λ c. search needs)
-    (λ c. search needs)
-    (λ c. search needs)
+    loop-again
     (λ c. search needs)
     (λ c. search needs))

@@ -9,4 +9,16 @@ slice-aggregate-run-over : tie.Need-slice-aggregate-run-over
 slice-aggregate-run-over c = sym (length-take-le _ _ (search needs))
 
 pub simulate-spec : {M : Type 1} → statement M
-simulate-spec = tie.close (tie.spec (λ c κs. search needs) (λ c. search needs) (λ c. search needs) (λ c. search needs) (λ c κs. search needs) (λ c. search needs) (λ c. search needs) slice-aggregate-run-over (λ c κs. search needs) (λ c. search needs) (λ c. search needs))
+simulate-spec =
+    tie.close
+    (tie.spec
+    (λ c κs. search needs)
+    (λ c. search needs)
+    (λ c. search needs)
+    (λ c κs. search needs)
+    (λ c. search needs)
+    (λ c. search needs)
+    slice-aggregate-run-over
+    (λ c κs. search needs)
+    (λ c. search needs)
+    (λ c. search needs))
