@@ -1,7 +1,8 @@
 // The library's start, offers and slots, one by one, beside those of the second machine, on states that calls lead to, on altered
 // ones, and on another configuration, which may break its rules.
 //
-// Test code, without contracts: it is proved that each function is safe and ends.
+// Test code: it is proved that each function is safe and ends, and of the comparison which number of the store it compares with
+// which entry of the state.
 use generator::number_below;
 use machine::FreshAnswer;
 use machine::OfferAnswer;
@@ -25,18 +26,24 @@ use second::calls::PORT;
 use second::calls::SPENT;
 use second::calls::WAITS;
 use second::calls::alter;
+use second::calls::last_port;
+use second::calls::left;
 use second::calls::offer_answer;
 use second::calls::offer_one;
-use second::calls::part;
 use second::calls::set_slot_count;
 use second::calls::slot_count;
 use second::calls::slot_one;
 use second::calls::slot_refusal;
 use second::calls::start_one;
+use second::calls::used;
+use second::calls::waiting;
 use store::DIFFERENCES;
 use store::WRONG;
 use store::add;
 use store::note;
+ghost use mathlib.Core.Path.{_≡_};
+ghost use Rattle.folds.specs.Fold.{all};
+ghost use Rattle.callcheck.specs.Same.{sameRecord, sameTurn, sameState};
 
 // Offers by the number of their answer.
 pub const OFFERS: usize = 3200;
@@ -50,27 +57,49 @@ pub const STARTS: usize = 3232;
 // The slot count at which no slot is left.
 const LAST_SLOT: u32 = 4294967295;
 
-fn same_record(s: State, a: u8, d: &[usize; 16384]) -> bool {
+fn same_record(s: State, a: u8, d: &[usize; 16384]) -> bool
+    ensures { λ r. ⌜ r ≡ sameRecord s a (now (d .entry)) ⌝ }
+{
     let i = a as usize;
-    (waiting_of(s, a) as usize == part(d, WAITS, i))
-        & (admitted_of(s, a) as usize == part(d, SPENT, i))
+    (waiting_of(s, a) as usize == waiting(d, i)) & (admitted_of(s, a) as usize == used(d, i))
 }
 
-fn same_turn(s: State, j: u8, d: &[usize; 16384]) -> bool {
+fn same_turn(s: State, j: u8, d: &[usize; 16384]) -> bool
+    ensures { λ r. ⌜ r ≡ sameTurn s j (now (d .entry)) ⌝ }
+{
     let i = j as usize;
-    (last_of(s, j) as usize == part(d, PORT, i)) & (allowance_of(s, j) as usize == part(d, LEFT, i))
+    (last_of(s, j) as usize == last_port(d, i)) & (allowance_of(s, j) as usize == left(d, i))
+}
+
+fn same_records(s: State, d: &[usize; 16384]) -> bool
+    ensures { λ r. ⌜ r ≡ all 32 (λ a. sameRecord s a (now (d .entry))) ⌝ }
+{
+    let mut same = true;
+    let mut a: u8 = 0;
+    while a < 32 {
+        same = same & same_record(s, a, d);
+        a += 1;
+    }
+    same
+}
+
+fn same_turns(s: State, d: &[usize; 16384]) -> bool
+    ensures { λ r. ⌜ r ≡ all 15 (λ j. sameTurn s j (now (d .entry))) ⌝ }
+{
+    let mut same = true;
+    let mut j: u8 = 0;
+    while j < 15 {
+        same = same & same_turn(s, j, d);
+        j += 1;
+    }
+    same
 }
 
 // Is each entry of the library's state what the store has?
-fn same_state(s: State, d: &[usize; 16384]) -> bool {
-    let mut same = s.slot as usize == slot_count(d);
-    for a in 0..32u8 {
-        same = same & same_record(s, a, d);
-        if a < 15 {
-            same = same & same_turn(s, a, d);
-        }
-    }
-    same
+fn same_state(s: State, d: &[usize; 16384]) -> bool
+    ensures { λ r. ⌜ r ≡ sameState s (now (d .entry)) ⌝ }
+{
+    (s.slot as usize == slot_count(d)) & same_records(s, d) & same_turns(s, d)
 }
 
 fn started(answer: FreshAnswer) -> usize {

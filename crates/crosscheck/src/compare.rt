@@ -14,25 +14,42 @@ use second::queues::run_trace;
 use second::response::Row;
 use second::response::bound_refusal;
 use second::response::figures;
+ghost use mathlib.Core.Path.{_≡_};
+ghost use Rattle.crosscheck.specs.Same.{sameFlag, sameSaid, sameEnd, sameFigures, sameSlices, sameBytes};
 
 // Two buffers stand in one array: the library's at its start, and ours from here on.
 const OURS: usize = 65537;
 
-pub fn same_said(answer: FileAnswer, s: Said) -> bool {
-    let number = answer_number(answer) as usize;
-    let line = answer_line(answer) as usize;
-    (number == s.number) & (line == s.line)
+// Are both true, or both false?
+pub fn same_flag(x: bool, y: bool) -> bool
+    ensures { λ r. ⌜ r ≡ sameFlag x y ⌝ }
+{
+    if x {
+        return y;
+    }
+    !y
 }
 
-fn same_figures(f: Figures, r: Row) -> bool {
-    let share = (f.level as usize == r.level) & (f.share as usize == r.share);
+pub fn same_said(answer: FileAnswer, s: Said) -> bool
+    ensures { λ r. ⌜ r ≡ sameSaid answer s ⌝ }
+{
+    (answer_number(answer) as usize == s.number) & (answer_line(answer) as usize == s.line)
+}
+
+fn same_figures(f: Figures, r: Row) -> bool
+    ensures { λ r'. ⌜ r' ≡ sameFigures f r ⌝ }
+{
     let reads = f.reads;
     let writes = f.writes;
-    let interference = (reads.0 as usize == r.reads) & (writes.0 as usize == r.writes);
     let response = f.response;
     let period = f.period;
-    let times = (response.0 as usize == r.response) & (period.0 as usize == r.period);
-    share & interference & times & (f.meets == r.meets)
+    (f.level as usize == r.level)
+        & (f.share as usize == r.share)
+        & (reads.0 as usize == r.reads)
+        & (writes.0 as usize == r.writes)
+        & (response.0 as usize == r.response)
+        & (period.0 as usize == r.period)
+        & same_flag(f.meets, r.meets)
 }
 
 // The bound of accelerator a, which may be one that the tree has not.
@@ -61,7 +78,7 @@ pub fn same_bounds(t: Tree, d: &[usize; 16384], wrong: usize) -> bool {
 }
 
 // Puts a pattern that no run writes into a buffer.
-fn fill(out: &mut [u8]) {
+pub fn fill(out: &mut [u8]) {
     for i in 0..out.len() {
         out[i] = (i % 199 + 40) as u8;
     }
@@ -106,17 +123,43 @@ pub fn second_run(
     run_second(trace, d, &mut out[OURS..to], wrong)
 }
 
-pub fn same_end(x: Ended, y: Ended) -> bool {
-    (x.number == y.number) & (x.line == y.line) & (x.done == y.done) & (x.slots == y.slots)
+pub fn same_end(x: Ended, y: Ended) -> bool
+    ensures { λ r. ⌜ r ≡ sameEnd x y ⌝ }
+{
+    (x.number == y.number) & (x.line == y.line) & (x.slots == y.slots) & same_flag(x.done, y.done)
 }
 
-// Are n bytes of the library's the same as ours?
-pub fn same_bytes(out: &[u8; 131074], n: usize) -> bool {
-    let mut same = n <= OURS;
-    for i in 0..n {
-        if i < 65537 {
-            same = same & (out[i] == out[i + 65537]);
-        }
+// Have both the same length and the same bytes?
+pub fn same_slices(a: &[u8], b: &[u8]) -> bool
+    ensures { λ r. ⌜ r ≡ sameSlices (now (a .entry)) (now (b .entry)) ⌝ }
+{
+    if a.len() != b.len() {
+        return false;
+    }
+    let mut same = true;
+    let mut i = 0;
+    while i < a.len() {
+        same = same & (a[i] == b[i]);
+        i += 1;
     }
     same
+}
+
+// Have two pages the same bytes?
+pub fn same_pages(a: &[u8; 65536], b: &[u8; 65536]) -> bool
+    ensures { λ r. ⌜ r ≡ sameSlices (now (a .entry)) (now (b .entry)) ⌝ }
+{
+    same_slices(a, b)
+}
+
+// Are the first n bytes of the library's half of the array the same as those of ours?
+pub fn same_bytes(out: &[u8; 131074], n: usize) -> bool
+    ensures { λ r. ⌜ r ≡ sameBytes (now (out .entry)) n ⌝ }
+{
+    if OURS < n {
+        return false;
+    }
+    let all = &out[..];
+    let to = OURS + n;
+    same_slices(&all[0..n], &all[OURS..to])
 }

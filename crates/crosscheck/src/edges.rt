@@ -2,12 +2,14 @@
 // the size limit.
 use crate::results::CASE11;
 use crate::results::EDGES;
-use crate::trials::try_runs;
+use crate::trials::try_file_runs;
 use crate::trials::try_tree;
+use generator::file_in;
 use generator::limits::make_case;
 use generator::listed::heading_at;
 use generator::made;
 use generator::pages::long_file;
+use generator::size;
 use reader::read_tree;
 use second::NO_WRONG_RULE;
 use second::book::read_book;
@@ -23,7 +25,7 @@ fn try_file(s: &[u8], is_tree: bool, d: &mut [usize; 16384], out: &mut [u8; 1310
         b"bus\t8\t1\t4\t2\t2\t30\t25\t1\t1\t16\nint\t0\t-\t-\t1\nacc\t0\t0\t0\t4\t2\t10\t5\t1000\t2000\nacc\t1\t0\t3\t4\t2\t1\t0\t0\t100\n";
     read_book(tree, d, NO_WRONG_RULE);
     let r = read_tree(tree);
-    try_runs(r.tree, s, d, out, size);
+    try_file_runs(tree, r.tree, s, d, out, size);
 }
 
 // The listed file whose heading is at `at`; where the next heading is.
@@ -67,10 +69,12 @@ pub fn try_case_11(w: &mut [u8; 16384], d: &mut [usize; 16384]) {
 // Runs on a tree of 15 interconnects and 32 accelerators, where accelerator 31 alone holds transactions at last.
 pub fn try_wide(w: &mut [u8; 16384], d: &mut [usize; 16384], out: &mut [u8; 131074]) {
     make_case(w, d, 6);
-    let r = try_tree(made(w, d), d);
+    let n = size(d);
+    let r = try_tree(file_in(w, n), d);
     let t = r.tree;
-    try_runs(t, b"o\t0\t31\t16\n", d, out, 64);
-    try_runs(t, b"o\t0\t0\t9\no\t0\t30\t2\no\t1\t31\t16\n", d, out, 64);
+    try_file_runs(file_in(w, n), t, b"o\t0\t31\t16\n", d, out, 64);
+    let all = b"o\t0\t0\t9\no\t0\t30\t2\no\t1\t31\t16\n";
+    try_file_runs(file_in(w, n), t, all, d, out, 64);
 }
 
 fn try_long_file(page: &mut [u8], i: usize, d: &mut [usize; 16384], out: &mut [u8; 131074]) {

@@ -3,8 +3,10 @@
 // purpose, was seen, and last how many differences there are.
 mod compare;
 mod edges;
+mod exports;
 mod results;
 mod trials;
+mod walked;
 
 use crate::edges::try_case_11;
 use crate::edges::try_listed;
@@ -12,10 +14,11 @@ use crate::edges::try_long;
 use crate::edges::try_wide;
 use crate::results::show;
 use crate::trials::try_altered;
-use crate::trials::try_runs;
+use crate::trials::try_file_runs;
 use crate::trials::try_tree;
 use callcheck::try_machine;
 use generator::buffer_size;
+use generator::file_in;
 use generator::made;
 use generator::start;
 use generator::trace_file;
@@ -23,28 +26,35 @@ use generator::tree_file;
 use libc::STDIN_FILENO;
 use lines::FileAnswer;
 
-// A generated tree and, if it is accepted, a generated trace.
-fn try_pair(w: &mut [u8; 16384], d: &mut [usize; 16384], out: &mut [u8; 131074]) {
+// A generated tree, in w, and, if it is accepted, a generated trace, in v.
+fn try_pair(
+    w: &mut [u8; 16384],
+    v: &mut [u8; 16384],
+    d: &mut [usize; 16384],
+    out: &mut [u8; 131074],
+) {
     tree_file(w, d);
-    let r = try_tree(made(w, d), d);
+    let n = generator::size(d);
+    let r = try_tree(file_in(w, n), d);
     let answer = r.answer;
     let FileAnswer::Accepted = answer else {
         return;
     };
     let t = r.tree;
     try_machine(t, d);
-    trace_file(w, d, t.accs as usize);
-    try_altered(t, made(w, d), d, out);
+    trace_file(v, d, t.accs as usize);
+    try_altered(t, made(v, d), d, out);
     let size = buffer_size(d);
-    try_runs(t, made(w, d), d, out, size);
+    try_file_runs(file_in(w, n), t, made(v, d), d, out, size);
 }
 
 // The generated inputs, case 11, and the widest tree.
 fn try_generated(d: &mut [usize; 16384], out: &mut [u8; 131074]) {
     let mut w = [0u8; 16384];
+    let mut v = [0u8; 16384];
     start(d);
     for _ in 0..2200usize {
-        try_pair(&mut w, d, out);
+        try_pair(&mut w, &mut v, d, out);
     }
     try_case_11(&mut w, d);
     try_wide(&mut w, d, out);

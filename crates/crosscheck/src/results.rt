@@ -19,6 +19,13 @@ use second::WHOLE_RUN;
 use store::DIFFERENCES;
 use store::WRONG;
 use store::get;
+use treecheck::tangle::ACCELERATOR_TWICE;
+use treecheck::tangle::CYCLE;
+use treecheck::tangle::EACH_OTHER;
+use treecheck::tangle::INTERCONNECT_TWICE;
+use treecheck::tangle::UNUSED_ACCELERATOR;
+use treecheck::tangle::UNUSED_INTERCONNECT;
+use treecheck::tangle::UNUSED_PORT;
 
 // The counts. Trees by the number of their answer, 0 where accepted.
 pub const TREES: usize = 3072;
@@ -64,8 +71,18 @@ pub const RUN_REFUSALS: usize = 3168;
 // Bounds on altered configurations, by the number of their answer.
 pub const BOUND_ANSWERS: usize = 3184;
 
+// What the static library exports, called: 0 readings, 1 bounds, 2 reports, 3 reports that leave the page, 4 runs, 5 runs refused
+// by the tree.
+pub const EXPORTS: usize = 3248;
+
+// Lines of accepted traces whose request was looked up in the bytes.
+pub const REQUESTS: usize = 3256;
+
+// Configurations that break their rules in one of the ways of `treecheck::tangle`.
+pub const TANGLED: usize = 3264;
+
 // What the program writes: a label to each line,
-const LABELS: [u8; 1585] = *b"trees accepted\n\
+const LABELS: [u8; 2084] = *b"trees accepted\n\
     trees accepted, 1 level\n\
     trees accepted, 2 levels\n\
     trees accepted, 3 levels\n\
@@ -113,6 +130,20 @@ const LABELS: [u8; 1585] = *b"trees accepted\n\
     their bounds given\n\
     their bounds refused by 7\n\
     their bounds refused by 11\n\
+    altered: an interconnect names one above it\n\
+    altered: an interconnect and its parent name each other\n\
+    altered: two ports name an accelerator\n\
+    altered: two ports name an interconnect\n\
+    altered: a number in an unused interconnect\n\
+    altered: a number in an unused accelerator\n\
+    altered: a port of an unused interconnect\n\
+    requests looked up line by line\n\
+    exports: readings\n\
+    exports: bounds\n\
+    exports: reports\n\
+    exports: reports refused, the page left\n\
+    exports: runs on an accepted tree\n\
+    exports: runs refused by the tree\n\
     wrong: 3 tested before 2, trees seen\n\
     wrong: 6 tested before 7, traces seen\n\
     wrong: budgets over the whole run, runs seen\n\
@@ -129,7 +160,7 @@ const LABELS: [u8; 1585] = *b"trees accepted\n\
     differences\n";
 
 // and where its count stands.
-const PLACES: [usize; 62] = [
+const PLACES: [usize; 76] = [
     TREES,
     LEVELS + 1,
     LEVELS + 2,
@@ -178,6 +209,20 @@ const PLACES: [usize; 62] = [
     BOUND_ANSWERS,
     BOUND_ANSWERS + 7,
     BOUND_ANSWERS + 11,
+    TANGLED + CYCLE,
+    TANGLED + EACH_OTHER,
+    TANGLED + ACCELERATOR_TWICE,
+    TANGLED + INTERCONNECT_TWICE,
+    TANGLED + UNUSED_INTERCONNECT,
+    TANGLED + UNUSED_ACCELERATOR,
+    TANGLED + UNUSED_PORT,
+    REQUESTS,
+    EXPORTS,
+    EXPORTS + 1,
+    EXPORTS + 2,
+    EXPORTS + 3,
+    EXPORTS + 4,
+    EXPORTS + 5,
     WRONG + ORDER_FIRST,
     WRONG + FALLING_FIRST,
     WRONG + WHOLE_RUN,
@@ -214,7 +259,7 @@ fn show_line(labels: &[u8], from: usize, n: usize) -> usize {
 pub fn show(d: &[usize; 16384]) {
     let labels = LABELS;
     let mut from = 0;
-    for i in 0..62 {
+    for i in 0..76 {
         from = show_line(&labels, from, get(d, PLACES[i], 0));
     }
 }

@@ -6,20 +6,25 @@ use crate::compare::same_bytes;
 use crate::compare::same_end;
 use crate::compare::same_said;
 use crate::compare::second_run;
+use crate::exports::try_trace_exports;
+use crate::exports::try_tree_exports;
 use crate::results::ALTERED;
 use crate::results::BOUND_ANSWERS;
 use crate::results::BOUNDS;
 use crate::results::BUFFERS;
 use crate::results::DONE;
 use crate::results::LEVELS;
+use crate::results::REQUESTS;
 use crate::results::RUN_REFUSALS;
 use crate::results::SIZES;
 use crate::results::SLOTS;
 use crate::results::STOPPED;
+use crate::results::TANGLED;
 use crate::results::TRACES;
 use crate::results::TREES;
 use crate::results::VARIED;
 use crate::results::WINDOWS;
+use crate::walked::same_requests;
 use callcheck::busy_state;
 use callcheck::try_other;
 use generator::number_below;
@@ -42,6 +47,7 @@ use second::book::read_book;
 use second::book::varied;
 use second::queues::Ended;
 use second::queues::run_refusal;
+use second::requests::lines;
 use second::requests::read_log;
 use second::response::bound_refusal;
 use store::DIFFERENCES;
@@ -53,6 +59,8 @@ use treecheck::alter::altered;
 use treecheck::is_empty;
 use treecheck::judge;
 use treecheck::same_tree;
+use treecheck::tangle::WAYS;
+use treecheck::tangle::tangled;
 
 // An accepted tree: its entries and its bounds.
 fn try_content(t: Tree, d: &mut [usize; 16384]) {
@@ -93,6 +101,7 @@ pub fn try_tree(s: &[u8], d: &mut [usize; 16384]) -> TreeRead {
         let empty = is_empty(r.tree, d);
         note(d, DIFFERENCES, 0, empty);
     }
+    try_tree_exports(s, said, d);
     r
 }
 
@@ -104,6 +113,12 @@ fn try_trace(t: Tree, s: &[u8], d: &mut [usize; 16384]) -> Said {
     let said = read_log(s, d, NO_WRONG_RULE);
     note(d, DIFFERENCES, 0, same_said(answer, said));
     add(d, TRACES, said.number, 1);
+    if said.number == 0 {
+        let requests = same_requests(s, d);
+        note(d, DIFFERENCES, 0, requests);
+        let n = lines(d);
+        add(d, REQUESTS, 0, n);
+    }
     said
 }
 
@@ -172,8 +187,8 @@ fn try_run(
 }
 
 // A trace, and runs of it: over a buffer of n bytes, and if that is done, over just enough and over one byte less; if it is
-// refused, now and then over a buffer that is too large.
-pub fn try_runs(t: Tree, s: &[u8], d: &mut [usize; 16384], out: &mut [u8; 131074], n: usize) {
+// refused, now and then over a buffer that is too large. What the second reader says of it.
+fn try_runs(t: Tree, s: &[u8], d: &mut [usize; 16384], out: &mut [u8; 131074], n: usize) -> Said {
     let said = try_trace(t, s, d);
     let slots = try_run(t, s, said, d, out, n);
     if slots != 0 {
@@ -186,6 +201,20 @@ pub fn try_runs(t: Tree, s: &[u8], d: &mut [usize; 16384], out: &mut [u8; 131074
             try_run(t, s, said, d, out, 65537);
         }
     }
+    said
+}
+
+// The same on the tree of an accepted file.
+pub fn try_file_runs(
+    tree: &[u8],
+    t: Tree,
+    s: &[u8],
+    d: &mut [usize; 16384],
+    out: &mut [u8; 131074],
+    n: usize,
+) {
+    let said = try_runs(t, s, d, out, n);
+    try_trace_exports(tree, s, said, d, out, n);
 }
 
 // A bound of accelerator a, which the tree may not have.
@@ -198,11 +227,16 @@ fn try_bound(t: Tree, a: u8, d: &mut [usize; 16384]) {
     add(d, BOUND_ANSWERS, refusal, 1);
 }
 
-// The tree t, altered: whether it keeps its rules, its start, calls on it from a state of t, its bounds, and if it breaks them
-// runs of the trace s. The rows are left with t again.
-pub fn try_altered(t: Tree, s: &[u8], d: &mut [usize; 16384], out: &mut [u8; 131074]) {
+// Another tree: whether it keeps its rules, its start, calls on it from a state of t, its bounds, and if it breaks them runs of
+// the trace s. The rows are left with t again.
+fn try_other_tree(
+    t: Tree,
+    other: Tree,
+    s: &[u8],
+    d: &mut [usize; 16384],
+    out: &mut [u8; 131074],
+) -> bool {
     let state = busy_state(t, d);
-    let other = altered(t, d);
     let keeps = judge(other, d);
     add(d, ALTERED, keeps as usize, 1);
     try_other(other, state, d);
@@ -213,4 +247,14 @@ pub fn try_altered(t: Tree, s: &[u8], d: &mut [usize; 16384], out: &mut [u8; 131
     }
     let back = judge(t, d);
     note(d, DIFFERENCES, 0, back);
+    keeps
+}
+
+// The tree t, altered at random and in one of the ways of `tangle`, of which those are counted that break the rules.
+pub fn try_altered(t: Tree, s: &[u8], d: &mut [usize; 16384], out: &mut [u8; 131074]) {
+    try_other_tree(t, altered(t, d), s, d, out);
+    let way = number_below(d, WAYS);
+    if !try_other_tree(t, tangled(t, way, d), s, d, out) {
+        add(d, TANGLED, way, 1);
+    }
 }

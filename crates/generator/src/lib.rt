@@ -33,11 +33,21 @@ pub fn trace_file(w: &mut [u8; 16384], d: &mut [usize; 16384], accs: usize) {
     copy_or_damage(w, d);
 }
 
-// The file in the second half of w.
-pub fn made<'a>(w: &'a [u8; 16384], d: &[usize; 16384]) -> &'a [u8] {
-    let to = 8192 + get(d, LENGTH, 0) % 8193;
+// How many bytes the last file that was made has.
+pub fn size(d: &[usize; 16384]) -> usize {
+    get(d, LENGTH, 0)
+}
+
+// The file of n bytes in the second half of w.
+pub fn file_in(w: &[u8; 16384], n: usize) -> &[u8] {
+    let to = 8192 + n % 8193;
     let all = &w[..];
     &all[8192..to]
+}
+
+// The last file that was made, in the second half of w.
+pub fn made<'a>(w: &'a [u8; 16384], d: &[usize; 16384]) -> &'a [u8] {
+    file_in(w, size(d))
 }
 
 // A number below n.

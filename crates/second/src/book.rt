@@ -19,6 +19,8 @@ use store::add;
 use store::clear;
 use store::get;
 use store::put;
+ghost use mathlib.Core.Path.{_≡_};
+ghost use Rattle.second.specs.Rows.{cellOf, rowsOf, intsOf, accsOf, intRow, accRow, isOn, blockOf, carriedOf};
 
 // How many rows there are, how many of them are int lines and acc lines, and for each accelerator its row.
 const ROWS: usize = 480;
@@ -36,28 +38,40 @@ const BROKEN: usize = 483;
 pub const NOTHING: usize = 255;
 
 // The number in a column of a row.
-pub fn cell(d: &[usize; 16384], row: usize, column: usize) -> usize {
+pub fn cell(d: &[usize; 16384], row: usize, column: usize) -> usize
+    ensures { λ r. ⌜ r ≡ cellOf (now (d .entry)) row column ⌝ }
+{
     get(d, (row % 48) * 10, column)
 }
 
-fn rows(d: &[usize; 16384]) -> usize {
+fn rows(d: &[usize; 16384]) -> usize
+    ensures { λ r. ⌜ r ≡ rowsOf (now (d .entry)) ⌝ }
+{
     get(d, ROWS, 0)
 }
 
-pub fn ints(d: &[usize; 16384]) -> usize {
+pub fn ints(d: &[usize; 16384]) -> usize
+    ensures { λ r. ⌜ r ≡ intsOf (now (d .entry)) ⌝ }
+{
     get(d, INTS, 0)
 }
 
-pub fn accs(d: &[usize; 16384]) -> usize {
+pub fn accs(d: &[usize; 16384]) -> usize
+    ensures { λ r. ⌜ r ≡ accsOf (now (d .entry)) ⌝ }
+{
     get(d, ACCS, 0)
 }
 
 // The row of an interconnect: int lines come right after the bus line, in order.
-pub fn int_row(i: usize) -> usize {
+pub fn int_row(i: usize) -> usize
+    ensures { λ r. ⌜ r ≡ intRow i ⌝ }
+{
     std::num::wrapping_add_usize(i, 1)
 }
 
-pub fn acc_row(d: &[usize; 16384], a: usize) -> usize {
+pub fn acc_row(d: &[usize; 16384], a: usize) -> usize
+    ensures { λ r. ⌜ r ≡ accRow (now (d .entry)) a ⌝ }
+{
     get(d, ROW_OF, a % 32)
 }
 
@@ -69,17 +83,35 @@ pub(crate) fn set_broken(d: &mut [usize; 16384]) {
     put(d, BROKEN, 0, 1);
 }
 
+// Is this row there, and its block on port p of interconnect i? The bus line is no block.
+fn is_on(d: &[usize; 16384], i: usize, p: usize, row: usize) -> bool
+    ensures { λ r. ⌜ r ≡ isOn (now (d .entry)) i p row ⌝ }
+{
+    if rows(d) <= row {
+        return false;
+    }
+    (0 < row) & (cell(d, row, 1) == i) & (cell(d, row, 2) == p)
+}
+
+// The block of a row, as a port carries it.
+fn block(d: &[usize; 16384], row: usize) -> usize
+    ensures { λ r. ⌜ r ≡ blockOf (now (d .entry)) row ⌝ }
+{
+    let number = cell(d, row, 0);
+    if row <= ints(d) {
+        return std::num::wrapping_add_usize(number, 32);
+    }
+    number
+}
+
 // What the port p of interconnect i carries.
-pub fn carried(d: &[usize; 16384], i: usize, p: usize) -> usize {
+pub fn carried(d: &[usize; 16384], i: usize, p: usize) -> usize
+    ensures { λ r. ⌜ r ≡ carriedOf (now (d .entry)) i p ⌝ }
+{
     let mut found = NOTHING;
-    for row in 1..48 {
-        if row < rows(d) {
-            if (cell(d, row, 1) == i) & (cell(d, row, 2) == p) {
-                found = cell(d, row, 0);
-                if row <= ints(d) {
-                    found = std::num::wrapping_add_usize(found, 32);
-                }
-            }
+    for row in 0..48 {
+        if is_on(d, i, p, row) {
+            found = block(d, row);
         }
     }
     found

@@ -27,8 +27,10 @@ use crate::queues::waits;
 use store::get;
 use store::least;
 use store::put;
+ghost use mathlib.Core.Path.{_≡_};
+ghost use Rattle.second.specs.Machine.{queuedOf, usedOf, lastPortOf, leftOf, slotOf};
 
-// The parts of a state: for each accelerator what waits,
+// The parts of a state that are altered: for each accelerator what waits,
 pub const WAITS: usize = 0;
 // and what is used of its budget;
 pub const SPENT: usize = 1;
@@ -40,7 +42,9 @@ pub const LEFT: usize = 3;
 // The slot count of the last slot there is.
 const LAST_SLOT: usize = 4294967295;
 
-pub fn slot_count(d: &[usize; 16384]) -> usize {
+pub fn slot_count(d: &[usize; 16384]) -> usize
+    ensures { λ r. ⌜ r ≡ slotOf (now (d .entry)) ⌝ }
+{
     get(d, SLOT, 0)
 }
 
@@ -48,18 +52,32 @@ pub fn set_slot_count(d: &mut [usize; 16384], n: usize) {
     put(d, SLOT, 0, n);
 }
 
-// Entry i of a part of the state.
-pub fn part(d: &[usize; 16384], which: usize, i: usize) -> usize {
-    if which == WAITS {
-        return queued(d, i % 32);
-    }
-    if which == SPENT {
-        return get(d, USED, i % 32);
-    }
-    if which == PORT {
-        return get(d, LAST, i % 15);
-    }
-    get(d, ALLOWANCE, i % 15)
+// What waits for accelerator a,
+pub fn waiting(d: &[usize; 16384], a: usize) -> usize
+    ensures { λ r. ⌜ r ≡ queuedOf (now (d .entry)) a ⌝ }
+{
+    queued(d, a)
+}
+
+// what it has used of its budget,
+pub fn used(d: &[usize; 16384], a: usize) -> usize
+    ensures { λ r. ⌜ r ≡ usedOf (now (d .entry)) a ⌝ }
+{
+    get(d, USED, a)
+}
+
+// the last port of interconnect i,
+pub fn last_port(d: &[usize; 16384], i: usize) -> usize
+    ensures { λ r. ⌜ r ≡ lastPortOf (now (d .entry)) i ⌝ }
+{
+    get(d, LAST, i)
+}
+
+// and its allowance.
+pub fn left(d: &[usize; 16384], i: usize) -> usize
+    ensures { λ r. ⌜ r ≡ leftOf (now (d .entry)) i ⌝ }
+{
+    get(d, ALLOWANCE, i)
 }
 
 // Lets n transactions wait for accelerator a: the tickets after the last one served.
@@ -91,23 +109,23 @@ pub fn alter(d: &mut [usize; 16384], which: usize, i: usize, n: usize) {
 
 // Does accelerator a keep to its limits? One that the tree does not have has nothing.
 fn acc_keeps(d: &[usize; 16384], a: usize) -> bool {
-    let used = get(d, USED, a);
+    let spent = used(d, a);
     if accs(d) <= a {
-        return (queued(d, a) == 0) & (used == 0);
+        return (queued(d, a) == 0) & (spent == 0);
     }
     let row = acc_row(d, a);
-    (queued(d, a) <= cell(d, row, 3)) & (used <= cell(d, row, 4))
+    (queued(d, a) <= cell(d, row, 3)) & (spent <= cell(d, row, 4))
 }
 
 // Is the turn of interconnect i one that it can have?
 fn turn_keeps(d: &[usize; 16384], i: usize) -> bool {
-    let last = get(d, LAST, i);
-    let left = get(d, ALLOWANCE, i);
+    let last = last_port(d, i);
+    let allowance = left(d, i);
     if ints(d) <= i {
-        return (last == 0) & (left == 0);
+        return (last == 0) & (allowance == 0);
     }
     let most = least(cell(d, int_row(i), 3), waits(d, i, last));
-    (last < 8) & (left <= most)
+    (last < 8) & (allowance <= most)
 }
 
 fn state_keeps(d: &[usize; 16384]) -> bool {

@@ -1,7 +1,8 @@
 // A second implementation of document 01's readers, machine, runner and bounds, written separately from the library and its
 // definitions: it shares no code with them.
 //
-// Test code, without contracts: it is proved that each function is safe and ends.
+// Test code: it is proved that each function is safe and ends. Those that a comparison with the library reads its entries by have
+// equations: which number of the store each of them answers.
 pub mod book;
 pub mod calls;
 pub mod entries;
@@ -9,6 +10,7 @@ pub mod queues;
 pub mod requests;
 pub mod response;
 mod scan;
+pub mod sheet;
 
 // The rule that the second implementation breaks on purpose: none,
 pub const NO_WRONG_RULE: usize = 0;

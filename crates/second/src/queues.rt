@@ -23,6 +23,8 @@ use store::clear;
 use store::get;
 use store::least;
 use store::put;
+ghost use mathlib.Core.Path.{_≡_};
+ghost use Rattle.second.specs.Machine.{queuedOf};
 
 // For each accelerator how many transactions were requested since the start,
 const REQUESTED: usize = 2048;
@@ -60,7 +62,9 @@ pub struct Ended {
 }
 
 // How many tickets are in the queue of accelerator a.
-pub(crate) fn queued(d: &[usize; 16384], a: usize) -> usize {
+pub(crate) fn queued(d: &[usize; 16384], a: usize) -> usize
+    ensures { λ r. ⌜ r ≡ queuedOf (now (d .entry)) a ⌝ }
+{
     std::num::wrapping_sub_usize(get(d, ADMITTED, a), get(d, SERVED, a))
 }
 

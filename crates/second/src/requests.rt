@@ -44,6 +44,26 @@ pub(crate) fn count_in(x: usize) -> usize {
     x % 256
 }
 
+// How many lines the log has,
+pub fn lines(d: &[usize; 16384]) -> usize {
+    get(d, LINES, 0)
+}
+
+// and of line i of it, the first at 0, the slot,
+pub fn slot_at(d: &[usize; 16384], i: usize) -> usize {
+    slot_in(get(d, LOG, i % 8192))
+}
+
+// the accelerator,
+pub fn acc_at(d: &[usize; 16384], i: usize) -> usize {
+    acc_in(get(d, LOG, i % 8192))
+}
+
+// and the count.
+pub fn count_at(d: &[usize; 16384], i: usize) -> usize {
+    count_in(get(d, LOG, i % 8192))
+}
+
 fn falls(d: &[usize; 16384]) -> bool {
     field(d, 1) < get(d, BEFORE, 0)
 }

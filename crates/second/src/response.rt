@@ -156,6 +156,19 @@ pub fn bound_refusal(d: &[usize; 16384], a: usize, wrong: usize) -> usize {
     if unknown { 7 } else { 0 }
 }
 
+// Those where a bound is refused.
+pub fn no_figures() -> Row {
+    Row {
+        level: 0,
+        share: 0,
+        reads: 0,
+        writes: 0,
+        response: 0,
+        period: 0,
+        meets: false,
+    }
+}
+
 // The figures of accelerator a of the tree in the rows.
 pub fn figures(d: &[usize; 16384], a: usize, wrong: usize) -> Row {
     let row = acc_row(d, a);

@@ -99,7 +99,7 @@ fn with_bus(t: Tree, d: &mut [usize; 16384]) -> Tree {
     next
 }
 
-fn with_interconnect(t: Tree, j: usize, x: Interconnect) -> Tree {
+pub(crate) fn with_interconnect(t: Tree, j: usize, x: Interconnect) -> Tree {
     let mut next = t;
     let mut all = t.interconnects;
     all[j % 15] = x;
@@ -107,7 +107,7 @@ fn with_interconnect(t: Tree, j: usize, x: Interconnect) -> Tree {
     next
 }
 
-fn with_accelerator(t: Tree, a: usize, x: Accelerator) -> Tree {
+pub(crate) fn with_accelerator(t: Tree, a: usize, x: Accelerator) -> Tree {
     let mut next = t;
     let mut all = t.accelerators;
     all[a % 32] = x;
@@ -116,7 +116,7 @@ fn with_accelerator(t: Tree, a: usize, x: Accelerator) -> Tree {
 }
 
 // The tree with x on port p of interconnect j.
-fn with_port(t: Tree, j: u8, p: u8, x: Port) -> Tree {
+pub(crate) fn with_port(t: Tree, j: u8, p: u8, x: Port) -> Tree {
     let mut here = interconnect_at(t, j);
     let mut all = here.ports;
     all[(p % 8) as usize] = PortCell { port: x };
@@ -175,7 +175,7 @@ fn with_cell(t: Tree, d: &mut [usize; 16384]) -> Tree {
     with_port(t, j, p, Port::Int(some_int(t, d)))
 }
 
-fn with_place(x: Accelerator, which: usize, n: u8) -> Accelerator {
+pub(crate) fn with_place(x: Accelerator, which: usize, n: u8) -> Accelerator {
     let mut next = x;
     if which == 0 {
         next.interconnect = n;
@@ -189,7 +189,7 @@ fn with_place(x: Accelerator, which: usize, n: u8) -> Accelerator {
     next
 }
 
-fn with_job(x: Accelerator, which: usize, n: usize) -> Accelerator {
+pub(crate) fn with_job(x: Accelerator, which: usize, n: usize) -> Accelerator {
     let mut next = x;
     if which == 3 {
         next.budget = pair(n);

@@ -1,8 +1,10 @@
 // The library's tree, entry by entry, beside the rows of `second`: whether it is the tree that the rows say, and whether a
 // tree file could have given it. Trees are also altered here, so that some break a rule.
 //
-// Test code, without contracts: it is proved that each function is safe and ends.
+// Test code: it is proved that each function is safe and ends, and of the comparison which number of the store it compares with
+// which entry of the tree.
 pub mod alter;
+pub mod tangle;
 
 use model::Accelerator;
 use model::Bus;
@@ -26,22 +28,31 @@ use second::entries::bus_fits;
 use second::entries::int_fits;
 use second::entries::put_dash;
 use second::entries::put_entry;
+ghost use mathlib.Core.Path.{_≡_};
+ghost use mathlib.Core.Bool.{_&&_};
+ghost use Rattle.folds.specs.Fold.{all};
+ghost use Rattle.model.specs.Tree.{interconnectOf, acceleratorOf};
+ghost use Rattle.treecheck.specs.Same.{sameBus, codeOf, placeSaid, grainSaid, sameInt, samePorts, sameInts, entrySaid, sameAcc, sameAccs, sameTree};
 
-fn same_delays(b: Bus, d: &[usize; 16384]) -> bool {
-    let there = (b.ta as usize == cell(d, 0, 1)) & (b.da as usize == cell(d, 0, 2));
-    let back = (b.dd as usize == cell(d, 0, 3)) & (b.db as usize == cell(d, 0, 4));
-    there & back & (b.pr as usize == cell(d, 0, 5))
-}
-
-fn same_bus(b: Bus, d: &[usize; 16384]) -> bool {
-    let window = b.window as usize == cell(d, 0, 0);
-    let data = (b.td as usize == cell(d, 0, 7)) & (b.tb as usize == cell(d, 0, 8));
-    let burst = (b.pw as usize == cell(d, 0, 6)) & (b.burst as usize == cell(d, 0, 9));
-    same_delays(b, d) & window & data & burst
+fn same_bus(b: Bus, d: &[usize; 16384]) -> bool
+    ensures { λ r. ⌜ r ≡ sameBus b (now (d .entry)) ⌝ }
+{
+    (b.window as usize == cell(d, 0, 0))
+        & (b.ta as usize == cell(d, 0, 1))
+        & (b.da as usize == cell(d, 0, 2))
+        & (b.dd as usize == cell(d, 0, 3))
+        & (b.db as usize == cell(d, 0, 4))
+        & (b.pr as usize == cell(d, 0, 5))
+        & (b.pw as usize == cell(d, 0, 6))
+        & (b.td as usize == cell(d, 0, 7))
+        & (b.tb as usize == cell(d, 0, 8))
+        & (b.burst as usize == cell(d, 0, 9))
 }
 
 // What a port of the library's tree carries, as the rows say it.
-fn code(x: Port) -> usize {
+fn code(x: Port) -> usize
+    ensures { λ r. ⌜ r ≡ codeOf x ⌝ }
+{
     match x {
         Port::Empty => NOTHING,
         Port::Acc(a) => a as usize,
@@ -49,64 +60,118 @@ fn code(x: Port) -> usize {
     }
 }
 
-fn same_ports(t: Tree, i: u8, d: &[usize; 16384]) -> bool {
+fn same_ports(t: Tree, i: u8, d: &[usize; 16384]) -> bool
+    ensures { λ r. ⌜ r ≡ samePorts t i (now (d .entry)) ⌝ }
+{
     let mut same = true;
-    for p in 0..8u8 {
+    let mut p: u8 = 0;
+    while p < 8 {
         same = same & (code(port_at(t, i, p)) == carried(d, i as usize, p as usize));
+        p += 1;
     }
     same
 }
 
-// An interconnect that is not in the tree is all 0; the root has 0 for parent and port.
-fn same_int(x: Interconnect, i: usize, d: &[usize; 16384]) -> bool {
-    let row = int_row(i);
-    let mut parent = 0;
-    let mut port = 0;
-    let mut grain = 0;
-    if i < ints(d) {
-        grain = cell(d, row, 3);
-        if i != 0 {
-            parent = cell(d, row, 1);
-            port = cell(d, row, 2);
-        }
+// A column of interconnect i that says where it is. The root has 0 there, and so has one that is not in the tree.
+fn place_said(d: &[usize; 16384], i: usize, column: usize) -> usize
+    ensures { λ r. ⌜ r ≡ placeSaid (now (d .entry)) i column ⌝ }
+{
+    if i == 0 {
+        return 0;
     }
-    (x.parent as usize == parent) & (x.port as usize == port) & (x.granularity as usize == grain)
+    if i < ints(d) {
+        return cell(d, int_row(i), column);
+    }
+    0
+}
+
+// The granularity of interconnect i, or 0 where it is not in the tree.
+fn grain_said(d: &[usize; 16384], i: usize) -> usize
+    ensures { λ r. ⌜ r ≡ grainSaid (now (d .entry)) i ⌝ }
+{
+    if i < ints(d) {
+        return cell(d, int_row(i), 3);
+    }
+    0
+}
+
+fn same_int(x: Interconnect, i: usize, d: &[usize; 16384]) -> bool
+    ensures { λ r. ⌜ r ≡ sameInt x i (now (d .entry)) ⌝ }
+{
+    (x.parent as usize == place_said(d, i, 1))
+        & (x.port as usize == place_said(d, i, 2))
+        & (x.granularity as usize == grain_said(d, i))
 }
 
 // The number in a column of accelerator a, or 0 where there is no such accelerator.
-fn entry(d: &[usize; 16384], a: usize, column: usize) -> usize {
+fn entry(d: &[usize; 16384], a: usize, column: usize) -> usize
+    ensures { λ r. ⌜ r ≡ entrySaid (now (d .entry)) a column ⌝ }
+{
     if a < accs(d) {
         return cell(d, acc_row(d, a), column);
     }
     0
 }
 
-fn same_acc(x: Accelerator, a: usize, d: &[usize; 16384]) -> bool {
-    let place = (x.interconnect as usize == entry(d, a, 1)) & (x.port as usize == entry(d, a, 2));
-    let limits = (x.phi as usize == entry(d, a, 3)) & (x.budget as usize == entry(d, a, 4));
-    let job = (x.reads as usize == entry(d, a, 5)) & (x.writes as usize == entry(d, a, 6));
-    let times = (x.computing as usize == entry(d, a, 7)) & (x.period as usize == entry(d, a, 8));
-    place & limits & job & times
+fn same_acc(x: Accelerator, a: usize, d: &[usize; 16384]) -> bool
+    ensures { λ r. ⌜ r ≡ sameAcc x a (now (d .entry)) ⌝ }
+{
+    (x.interconnect as usize == entry(d, a, 1))
+        & (x.port as usize == entry(d, a, 2))
+        & (x.phi as usize == entry(d, a, 3))
+        & (x.budget as usize == entry(d, a, 4))
+        & (x.reads as usize == entry(d, a, 5))
+        & (x.writes as usize == entry(d, a, 6))
+        & (x.computing as usize == entry(d, a, 7))
+        & (x.period as usize == entry(d, a, 8))
 }
 
-fn same_ints(t: Tree, d: &[usize; 16384]) -> bool {
-    let mut same = t.ints as usize == ints(d);
-    for i in 0..15u8 {
-        same = same & same_int(interconnect_at(t, i), i as usize, d) & same_ports(t, i, d);
+fn same_interconnect(t: Tree, i: u8, d: &[usize; 16384]) -> bool
+    ensures { λ r. ⌜ r ≡ (sameInt (interconnectOf t i) i (now (d .entry)) && samePorts t i (now (d .entry))) ⌝ }
+{
+    same_int(interconnect_at(t, i), i as usize, d) & same_ports(t, i, d)
+}
+
+fn same_interconnects(t: Tree, d: &[usize; 16384]) -> bool
+    ensures { λ r. ⌜ r ≡ all 15 (λ i. sameInt (interconnectOf t i) i (now (d .entry)) && samePorts t i (now (d .entry))) ⌝ }
+{
+    let mut same = true;
+    let mut i: u8 = 0;
+    while i < 15 {
+        same = same & same_interconnect(t, i, d);
+        i += 1;
     }
     same
 }
 
-fn same_accs(t: Tree, d: &[usize; 16384]) -> bool {
-    let mut same = t.accs as usize == accs(d);
-    for a in 0..32u8 {
+fn same_accelerators(t: Tree, d: &[usize; 16384]) -> bool
+    ensures { λ r. ⌜ r ≡ all 32 (λ a. sameAcc (acceleratorOf t a) a (now (d .entry))) ⌝ }
+{
+    let mut same = true;
+    let mut a: u8 = 0;
+    while a < 32 {
         same = same & same_acc(accelerator_at(t, a), a as usize, d);
+        a += 1;
     }
     same
+}
+
+fn same_ints(t: Tree, d: &[usize; 16384]) -> bool
+    ensures { λ r. ⌜ r ≡ sameInts t (now (d .entry)) ⌝ }
+{
+    (t.ints as usize == ints(d)) & same_interconnects(t, d)
+}
+
+fn same_accs(t: Tree, d: &[usize; 16384]) -> bool
+    ensures { λ r. ⌜ r ≡ sameAccs t (now (d .entry)) ⌝ }
+{
+    (t.accs as usize == accs(d)) & same_accelerators(t, d)
 }
 
 // Is each entry of the library's tree what the rows say?
-pub fn same_tree(t: Tree, d: &[usize; 16384]) -> bool {
+pub fn same_tree(t: Tree, d: &[usize; 16384]) -> bool
+    ensures { λ r. ⌜ r ≡ sameTree t (now (d .entry)) ⌝ }
+{
     same_bus(t.bus, d) & same_ints(t, d) & same_accs(t, d)
 }
 

@@ -1,14 +1,13 @@
--- `same_state` ends: at most 32 turns.
-use Prim.Native.Nat.{_≤_, _-_}
+-- `same_state` meets its contract: the slot count, the records, the turns.
+use mathlib.Core.Path.{ap}
+use lib.Dec.{eqb}
+use Rattle.model.proofs.Lists.{and-cong}
 use borrow.Author.Needs.{needs}
 use Rattle.callcheck.proofs.same_state.Statement.{statement}
 use Rattle.callcheck.proofs.same_state.Tie as tie
 
-abbrev Inv-loop : tie.InvT-loop
-Inv-loop s d same₀ a₀ same a = a ≤ 32
-
-abbrev μ-loop : tie.MeasureT-loop
-μ-loop s d same₀ a₀ same a = 32 - a
+returns : tie.Need-returns
+returns c = and-cong (and-cong (ap (eqb _) (c .before .before .slot-count .ensures)) (c .before .same-records .ensures)) (c .same-turns .ensures)
 
 pub same-state-spec : {M : Type 1} → statement M
-same-state-spec = tie.close (tie.spec Inv-loop μ-loop (λ c. search needs) (λ c κs. search needs) (λ c. search needs) (λ c κs. search needs) (λ c κs. search needs) (λ c. search needs) (λ c. search needs) (λ c. search needs) (λ c. search needs))
+same-state-spec = tie.close (tie.spec (λ c. search needs) (λ c κs. search needs) (λ c κs. search needs) (λ c κs. search needs) returns)

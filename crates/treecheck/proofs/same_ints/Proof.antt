@@ -1,14 +1,13 @@
--- `same_ints` ends: at most 15 turns.
-use Prim.Native.Nat.{_≤_, _-_}
+-- `same_ints` meets its contract: the count, and then the records and ports.
+use mathlib.Core.Path.{ap}
+use lib.Dec.{eqb}
+use Rattle.model.proofs.Lists.{and-cong}
 use borrow.Author.Needs.{needs}
 use Rattle.treecheck.proofs.same_ints.Statement.{statement}
 use Rattle.treecheck.proofs.same_ints.Tie as tie
 
-abbrev Inv-loop : tie.InvT-loop
-Inv-loop t d same₀ i₀ same i = i ≤ 15
-
-abbrev μ-loop : tie.MeasureT-loop
-μ-loop t d same₀ i₀ same i = 15 - i
+returns : tie.Need-returns
+returns c = and-cong (ap (eqb _) (c .before .ints .ensures)) (c .same-interconnects .ensures)
 
 pub same-ints-spec : {M : Type 1} → statement M
-same-ints-spec = tie.close (tie.spec Inv-loop μ-loop (λ c. search needs) (λ c κs. search needs) (λ c. search needs) (λ c κs. search needs) (λ c. search needs) (λ c κs. search needs) (λ c κs. search needs) (λ c. search needs) (λ c. search needs) (λ c. search needs) (λ c. search needs))
+same-ints-spec = tie.close (tie.spec (λ c. search needs) (λ c κs. search needs) (λ c κs. search needs) returns)

@@ -1,0 +1,28 @@
+-- `same_turns` meets its contract: the loop has tested each interconnect below the next one.
+use Prim.Native.Nat.{_≤_, _-_}
+use mathlib.Core.Path.{_≡_, ap, sym, _∙_}
+use native.Mathlib.Omega.{arith}
+use Rattle.folds.specs.Fold.{all}
+use Rattle.model.proofs.Sums.{all-none, all-turn, all-end}
+use Rattle.callcheck.specs.Same.{sameTurn}
+use borrow.Author.Needs.{needs}
+use Rattle.callcheck.proofs.same_turns.Statement.{statement}
+use Rattle.callcheck.proofs.same_turns.Tie as tie
+
+abbrev Inv-loop : tie.InvT-loop
+Inv-loop s d same₀ j₀ same j = (j ≤ 15) × (same ≡ all j (λ i. sameTurn s i d))
+
+abbrev μ-loop : tie.MeasureT-loop
+μ-loop s d same₀ j₀ same j = 15 - j
+
+loop-holds : tie.Need-loop-holds Inv-loop μ-loop
+loop-holds c = (search needs, sym (all-none _))
+
+loop-again : tie.Need-loop-again Inv-loop μ-loop
+loop-again c = (omega arith, all-turn _ (λ i. sameTurn (c .before .before .before .args .s) i (c .before .before .before .args .d .now)) _ _ (c .before .before .loop .inv .1) (c .same-turn .ensures))
+
+returns : tie.Need-returns Inv-loop μ-loop
+returns c = all-end _ 15 (λ i. sameTurn (c .before .before .args .s) i (c .before .before .args .d .now)) _ (c .before .loop .inv .1) (c .before .loop .inv .0) (c .loop-test .left)
+
+pub same-turns-spec : {M : Type 1} → statement M
+same-turns-spec = tie.close (tie.spec Inv-loop μ-loop loop-holds (λ c κs. search needs) (λ c. search needs) (λ c. search needs) loop-again returns)

@@ -1,0 +1,41 @@
+// The requests of an accepted trace, walked in its bytes, beside the lines of the log.
+use second::requests::acc_at;
+use second::requests::count_at;
+use second::requests::lines;
+use second::requests::slot_at;
+use trace::NextRequest;
+use trace::Request;
+use trace::request_at;
+ghost use mathlib.Core.Path.{_≡_};
+ghost use Rattle.crosscheck.specs.Same.{sameRequest};
+
+fn same_request(r: Request, slot: usize, a: usize, count: usize) -> bool
+    ensures { λ b. ⌜ b ≡ sameRequest r slot a count ⌝ }
+{
+    (r.slot as usize == slot) & (r.accelerator as usize == a) & (r.count as usize == count)
+}
+
+// Is there no request at the place?
+fn ends(s: &[u8], at: usize) -> bool {
+    let x = request_at(s, at);
+    let NextRequest::Done = x else {
+        return false;
+    };
+    true
+}
+
+// Is each request that of its line in the log, and is there none at the end of the last one, which is the file's?
+pub fn same_requests(s: &[u8], d: &[usize; 16384]) -> bool {
+    let mut at = 0;
+    for i in 0..lines(d) {
+        let x = request_at(s, at);
+        let NextRequest::Due(r, next) = x else {
+            return false;
+        };
+        if !same_request(r, slot_at(d, i), acc_at(d, i), count_at(d, i)) {
+            return false;
+        }
+        at = next;
+    }
+    (at == s.len()) & ends(s, at)
+}
