@@ -11,6 +11,7 @@
 -- sameOutcome x k e      an exported run: kind k, number, line, slots
 -- sameRow x s r          an exported bound: the refusal s, or number and line 0, and all seven figures
 -- samePage x n s         an exported report: n bytes, number and line
+-- sameCount x n s        an exported number of accelerators: n, number and line
 -- sameRequest x s a n    a request: slot s, accelerator a, count n
 use Prim.Native.Nat.{ℕ}
 use mathlib.Core.Bool.{Bool, true, false, _&&_, not}
@@ -22,6 +23,7 @@ use Rattle.lines.specs.declared.FileAnswer.{FileAnswer}
 use Rattle.lines.specs.Answer.{answerNumber, answerLine}
 use Rattle.bounds.specs.declared.Figures.{Figures}
 use Rattle.trace.specs.declared.Request.{Request}
+use Rattle.answers.specs.declared.Count.{Count}
 use Rattle.answers.specs.declared.Reading.{Reading}
 use Rattle.answers.specs.declared.Outcome.{Outcome}
 use Rattle.answers.specs.declared.Row.{Row}
@@ -74,14 +76,17 @@ sameRow x s r =
     && eqb (x .line) (s .line)
     && eqb (x .level) (r .level)
     && eqb (x .share) (r .share)
-    && eqb (x .reads) (r .reads)
-    && eqb (x .writes) (r .writes)
+    && eqb (x .yr) (r .reads)
+    && eqb (x .yw) (r .writes)
     && eqb (x .response) (r .response)
     && eqb (x .period) (r .period)
     && sameFlag (x .meets) (r .meets)
 
 abbrev pub samePage : Page → ℕ → Said → Bool
 samePage x n s = eqb (x .bytes) n && eqb (x .number) (s .number) && eqb (x .line) (s .line)
+
+abbrev pub sameCount : Count → ℕ → Said → Bool
+sameCount x n s = eqb (x .accelerators) n && eqb (x .number) (s .number) && eqb (x .line) (s .line)
 
 abbrev pub sameRequest : Request → ℕ → ℕ → ℕ → Bool
 sameRequest x s a n = eqb (x .slot) s && eqb (x .accelerator) a && eqb (x .count) n

@@ -6,11 +6,13 @@ use crate::compare::same_pages;
 use crate::compare::same_slices;
 use crate::compare::second_run;
 use crate::results::EXPORTS;
+use answers::Count;
 use answers::Outcome;
 use answers::Reading;
 use answers::Row;
 use razhikum::Page;
 use razhikum::razhikum_bound;
+use razhikum::razhikum_count;
 use razhikum::razhikum_read_trace;
 use razhikum::razhikum_read_tree;
 use razhikum::razhikum_report;
@@ -31,7 +33,7 @@ use store::note;
 ghost use mathlib.Core.Path.{_≡_};
 ghost use lib.Dec.{eqb};
 ghost use Rattle.folds.specs.Fold.{pick};
-ghost use Rattle.crosscheck.specs.Same.{sameReading, kindOf, sameOutcome, sameRow, samePage};
+ghost use Rattle.crosscheck.specs.Same.{sameReading, kindOf, sameOutcome, sameRow, samePage, sameCount};
 
 // The file that a reading names: this one if it is refused.
 fn named(file: usize, number: usize) -> usize
@@ -80,8 +82,8 @@ fn same_row(x: Row, s: Said, r: Expected) -> bool
         & (x.line as usize == s.line)
         & (x.level as usize == r.level)
         & (x.share as usize == r.share)
-        & (x.reads as usize == r.reads)
-        & (x.writes as usize == r.writes)
+        & (x.yr as usize == r.reads)
+        & (x.yw as usize == r.writes)
         & (x.response as usize == r.response)
         & (x.period as usize == r.period)
         & same_flag(x.meets, r.meets)
@@ -91,6 +93,22 @@ fn same_page(x: Page, n: usize, s: Said) -> bool
     ensures { λ r. ⌜ r ≡ samePage x n s ⌝ }
 {
     (x.bytes == n) & (x.number as usize == s.number) & (x.line as usize == s.line)
+}
+
+fn same_count(x: Count, n: usize, s: Said) -> bool
+    ensures { λ r. ⌜ r ≡ sameCount x n s ⌝ }
+{
+    (x.accelerators as usize == n) & (x.number as usize == s.number) & (x.line as usize == s.line)
+}
+
+// The number of accelerators, none where the tree is refused.
+fn try_count(tree: &[u8], s: Said, d: &mut [usize; 16384]) {
+    let x = razhikum_count(tree);
+    let mut n = 0;
+    if s.number == 0 {
+        n = accs(d);
+    }
+    note(d, DIFFERENCES, 0, same_count(x, n, s));
 }
 
 // The refusal of a bound of accelerator a: that of the tree, or one that has no line.
@@ -168,6 +186,7 @@ pub fn try_tree_exports(tree: &[u8], s: Said, d: &mut [usize; 16384]) {
     let reading = razhikum_read_tree(tree);
     note(d, DIFFERENCES, 0, same_reading(reading, 1, s));
     add(d, EXPORTS, 0, 1);
+    try_count(tree, s, d);
     try_bounds(tree, s, d);
     try_report(tree, s, d);
     if s.number != 0 {
