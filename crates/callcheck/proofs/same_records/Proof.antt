@@ -19,10 +19,14 @@ loop-holds : tie.Need-loop-holds Inv-loop μ-loop
 loop-holds c = (search needs, sym (all-none _))
 
 loop-again : tie.Need-loop-again Inv-loop μ-loop
-loop-again c = (omega arith, all-turn _ (λ i. sameRecord (c .before .before .before .args .s) i (c .before .before .before .args .d .now)) _ _ (c .before .before .loop .inv .1) (c .same-record .ensures))
+loop-again c =
+    let a = c .before .before .before .args in
+    (omega arith, all-turn _ (λ i. sameRecord (a .s) i (a .d .now)) _ _ (c .before .before .loop .inv .1) (c .same-record .ensures))
 
 returns : tie.Need-returns Inv-loop μ-loop
-returns c = all-end _ 32 (λ i. sameRecord (c .before .before .args .s) i (c .before .before .args .d .now)) _ (c .before .loop .inv .1) (c .before .loop .inv .0) (c .loop-test .left)
+returns c =
+    let a = c .before .before .args in
+    all-end _ 32 (λ i. sameRecord (a .s) i (a .d .now)) _ (c .before .loop .inv .1) (c .before .loop .inv .0) (c .loop-test .left)
 
 pub same-records-spec : {M : Type 1} → statement M
 same-records-spec = tie.close (tie.spec Inv-loop μ-loop loop-holds (λ c κs. search needs) (λ c. search needs) (λ c. search needs) loop-again returns)

@@ -25,7 +25,9 @@ loop-holds c = (search needs, refl)
 
 loop-again : tie.Need-loop-again Inv-loop μ-loop
 loop-again c =
-    (omega arith, c .put .ensures ∙ ap (λ (l : List ℕ). stored l (c .before .before .before .before .args .part) (c .before .before .before .loop .i) 0) (c .before .before .before .loop .inv .1) ∙ sym (one-more _ _ _))
+    let p = c .before .before .before .before .args .part in
+    let l = c .before .before .before .loop in
+    (omega arith, c .put .ensures ∙ ap (λ (z : List ℕ). stored z p (l .i) 0) (l .inv .1) ∙ sym (one-more _ _ _))
 
 returns : tie.Need-returns Inv-loop μ-loop
 returns c = c .before .loop .inv .1 ∙ ap (cleared (c .before .before .args .d .now) (c .before .before .args .part)) (omega arith)

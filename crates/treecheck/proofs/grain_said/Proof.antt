@@ -7,7 +7,8 @@ use Rattle.treecheck.proofs.grain_said.Tie as tie
 returns : tie.Need-returns
 returns c =
     let a = c .before .before .before .before .args in
-    said-here (a .d .now) _ _ _ _ _ 3 _ (c .before .before .before .ints .ensures) (c .before .before .if1 .taken) (c .before .int-row .ensures) (c .cell .ensures)
+    said-here (a .d .now) _ _ _ _ _ 3 _ (c .before .before .before .ints .ensures)
+    (c .before .before .if1 .taken) (c .before .int-row .ensures) (c .cell .ensures)
 
 returns-2 : tie.Need-returns-2
 returns-2 c = said-past _ _ _ _ (c .before .ints .ensures) (c .if1 .left)

@@ -13,7 +13,8 @@ returns c = sym (picked _ _ _ (eq-eqb _ _ (c .if1 .taken)))
 returns-2 : tie.Need-returns-2
 returns-2 c =
     let a = c .before .before .before .before .before .args in
-    said-here (a .d .now) _ _ _ _ _ (a .column) _ (c .before .before .before .ints .ensures) (c .before .before .if2 .taken) (c .before .int-row .ensures) (c .cell .ensures)
+    said-here (a .d .now) _ _ _ _ _ (a .column) _ (c .before .before .before .ints .ensures)
+    (c .before .before .if2 .taken) (c .before .int-row .ensures) (c .cell .ensures)
     ∙ sym (passed _ _ _ (ne-eqb _ _ (c .before .before .before .before .if1 .left)))
 
 returns-3 : tie.Need-returns-3

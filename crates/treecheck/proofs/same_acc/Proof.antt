@@ -10,10 +10,12 @@ use Rattle.treecheck.proofs.same_acc.Tie as tie
 returns : tie.Need-returns
 unfolding sameAcc
 returns c =
-    (and-cong (and-cong (and-cong (and-cong (and-cong (and-cong (and-cong (ap (eqb _) (c .before .before .before .before .before .before .before .before .before .before .before .before .before .before .entry .ensures))
-    (ap (eqb _) (c .before .before .before .before .before .before .before .before .before .before .before .before .entry2 .ensures)))
-    (ap (eqb _) (c .before .before .before .before .before .before .before .before .before .before .entry3 .ensures)))
-    (ap (eqb _) (c .before .before .before .before .before .before .before .before .entry4 .ensures)))
+    let h = c .before .before .before .before .before .before .before .before in
+    (and-cong (and-cong (and-cong (and-cong (and-cong (and-cong (and-cong
+    (ap (eqb _) (h .before .before .before .before .before .before .entry .ensures))
+    (ap (eqb _) (h .before .before .before .before .entry2 .ensures)))
+    (ap (eqb _) (h .before .before .entry3 .ensures)))
+    (ap (eqb _) (h .entry4 .ensures)))
     (ap (eqb _) (c .before .before .before .before .before .before .entry5 .ensures)))
     (ap (eqb _) (c .before .before .before .before .entry6 .ensures)))
     (ap (eqb _) (c .before .before .entry7 .ensures)))

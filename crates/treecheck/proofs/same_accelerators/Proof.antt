@@ -29,7 +29,10 @@ loop-again c =
     )
 
 returns : tie.Need-returns Inv-loop μ-loop
-returns c = all-end _ 32 (λ b. sameAcc (acceleratorOf (c .before .before .args .t) b) b (c .before .before .args .d .now)) _ (c .before .loop .inv .1) (c .before .loop .inv .0) (c .loop-test .left)
+returns c =
+    let a = c .before .before .args in
+    let l = c .before .loop in
+    all-end _ 32 (λ b. sameAcc (acceleratorOf (a .t) b) b (a .d .now)) _ (l .inv .1) (l .inv .0) (c .loop-test .left)
 
 pub same-accelerators-spec : {M : Type 1} → statement M
 same-accelerators-spec =

@@ -10,11 +10,13 @@ use Rattle.treecheck.proofs.same_bus.Tie as tie
 returns : tie.Need-returns
 unfolding sameBus
 returns c =
-    (and-cong (and-cong (and-cong (and-cong (and-cong (and-cong (and-cong (and-cong (and-cong (ap (eqb _) (c .before .before .before .before .before .before .before .before .before .before .before .before .before .before .before .before .before .before .cell .ensures))
-    (ap (eqb _) (c .before .before .before .before .before .before .before .before .before .before .before .before .before .before .before .before .cell2 .ensures)))
-    (ap (eqb _) (c .before .before .before .before .before .before .before .before .before .before .before .before .before .before .cell3 .ensures)))
-    (ap (eqb _) (c .before .before .before .before .before .before .before .before .before .before .before .before .cell4 .ensures)))
-    (ap (eqb _) (c .before .before .before .before .before .before .before .before .before .before .cell5 .ensures)))
+    let h = c .before .before .before .before .before .before .before .before .before .before in
+    (and-cong (and-cong (and-cong (and-cong (and-cong (and-cong (and-cong (and-cong (and-cong
+    (ap (eqb _) (h .before .before .before .before .before .before .before .before .cell .ensures))
+    (ap (eqb _) (h .before .before .before .before .before .before .cell2 .ensures)))
+    (ap (eqb _) (h .before .before .before .before .cell3 .ensures)))
+    (ap (eqb _) (h .before .before .cell4 .ensures)))
+    (ap (eqb _) (h .cell5 .ensures)))
     (ap (eqb _) (c .before .before .before .before .before .before .before .before .cell6 .ensures)))
     (ap (eqb _) (c .before .before .before .before .before .before .cell7 .ensures)))
     (ap (eqb _) (c .before .before .before .before .cell8 .ensures)))

@@ -8,7 +8,11 @@ use Rattle.treecheck.proofs.same_interconnect.Statement.{statement}
 use Rattle.treecheck.proofs.same_interconnect.Tie as tie
 
 returns : tie.Need-returns
-returns c = and-cong (c .before .same-int .ensures ∙ ap (λ (x : Interconnect). sameInt x (c .before .before .before .args .i) (c .before .before .before .args .d .now)) (c .before .before .interconnect-at .ensures)) (c .same-ports .ensures)
+returns c =
+    let a = c .before .before .before .args in
+    and-cong
+    (c .before .same-int .ensures ∙ ap (λ (x : Interconnect). sameInt x (a .i) (a .d .now)) (c .before .before .interconnect-at .ensures))
+    (c .same-ports .ensures)
 
 pub same-interconnect-spec : {M : Type 1} → statement M
 same-interconnect-spec = tie.close (tie.spec (λ c κs. search needs) (λ c κs. search needs) (λ c κs. search needs) returns)

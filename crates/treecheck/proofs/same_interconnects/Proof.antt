@@ -1,8 +1,8 @@
 -- `same_interconnects` meets its contract: the loop has tested each number below the next one.
-use Prim.Native.Nat.{_≤_, _-_}
+use Prim.Native.Nat.{ℕ, _≤_, _-_}
 use mathlib.Core.Path.{_≡_, ap, sym, _∙_}
 use native.Mathlib.Omega.{arith}
-use mathlib.Core.Bool.{_&&_}
+use mathlib.Core.Bool.{Bool, _&&_}
 use Rattle.folds.specs.Fold.{all}
 use Rattle.model.proofs.Sums.{all-none, all-turn, all-end}
 use Rattle.model.specs.Tree.{interconnectOf}
@@ -21,10 +21,16 @@ loop-holds : tie.Need-loop-holds Inv-loop μ-loop
 loop-holds c = (search needs, sym (all-none _))
 
 loop-again : tie.Need-loop-again Inv-loop μ-loop
-loop-again c = (omega arith, all-turn _ (λ j. sameInt (interconnectOf (c .before .before .before .args .t) j) j (c .before .before .before .args .d .now) && samePorts (c .before .before .before .args .t) j (c .before .before .before .args .d .now)) _ _ (c .before .before .loop .inv .1) (c .same-interconnect .ensures))
+loop-again c =
+    let a = c .before .before .before .args in
+    let f : ℕ → Bool = (λ j. sameInt (interconnectOf (a .t) j) j (a .d .now) && samePorts (a .t) j (a .d .now)) in
+    (omega arith, all-turn _ f _ _ (c .before .before .loop .inv .1) (c .same-interconnect .ensures))
 
 returns : tie.Need-returns Inv-loop μ-loop
-returns c = all-end _ 15 (λ j. sameInt (interconnectOf (c .before .before .args .t) j) j (c .before .before .args .d .now) && samePorts (c .before .before .args .t) j (c .before .before .args .d .now)) _ (c .before .loop .inv .1) (c .before .loop .inv .0) (c .loop-test .left)
+returns c =
+    let a = c .before .before .args in
+    let f : ℕ → Bool = (λ j. sameInt (interconnectOf (a .t) j) j (a .d .now) && samePorts (a .t) j (a .d .now)) in
+    all-end _ 15 f _ (c .before .loop .inv .1) (c .before .loop .inv .0) (c .loop-test .left)
 
 pub same-interconnects-spec : {M : Type 1} → statement M
 same-interconnects-spec = tie.close (tie.spec Inv-loop μ-loop loop-holds (λ c κs. search needs) (λ c. search needs) (λ c. search needs) loop-again returns)

@@ -1,5 +1,6 @@
 -- `same_ports` meets its contract: the loop has tested each port below the next one.
 use Prim.Native.Nat.{ℕ, _≤_, _-_}
+use mathlib.Core.Bool.{Bool}
 use mathlib.Core.Path.{_≡_, ap, sym, _∙_}
 use native.Mathlib.Omega.{arith}
 use Rattle.folds.specs.Fold.{all}
@@ -32,7 +33,10 @@ loop-again c =
     )
 
 returns : tie.Need-returns Inv-loop μ-loop
-returns c = all-end _ 8 (λ q. eqb (codeOf (portOf (c .before .before .args .t) (c .before .before .args .i) q)) (carriedOf (c .before .before .args .d .now) (c .before .before .args .i) q)) _ (c .before .loop .inv .1) (c .before .loop .inv .0) (c .loop-test .left)
+returns c =
+    let a = c .before .before .args in
+    let f : ℕ → Bool = λ q. eqb (codeOf (portOf (a .t) (a .i) q)) (carriedOf (a .d .now) (a .i) q) in
+    all-end _ 8 f _ (c .before .loop .inv .1) (c .before .loop .inv .0) (c .loop-test .left)
 
 pub same-ports-spec : {M : Type 1} → statement M
 same-ports-spec =

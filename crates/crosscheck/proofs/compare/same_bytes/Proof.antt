@@ -24,7 +24,8 @@ returns c = let z : leb (c .before .args .n) 65537 ≡ false = lt-leb _ _ (c .if
 returns-2 : tie.Need-returns-2
 returns-2 c =
     let a = c .before .before .before .before .before .args in
-    c .same-slices .ensures ∙ halves (a .out .now) (a .n) (a .n - 0) (65537 + a .n - 65537) (omega arith) (omega arith) (c .before .before .before .before .if1 .left)
+    c .same-slices .ensures
+    ∙ halves (a .out .now) (a .n) (a .n - 0) (65537 + a .n - 65537) (omega arith) (omega arith) (c .before .before .before .before .if1 .left)
 
 pub same-bytes-spec : {M : Type 1} → statement M
 same-bytes-spec =

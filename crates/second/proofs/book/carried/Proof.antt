@@ -27,7 +27,9 @@ loop-again c = (
 )
 
 returns : tie.Need-returns Inv-loop μ-loop
-returns c = c .before .loop .inv .1 ∙ ap (λ (n : ℕ). carriedBelow n (c .before .before .args .d .now) (c .before .before .args .i) (c .before .before .args .p)) (omega arith)
+returns c =
+    let a = c .before .before .args in
+    c .before .loop .inv .1 ∙ ap (λ (n : ℕ). carriedBelow n (a .d .now) (a .i) (a .p)) (omega arith)
 
 pub carried-spec : {M : Type 1} → statement M
 carried-spec =
