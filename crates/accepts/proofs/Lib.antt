@@ -6,3 +6,5 @@ pub mod Complete
 pub mod Back
 pub mod Exactly
 pub mod Refusals
+pub mod TraceExactly
+pub mod TraceRefusals

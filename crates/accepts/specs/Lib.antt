@@ -1,2 +1,4 @@
 pub mod TreeText
 pub mod TreeRefused
+pub mod TraceText
+pub mod TraceRefused

@@ -1,4 +1,5 @@
--- What a reader, a run and a bound answer, as numbers, from the definitions of document 01 that the libraries below cite.
+-- What a reader, a run, a wait and a bound answer, as numbers, from the definitions of documents 01 and 02 that the libraries
+-- below cite.
 --
 -- isAccepted x          a reader's answer x is "accepted"
 -- fileRefused f x       0 if so, else f, the file that is refused
@@ -8,6 +9,9 @@
 -- refusedBy k n l       an outcome of kind k, refused by number n at line l
 -- outcomeOf x           how a run ended, as numbers: kind 0 done, 1 stopped, 3 refused
 -- treeRefused x         the outcome where the tree's reading answers the refusal x: kind 2
+-- noWait k n l          no wait is told: kind k, refused by number n at line l
+-- waitOf x              how a transaction waited, as numbers: kind 0 told, with the count of all slots and the slot of admission; 3
+--                       refused with a line, or 0 for a size; 4 refused without one
 -- unbounded n l         no bounds, refused by number n at line l
 -- rowOf x               what a bound answers, as numbers; yr and yw are the interference of its reads and of its writes; 7 and 11
 --                       have no line
@@ -18,10 +22,12 @@ use Rattle.lines.specs.Answer.{answerNumber, answerLine}
 use Rattle.lines.specs.declared.FileAnswer.{FileAnswer}
 use Rattle.lines.specs.declared.FileAnswer.the-variants.{Accepted, Refused, Broken}
 use Rattle.runner.specs.Run.{Ending, refusedAt, broken, done, stopped}
+use Rattle.waits.specs.Why.{Why, refusedAt as atLine, denied, waited}
 use Rattle.bounds.specs.Bounds.{BoundResult, refused, analysed}
 use Rattle.answers.specs.declared.Reading.{Reading}
 use Rattle.answers.specs.declared.Count.{Count}
 use Rattle.answers.specs.declared.Outcome.{Outcome}
+use Rattle.answers.specs.declared.Wait.{Wait}
 use Rattle.answers.specs.declared.Row.{Row}
 
 abbrev pub isAccepted : FileAnswer → Bool
@@ -52,6 +58,14 @@ outcomeOf (stopped n) = record { kind = 1; number = 0; line = 0; slots = n }
 
 abbrev pub treeRefused : FileAnswer → Outcome
 treeRefused x = refusedBy 2 (answerNumber x) (answerLine x)
+
+abbrev pub noWait : ℕ → ℕ → ℕ → Wait
+noWait k n l = record { kind = k; number = n; line = l; count = 0; slot = 0 }
+
+abbrev pub waitOf : Why → Wait
+waitOf (atLine n l) = noWait 3 n l
+waitOf (denied n) = noWait 4 n 0
+waitOf (waited n m) = record { kind = 0; number = 0; line = 0; count = n; slot = m }
 
 abbrev pub unbounded : ℕ → ℕ → Row
 unbounded n l =

@@ -1,5 +1,5 @@
-// What a reader, a run and a bound answer, as numbers: an enum cannot cross to C, so each exported function of `razhikum`
-// answers a struct of these.
+// What a reader, a run, a wait and a bound answer, as numbers: an enum cannot cross to C, so each exported function of
+// `razhikum` answers a struct of these.
 //
 // Every answer carries document 01's number of a refusal, 0 where nothing is refused, and the refusal's line, 0 where it
 // has none.
@@ -9,10 +9,12 @@ use lines::answer_line;
 use lines::answer_number;
 use model::number;
 use runner::RunAnswer;
+use waits::WhyAnswer;
 ghost use mathlib.Core.Path.{_≡_};
 ghost use Rattle.runner.specs.Answers.{runMeans};
+ghost use Rattle.waits.specs.Answers.{whyMeans};
 ghost use Rattle.bounds.specs.Bounds.{meaningOf};
-ghost use Rattle.answers.specs.Numbers.{isAccepted, fileRefused, readingOf, acceptedCount, countOf, outcomeOf, treeRefused, rowOf, unbounded};
+ghost use Rattle.answers.specs.Numbers.{isAccepted, fileRefused, readingOf, acceptedCount, countOf, outcomeOf, treeRefused, noWait, waitOf, rowOf, unbounded};
 
 // What a reader answers. `file` says which file is refused: 0 neither, 1 the tree, 2 the trace.
 #[repr(C)]
@@ -30,6 +32,18 @@ pub struct Outcome {
     pub number: u8,
     pub line: u32,
     pub slots: u32,
+}
+
+// How a transaction waited. `kind` is 0 where it is told, 2 where the tree is refused, 3 where the trace or the size of the buffer
+// is, 4 where the accelerator or the number is, without a line. `count` is the number of slots that it waited, `slot` that of its
+// admission: both 0 on a refusal.
+#[repr(C)]
+pub struct Wait {
+    pub kind: u8,
+    pub number: u8,
+    pub line: u32,
+    pub count: u32,
+    pub slot: u32,
 }
 
 // The bounds of an accelerator, by the names of the report's columns: all 0 and not met on a refusal.
@@ -148,6 +162,38 @@ pub fn tree_refused(answer: FileAnswer) -> Outcome
         number: answer_number(answer),
         line: answer_line(answer),
         slots: 0,
+    }
+}
+
+// No wait is told: refused in that kind, by that number, at that line.
+pub fn no_wait(kind: u8, number: u8, at: u32) -> Wait
+    ensures { λ r. ⌜ r ≡ noWait kind number at ⌝ }
+{
+    Wait {
+        kind: kind,
+        number: number,
+        line: at,
+        count: 0,
+        slot: 0,
+    }
+}
+
+// How a transaction waited.
+pub fn wait_of(answer: WhyAnswer) -> Wait
+    ensures { λ r. ⌜ r ≡ waitOf (whyMeans answer) ⌝ }
+{
+    match answer {
+        WhyAnswer::Refused(r, n) => no_wait(3, number(r), n),
+        WhyAnswer::Broken => no_wait(4, 11, 0),
+        WhyAnswer::Unknown => no_wait(4, 7, 0),
+        WhyAnswer::NotServed => no_wait(4, 12, 0),
+        WhyAnswer::Waited(n, at) => Wait {
+            kind: 0,
+            number: 0,
+            line: 0,
+            count: n,
+            slot: at,
+        },
     }
 }
 

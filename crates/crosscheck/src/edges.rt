@@ -89,7 +89,7 @@ pub fn try_long(page: &mut [u8], d: &mut [usize; 16384], out: &mut [u8; 131074])
     for i in 0..7 {
         try_long_file(page, i, d, out);
     }
-    let late = b"o\t0\t0\t16\no\t65530\t1\t3\n";
+    let late = b"o\t0\t0\t16\no\t65534\t1\t3\n";
     try_file(late, false, d, out, 65536);
     try_file(late, false, d, out, 65537);
 }

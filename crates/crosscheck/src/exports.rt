@@ -1,105 +1,45 @@
 // What the static library exports, each field of each answer beside what `second` says of the same files.
 use crate::compare::fill;
-use crate::compare::same_bytes;
-use crate::compare::same_flag;
-use crate::compare::same_pages;
-use crate::compare::same_slices;
 use crate::compare::second_run;
 use crate::results::EXPORTS;
-use answers::Count;
+use crate::whys::Question;
+use crate::whys::next_question;
+use crate::whys::second_why;
+use answercheck::exported::kind_of;
+use answercheck::exported::kind_told;
+use answercheck::exported::same_count;
+use answercheck::exported::same_outcome;
+use answercheck::exported::same_page;
+use answercheck::exported::same_reading;
+use answercheck::exported::same_row;
+use answercheck::exported::same_wait;
+use answercheck::same_bytes;
+use answercheck::same_pages;
+use answercheck::same_slices;
+use answercheck::told_by;
 use answers::Outcome;
-use answers::Reading;
-use answers::Row;
-use razhikum::Page;
+use answers::Wait;
+use answers::no_wait;
 use razhikum::razhikum_bound;
 use razhikum::razhikum_count;
 use razhikum::razhikum_read_trace;
 use razhikum::razhikum_read_tree;
 use razhikum::razhikum_report;
 use razhikum::razhikum_run;
+use razhikum::razhikum_why;
 use second::NO_WRONG_RULE;
 use second::Said;
 use second::book::accs;
-use second::queues::Ended;
+use second::past::keep_run;
 use second::queues::refused;
-use second::response::Row as Expected;
 use second::response::bound_refusal;
 use second::response::figures;
 use second::response::no_figures;
 use second::sheet::write_report;
 use store::DIFFERENCES;
 use store::add;
+use store::get;
 use store::note;
-ghost use mathlib.Core.Path.{_≡_};
-ghost use lib.Dec.{eqb};
-ghost use Rattle.folds.specs.Fold.{pick};
-ghost use Rattle.crosscheck.specs.Same.{sameReading, kindOf, sameOutcome, sameRow, samePage, sameCount};
-
-// The file that a reading names: this one if it is refused.
-fn named(file: usize, number: usize) -> usize
-    ensures { λ r. ⌜ r ≡ pick (eqb number 0) 0 file ⌝ }
-{
-    if number == 0 {
-        return 0;
-    }
-    file
-}
-
-fn same_reading(r: Reading, file: usize, s: Said) -> bool
-    ensures { λ b. ⌜ b ≡ sameReading r file s ⌝ }
-{
-    (r.number as usize == s.number)
-        & (r.line as usize == s.line)
-        & (r.file as usize == named(file, s.number))
-}
-
-// A run that ended so on an accepted tree: 0 done, 1 stopped, 3 refused.
-fn kind_of(e: Ended) -> usize
-    ensures { λ r. ⌜ r ≡ kindOf e ⌝ }
-{
-    if e.number == 0 {
-        if e.done {
-            return 0;
-        }
-        return 1;
-    }
-    3
-}
-
-fn same_outcome(x: Outcome, kind: usize, e: Ended) -> bool
-    ensures { λ r. ⌜ r ≡ sameOutcome x kind e ⌝ }
-{
-    (x.kind as usize == kind)
-        & (x.number as usize == e.number)
-        & (x.line as usize == e.line)
-        & (x.slots as usize == e.slots)
-}
-
-fn same_row(x: Row, s: Said, r: Expected) -> bool
-    ensures { λ b. ⌜ b ≡ sameRow x s r ⌝ }
-{
-    (x.number as usize == s.number)
-        & (x.line as usize == s.line)
-        & (x.level as usize == r.level)
-        & (x.share as usize == r.share)
-        & (x.yr as usize == r.reads)
-        & (x.yw as usize == r.writes)
-        & (x.response as usize == r.response)
-        & (x.period as usize == r.period)
-        & same_flag(x.meets, r.meets)
-}
-
-fn same_page(x: Page, n: usize, s: Said) -> bool
-    ensures { λ r. ⌜ r ≡ samePage x n s ⌝ }
-{
-    (x.bytes == n) & (x.number as usize == s.number) & (x.line as usize == s.line)
-}
-
-fn same_count(x: Count, n: usize, s: Said) -> bool
-    ensures { λ r. ⌜ r ≡ sameCount x n s ⌝ }
-{
-    (x.accelerators as usize == n) & (x.number as usize == s.number) & (x.line as usize == s.line)
-}
 
 // The number of accelerators, none where the tree is refused.
 fn try_count(tree: &[u8], s: Said, d: &mut [usize; 16384]) {
@@ -163,7 +103,7 @@ fn try_report(tree: &[u8], s: Said, d: &mut [usize; 16384]) {
     );
 }
 
-// A tree that is refused comes before its trace, and leaves the buffer of a run.
+// A tree that is refused comes before its trace, and leaves the buffer of a run and of a wait.
 fn try_refused(tree: &[u8], s: Said, d: &mut [usize; 16384]) {
     let reading = razhikum_read_trace(tree, b"x");
     note(d, DIFFERENCES, 0, same_reading(reading, 1, s));
@@ -177,8 +117,17 @@ fn try_refused(tree: &[u8], s: Said, d: &mut [usize; 16384]) {
         0,
         same_outcome(x, 2, e) & same_slices(&theirs, &ours),
     );
+    let y = razhikum_why(tree, b"x", 0, 1, &mut theirs);
+    let w = told_by(s.number, s.line, 0, 0);
+    note(
+        d,
+        DIFFERENCES,
+        0,
+        same_wait(y, 2, w) & same_slices(&theirs, &ours),
+    );
     add(d, EXPORTS, 0, 1);
     add(d, EXPORTS, 5, 1);
+    add(d, EXPORTS, 7, 1);
 }
 
 // A tree file on which the second reader says s; the rows have its tree if it is accepted.
@@ -212,8 +161,61 @@ fn run_filled(tree: &[u8], trace: &[u8], out: &mut [u8]) -> Outcome {
     razhikum_run(tree, trace, out)
 }
 
-// A trace file on an accepted tree file, on which the second reader says s; the log has its lines. It is read, and run over n
-// bytes.
+fn why_filled(tree: &[u8], trace: &[u8], q: Question, out: &mut [u8]) -> Wait {
+    fill(out);
+    razhikum_why(tree, trace, q.accelerator, q.number, out)
+}
+
+// The exported answer why a transaction waited, over the first bytes.
+fn exported_why(tree: &[u8], trace: &[u8], q: Question, out: &mut [u8]) -> Wait {
+    let n = q.size;
+    if out.len() < n {
+        return no_wait(255, 0, 0);
+    }
+    why_filled(tree, trace, q, &mut out[0..n])
+}
+
+// A question to accelerator a of the trace, which the tree may not have.
+fn try_wait(
+    tree: &[u8],
+    trace: &[u8],
+    s: Said,
+    d: &mut [usize; 16384],
+    past: &[usize],
+    a: u8,
+    out: &mut [u8; 131074],
+) {
+    let turn = get(d, EXPORTS, 6);
+    let q = next_question(d, past, a, turn, out);
+    let x = exported_why(tree, trace, q, out);
+    let w = second_why(s, d, past, q, out, NO_WRONG_RULE);
+    note(
+        d,
+        DIFFERENCES,
+        0,
+        same_wait(x, kind_told(w), w) & same_bytes(out, q.size),
+    );
+    add(d, EXPORTS, 6, 1);
+}
+
+// A question to each trace, unless its run goes on after these slots; its accelerators and one past the last come in turn.
+fn try_waits(tree: &[u8], trace: &[u8], s: Said, d: &mut [usize; 16384], out: &mut [u8; 131074]) {
+    let a = get(d, EXPORTS, 6) % (accs(d) % 255 + 1);
+    let mut slots = [0usize; 1000];
+    if s.number != 0 {
+        let none = &slots[..];
+        try_wait(tree, trace, s, d, &none[0..0], (a % 256) as u8, out);
+        return;
+    }
+    let n = keep_run(d, &mut slots) % 1001;
+    if n < 1000 {
+        let all = &slots[..];
+        try_wait(tree, trace, s, d, &all[0..n], (a % 256) as u8, out);
+    }
+}
+
+// A trace file on an accepted tree file, on which the second reader says s; the log has its lines. It is read, run over n bytes,
+// and asked for a wait.
 pub fn try_trace_exports(
     tree: &[u8],
     trace: &[u8],
@@ -234,4 +236,5 @@ pub fn try_trace_exports(
         same_outcome(x, kind_of(e), e) & same_bytes(out, n),
     );
     add(d, EXPORTS, 4, 1);
+    try_waits(tree, trace, s, d, out);
 }

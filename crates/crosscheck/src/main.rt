@@ -1,4 +1,4 @@
-// The library's readers, machine, runner and bounds, run beside those of `second` on the generated and the listed inputs of
+// The library's readers, machine, runner, bounds and waits, run beside those of `second` on the generated and the listed inputs of
 // `generator`. It writes how many inputs of each kind there were, how often each of several wrong rules, followed on
 // purpose, was seen, and last how many differences there are.
 mod compare;
@@ -7,6 +7,7 @@ mod exports;
 mod results;
 mod trials;
 mod walked;
+mod whys;
 
 use crate::edges::try_case_11;
 use crate::edges::try_listed;

@@ -1,17 +1,30 @@
 // The counts that the program keeps in the store, and their labels.
+use alter::tangle::ACCELERATOR_TWICE;
+use alter::tangle::CYCLE;
+use alter::tangle::EACH_OTHER;
+use alter::tangle::INTERCONNECT_TWICE;
+use alter::tangle::UNUSED_ACCELERATOR;
+use alter::tangle::UNUSED_INTERCONNECT;
+use alter::tangle::UNUSED_PORT;
 use callcheck::OFFERS;
 use callcheck::SLOTS as SLOT_CALLS;
 use callcheck::STARTS;
 use libc::STDOUT_FILENO;
+use second::ADMITTED_LATE;
 use second::BUDGET_FIRST;
 use second::FALLING_FIRST;
 use second::FROM_ZERO;
 use second::GROWING;
+use second::HALF_PAIR;
 use second::LAST_FIRST;
 use second::LOWER_RESET;
 use second::NESTED;
+use second::NUMBER_FIRST;
 use second::ORDER_FIRST;
+use second::OWN_MEETS;
 use second::OWN_PORT;
+use second::ROOT_MEETS;
+use second::SERVICE_LISTED;
 use second::SIZE_FIRST;
 use second::TRACE_FIRST;
 use second::UNKNOWN_FIRST;
@@ -19,13 +32,6 @@ use second::WHOLE_RUN;
 use store::DIFFERENCES;
 use store::WRONG;
 use store::get;
-use treecheck::tangle::ACCELERATOR_TWICE;
-use treecheck::tangle::CYCLE;
-use treecheck::tangle::EACH_OTHER;
-use treecheck::tangle::INTERCONNECT_TWICE;
-use treecheck::tangle::UNUSED_ACCELERATOR;
-use treecheck::tangle::UNUSED_INTERCONNECT;
-use treecheck::tangle::UNUSED_PORT;
 
 // The counts. Trees by the number of their answer, 0 where accepted.
 pub const TREES: usize = 3072;
@@ -72,17 +78,35 @@ pub const RUN_REFUSALS: usize = 3168;
 pub const BOUND_ANSWERS: usize = 3184;
 
 // What the static library exports, called: 0 readings, 1 bounds, 2 reports, 3 reports that leave the page, 4 runs, 5 runs refused
-// by the tree.
+// by the tree, 6 waits, 7 waits refused by the tree.
 pub const EXPORTS: usize = 3248;
 
 // Lines of accepted traces whose request was looked up in the bytes.
 pub const REQUESTS: usize = 3256;
 
-// Configurations that break their rules in one of the ways of `treecheck::tangle`.
+// Configurations that break their rules in one of the ways of `alter::tangle`.
 pub const TANGLED: usize = 3264;
 
+// Questions why a transaction waited, by the number of their answer.
+pub const WHYS: usize = 3280;
+
+// Of those told the slots waited, those served in the slot of admission, and those whose list is longer than the buffer.
+pub const WHY_SLOTS: usize = 3328;
+
+pub const WHYS_AT_ONCE: usize = 3329;
+
+pub const WHYS_CUT: usize = 3330;
+
+// Questions whose turn chose the buffer.
+pub const WHYS_ASKED: usize = 3331;
+
+// Runs that are so long that not each is asked of, and all runs that are.
+pub const LONG_RUNS: usize = 3332;
+
+pub const RUNS_ASKED: usize = 3333;
+
 // What the program writes: a label to each line,
-const LABELS: [u8; 2084] = *b"trees accepted\n\
+const LABELS: [u8; 2689] = *b"trees accepted\n\
     trees accepted, 1 level\n\
     trees accepted, 2 levels\n\
     trees accepted, 3 levels\n\
@@ -138,12 +162,25 @@ const LABELS: [u8; 2084] = *b"trees accepted\n\
     altered: a number in an unused accelerator\n\
     altered: a port of an unused interconnect\n\
     requests looked up line by line\n\
+    runs asked for waits of every accelerator\n\
+    waits told\n\
+    waits told, served in the slot of admission\n\
+    waits told, longer than the buffer\n\
+    slots of the waits told\n\
+    waits refused by 1\n\
+    waits refused by 2\n\
+    waits refused by 6\n\
+    waits refused by 7\n\
+    waits refused by 11\n\
+    waits refused by 12\n\
     exports: readings\n\
     exports: bounds\n\
     exports: reports\n\
     exports: reports refused, the page left\n\
     exports: runs on an accepted tree\n\
     exports: runs refused by the tree\n\
+    exports: waits on an accepted tree\n\
+    exports: waits refused by the tree\n\
     wrong: 3 tested before 2, trees seen\n\
     wrong: 6 tested before 7, traces seen\n\
     wrong: budgets over the whole run, runs seen\n\
@@ -157,10 +194,16 @@ const LABELS: [u8; 2084] = *b"trees accepted\n\
     wrong: 10 tested before 11, slots seen\n\
     wrong: buffer tested before 11, runs seen\n\
     wrong: trace tested before the buffer, runs seen\n\
+    wrong: the slot of service listed, waits seen\n\
+    wrong: admission one slot late, waits seen\n\
+    wrong: the root for the meeting point, waits seen\n\
+    wrong: own told as an interconnect, waits seen\n\
+    wrong: half a pair written, waits seen\n\
+    wrong: 12 tested before 7, waits seen\n\
     differences\n";
 
 // and where its count stands.
-const PLACES: [usize; 76] = [
+const PLACES: [usize; 95] = [
     TREES,
     LEVELS + 1,
     LEVELS + 2,
@@ -217,12 +260,25 @@ const PLACES: [usize; 76] = [
     TANGLED + UNUSED_ACCELERATOR,
     TANGLED + UNUSED_PORT,
     REQUESTS,
+    RUNS_ASKED,
+    WHYS,
+    WHYS_AT_ONCE,
+    WHYS_CUT,
+    WHY_SLOTS,
+    WHYS + 1,
+    WHYS + 2,
+    WHYS + 6,
+    WHYS + 7,
+    WHYS + 11,
+    WHYS + 12,
     EXPORTS,
     EXPORTS + 1,
     EXPORTS + 2,
     EXPORTS + 3,
     EXPORTS + 4,
     EXPORTS + 5,
+    EXPORTS + 6,
+    EXPORTS + 7,
     WRONG + ORDER_FIRST,
     WRONG + FALLING_FIRST,
     WRONG + WHOLE_RUN,
@@ -236,6 +292,12 @@ const PLACES: [usize; 76] = [
     WRONG + LAST_FIRST,
     WRONG + SIZE_FIRST,
     WRONG + TRACE_FIRST,
+    WRONG + SERVICE_LISTED,
+    WRONG + ADMITTED_LATE,
+    WRONG + ROOT_MEETS,
+    WRONG + OWN_MEETS,
+    WRONG + HALF_PAIR,
+    WRONG + NUMBER_FIRST,
     DIFFERENCES,
 ];
 
@@ -259,7 +321,7 @@ fn show_line(labels: &[u8], from: usize, n: usize) -> usize {
 pub fn show(d: &[usize; 16384]) {
     let labels = LABELS;
     let mut from = 0;
-    for i in 0..76 {
+    for i in 0..95 {
         from = show_line(&labels, from, get(d, PLACES[i], 0));
     }
 }

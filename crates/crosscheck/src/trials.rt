@@ -2,9 +2,6 @@
 use crate::compare::library_run;
 use crate::compare::same_bound;
 use crate::compare::same_bounds;
-use crate::compare::same_bytes;
-use crate::compare::same_end;
-use crate::compare::same_said;
 use crate::compare::second_run;
 use crate::exports::try_trace_exports;
 use crate::exports::try_tree_exports;
@@ -25,6 +22,13 @@ use crate::results::TREES;
 use crate::results::VARIED;
 use crate::results::WINDOWS;
 use crate::walked::same_requests;
+use crate::whys::try_whys;
+use alter::altered;
+use alter::tangle::WAYS;
+use alter::tangle::tangled;
+use answercheck::same_bytes;
+use answercheck::same_end;
+use answercheck::same_said;
 use callcheck::busy_state;
 use callcheck::try_other;
 use generator::number_below;
@@ -55,12 +59,9 @@ use store::WRONG;
 use store::add;
 use store::note;
 use trace::read_trace;
-use treecheck::alter::altered;
 use treecheck::is_empty;
 use treecheck::judge;
 use treecheck::same_tree;
-use treecheck::tangle::WAYS;
-use treecheck::tangle::tangled;
 
 // An accepted tree: its entries and its bounds.
 fn try_content(t: Tree, d: &mut [usize; 16384]) {
@@ -204,7 +205,7 @@ fn try_runs(t: Tree, s: &[u8], d: &mut [usize; 16384], out: &mut [u8; 131074], n
     said
 }
 
-// The same on the tree of an accepted file.
+// The same on the tree of an accepted file, and the waits in the trace.
 pub fn try_file_runs(
     tree: &[u8],
     t: Tree,
@@ -214,6 +215,7 @@ pub fn try_file_runs(
     n: usize,
 ) {
     let said = try_runs(t, s, d, out, n);
+    try_whys(t, s, said, d, out, n);
     try_trace_exports(tree, s, said, d, out, n);
 }
 
@@ -228,7 +230,7 @@ fn try_bound(t: Tree, a: u8, d: &mut [usize; 16384]) {
 }
 
 // Another tree: whether it keeps its rules, its start, calls on it from a state of t, its bounds, and if it breaks them runs of
-// the trace s. The rows are left with t again.
+// the trace s and a wait in it. The rows are left with t again.
 fn try_other_tree(
     t: Tree,
     other: Tree,
@@ -243,7 +245,8 @@ fn try_other_tree(
     try_bound(other, 0, d);
     try_bound(other, 32, d);
     if !keeps {
-        try_runs(other, s, d, out, 8);
+        let said = try_runs(other, s, d, out, 8);
+        try_whys(other, s, said, d, out, 8);
     }
     let back = judge(t, d);
     note(d, DIFFERENCES, 0, back);

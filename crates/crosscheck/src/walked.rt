@@ -1,19 +1,11 @@
 // The requests of an accepted trace, walked in its bytes, beside the lines of the log.
+use answercheck::same_request;
 use second::requests::acc_at;
 use second::requests::count_at;
 use second::requests::lines;
 use second::requests::slot_at;
 use trace::NextRequest;
-use trace::Request;
 use trace::request_at;
-ghost use mathlib.Core.Path.{_≡_};
-ghost use Rattle.crosscheck.specs.Same.{sameRequest};
-
-fn same_request(r: Request, slot: usize, a: usize, count: usize) -> bool
-    ensures { λ b. ⌜ b ≡ sameRequest r slot a count ⌝ }
-{
-    (r.slot as usize == slot) & (r.accelerator as usize == a) & (r.count as usize == count)
-}
 
 // Is there no request at the place?
 fn ends(s: &[u8], at: usize) -> bool {

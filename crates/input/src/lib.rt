@@ -26,6 +26,14 @@ pub fn words() -> usize {
     n - 1
 }
 
+// Puts word i, from 1, at the start of the buffer, which the longest word of Linux fits, and answers its length; 0 where it was
+// not given. The buffer is lent as an array: a caller's part of it then needs no proof.
+pub fn word(i: usize, buf: &mut [u8; 131072]) -> usize
+    ensures { λ r. ⌜ r ≤ length (now (buf .exit)) ⌝ }
+{
+    os::arg(i, buf)
+}
+
 // What a read or a write of the buffer answered: below 0 it failed, else it moved so many bytes; a read that moves none is at
 // the end of the file.
 fn answered(got: isize, buf: &[u8]) -> Input

@@ -1,2 +1,3 @@
 pub mod Puts
 pub mod Lines
+pub mod Pages

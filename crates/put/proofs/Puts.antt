@@ -70,9 +70,12 @@ put-laid {m} {d} {xs} {e} {next} p h l =
       room = omega (arith, p .ends, p .short);
     }
 
+pub written-as : {xs ys d e : List ℕ} {n : ℕ} → xs ≡ ys → Written xs d e n → Written ys d e n
+written-as {xs} {ys} {d} {e} {n} h w = subst (λ (l : List ℕ). Written l d e n) h w
+
 -- no text leaves the page as it was
 pub written-none : {xs d : List ℕ} → xs ≡ [] → Written xs d d 0
-written-none {xs} {d} h = subst (λ (l : List ℕ). Written l d d 0) (sym h) (record { page = refl; bytes = refl; room = omega arith })
+written-none h = written-as (sym h) (record { page = refl; bytes = refl; room = omega arith })
 
 -- a number below 10 is one digit; any other is that of n / 10 and one digit more
 module _ {d : List ℕ} {at : ℕ} {e : List ℕ} {last : ℕ} (n b : ℕ) where

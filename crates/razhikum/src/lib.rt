@@ -5,23 +5,27 @@ use answers::Count;
 use answers::Outcome;
 use answers::Reading;
 use answers::Row;
+use answers::Wait;
 use answers::count_of;
 use answers::is_accepted;
+use answers::no_wait;
 use answers::outcome_of;
 use answers::reading_of;
 use answers::row_of;
 use answers::tree_refused;
 use answers::unbounded;
+use answers::wait_of;
 use bounds::bound;
 use lines::answer_line;
 use lines::answer_number;
 use reader::read_tree;
 use runner::run;
 use trace::read_trace;
+use waits::why;
 ghost use mathlib.Core.Path.{_≡_};
 ghost use Rattle.reader.specs.TreeFile.{readTree};
 ghost use Rattle.plan.specs.Plan.{Printing};
-ghost use Rattle.razhikum.specs.Exports.{version, treeReading, traceReading, countFrom, outcomeFrom, bufferFrom, rowFrom};
+ghost use Rattle.razhikum.specs.Exports.{version, treeReading, traceReading, countFrom, outcomeFrom, bufferFrom, waitFrom, listFrom, rowFrom};
 
 // A report as text: how many bytes of the page it has; or the refusal, which puts none.
 #[repr(C)]
@@ -36,7 +40,7 @@ pub struct Page {
 pub extern "C" fn razhikum_version() -> u32
     ensures { λ r. ⌜ r ≡ version ⌝ }
 {
-    10000
+    10100
 }
 
 // Whether the tree file is accepted, or why and at which line it is refused.
@@ -97,6 +101,28 @@ pub extern "C" fn razhikum_run(tree: &[u8], trace: &[u8], out: &mut [u8]) -> Out
         return tree_refused(answer);
     }
     outcome_of(run(x.tree, trace, out))
+}
+
+// Lists the slots in which a transaction of the accelerator waited, oldest first, two bytes a slot into `out`: the accelerator that
+// was served, then the deepest interconnect that both paths cross, or 255 where it is the same accelerator. Its served transactions
+// are numbered from 1.
+#[no_mangle]
+pub extern "C" fn razhikum_why(
+    tree: &[u8],
+    trace: &[u8],
+    accelerator: u8,
+    number: u32,
+    out: &mut [u8],
+) -> Wait
+    ensures answer { λ r. ⌜ r ≡ waitFrom (readTree (now (tree .entry))) (now (trace .entry)) accelerator number (now (out .entry)) ⌝ }
+    ensures bytes { λ r. ⌜ now (out .exit) ≡ listFrom (readTree (now (tree .entry))) (now (trace .entry)) accelerator number (now (out .entry)) ⌝ }
+{
+    let x = read_tree(tree);
+    let answer = x.answer;
+    if !is_accepted(answer) {
+        return no_wait(2, answer_number(answer), answer_line(answer));
+    }
+    wait_of(why(x.tree, trace, accelerator, number, out))
 }
 
 // The bounds of an accelerator of the tree file.

@@ -204,13 +204,8 @@ fn report_tree() -> Tree {
     r.tree
 }
 
-fn main() {
-    let t = report_tree();
-    let mut input = io::large_buffer();
-    let n = io::read_full(STDIN_FILENO, &mut input);
-    try_files(t, &input[..n]);
-    long_tree(b"65536 bytes", 65536);
-    long_tree(b"65537 bytes", 65537);
+// Traces at the limit of a total.
+fn long_totals(t: Tree) {
     let full = b"o\t0\t0\t16\n";
     long_trace(
         b"total 65535",
@@ -233,10 +228,30 @@ fn main() {
         b"o\t0\t0\t16\n",
         36864,
     );
+}
+
+// Traces at the size limit.
+fn long_sizes(t: Tree) {
     let least = b"o\t0\t0\t1\n";
     long_trace(b"8192 lines", t, least, b"", 65536);
     long_trace(b"65537 bytes", t, least, b"", 65537);
+}
+
+// A trace on a tree that breaks its rules.
+fn try_broken() {
     let none = read_tree(b"");
     let no_tree = none.tree;
     try_trace(b"broken tree", no_tree, b"");
+}
+
+fn main() {
+    let t = report_tree();
+    let mut input = io::large_buffer();
+    let n = io::read_full(STDIN_FILENO, &mut input);
+    try_files(t, &input[..n]);
+    long_tree(b"65536 bytes", 65536);
+    long_tree(b"65537 bytes", 65537);
+    long_totals(t);
+    long_sizes(t);
+    try_broken();
 }

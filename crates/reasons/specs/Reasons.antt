@@ -147,7 +147,7 @@ orderRow AccLine = 31
 orderRow OfferLine = 3
 
 abbrev pub numberRow : ℕ → ℕ
-numberRow n = pick (ltb 11 n) 0 n
+numberRow n = pick (ltb 12 n) 0 n
 
 -- int: number, parent, port; acc: number, interconnect, port; o: slot, accelerator
 unfoldable pub lineSays : ℕ → ℕ → Kind → List ℕ → List ℕ
@@ -163,7 +163,7 @@ lineSays n q k v =
 -- line 0 is no line; where neither a byte nor LF stands, the file has ended before line l
 unfoldable pub foundText : Bool → ℕ → ℕ → ℕ → Bool → List ℕ → List ℕ
 foundText t n l q e b =
-    pick (eqb l 0) (sentence (pick (eqb n 2) 12 (numberRow n)) 0 0)
+    pick (eqb l 0) (sentence (pick (eqb n 2) 33 (numberRow n)) 0 0)
     (pick (eqb n 1) (faultText (shapeRow t l e b) (lineOf b .kind) (lineOf b .count) b)
     (pick (eqb n 3 && not e && eqb (length b) 0) (sentence 32 0 0)
     (lineSays n q (lineOf b .kind) (lineOf b .values))))

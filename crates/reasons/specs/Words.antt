@@ -2,7 +2,7 @@
 --
 -- fromPart sep k s     the bytes s from part k on, where parts end at sep and are counted from 0
 -- partAt sep k s       part k of s: nothing past the last one
--- sentences            a sentence to a row, counted from 0; rows 1 to 11 tell the cause of that number in general
+-- sentences            a sentence to a row, counted from 0; rows 1 to 12 tell the cause of that number in general
 -- marked b x           the byte b of a sentence, or the number x where b is #
 -- filled s x y         the sentence s with x in place of its first # and y in place of each later one
 -- sentence j x y       row j of the sentences, with x and y in it
@@ -38,7 +38,7 @@ abbrev pub sentences : List ℕ
 sentences =
     -- 0
     bytes "no refusal has this number\n"
-    -- 1 to 11: the cause of that number in general
+    -- 1 to 12: the cause of that number in general
     ++ bytes "wrong shape: record name, field count, malformed number or missing last LF\n"
     ++ bytes "a value is outside its limits, or a total is over its limit\n"
     ++ bytes "wrong order or numbering, an interconnect that no line before names, \"-\" against the root rule, or a missing record\n"
@@ -50,8 +50,7 @@ sentences =
     ++ bytes "budget of this window used\n"
     ++ bytes "slot count is 4294967295\n"
     ++ bytes "configuration or state breaks its rules\n"
-    -- 12: the number 2 without a line
-    ++ bytes "above 65536, the limit of a file's bytes and of SLOTS\n"
+    ++ bytes "0, or above what this run, of at most 65536 slots, serves of the accelerator\n"
     -- 13 to 17: a wrong shape, by the bytes of the line
     ++ bytes "a byte order mark stands before the record name\n"
     ++ bytes "a CR stands in the line, which ends in LF alone\n"
@@ -77,6 +76,8 @@ sentences =
     ++ bytes "parent and port are \"-\" on int 0 alone, and a parent is smaller than its child\n"
     ++ bytes " #: wrong order: acc lines come after the int lines, each number once, on an interconnect that an int line names\n"
     ++ bytes "the file ends too early: the bus line, int 0, an acc line, or an acc number below the highest is missing\n"
+    -- 33: the number 2 without a line
+    ++ bytes "above 65536, the limit of a file's bytes and of SLOTS\n"
 
 -- # is byte 35
 abbrev pub marked : ℕ → ℕ → List ℕ

@@ -26,10 +26,10 @@ ghost use Rattle.reasons.specs.Reasons.{numberRow, foundText, slotBefore
 
 // Which sentence tells a refusal that has no line.
 fn no_line_row(number: u8) -> usize
-    ensures { λ r. ⌜ r ≡ pick (eqb number 2) 12 (numberRow number) ⌝ }
+    ensures { λ r. ⌜ r ≡ pick (eqb number 2) 33 (numberRow number) ⌝ }
 {
     if number == 2 {
-        return 12;
+        return 33;
     }
     number_row(number)
 }

@@ -118,7 +118,7 @@ fn order_row(kind: Kind) -> usize
 pub fn number_row(number: u8) -> usize
     ensures { λ r. ⌜ r ≡ numberRow number ⌝ }
 {
-    if 11 < number {
+    if 12 < number {
         return 0;
     }
     number as usize

@@ -65,7 +65,7 @@ pub fn put_sentence(out: &mut [u8], at: usize, j: usize, x: u64, y: u64) -> usiz
         budget of this window used\n\
         slot count is 4294967295\n\
         configuration or state breaks its rules\n\
-        above 65536, the limit of a file's bytes and of SLOTS\n\
+        0, or above what this run, of at most 65536 slots, serves of the accelerator\n\
         a byte order mark stands before the record name\n\
         a CR stands in the line, which ends in LF alone\n\
         a space stands in the line, whose fields are parted by one tab\n\
@@ -86,7 +86,8 @@ pub fn put_sentence(out: &mut [u8], at: usize, j: usize, x: u64, y: u64) -> usiz
         \x20#: wrong order: int lines are 0, 1, 2 and on without a gap, after the bus line and before the acc lines; \
         parent and port are \"-\" on int 0 alone, and a parent is smaller than its child\n\
         \x20#: wrong order: acc lines come after the int lines, each number once, on an interconnect that an int line names\n\
-        the file ends too early: the bus line, int 0, an acc line, or an acc number below the highest is missing\n";
+        the file ends too early: the bus line, int 0, an acc line, or an acc number below the highest is missing\n\
+        above 65536, the limit of a file's bytes and of SLOTS\n";
     put_filled(out, at, part(sentences, 10, j), x, y)
 }
 

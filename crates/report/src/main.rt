@@ -47,26 +47,21 @@ fn say_help() {
     input::write_out(&page[..n]);
 }
 
-// What the first three words ask; the longest word of Linux fits an array.
+// What the first three words ask.
 fn main() {
     let mut first = [0u8; 131072];
     let mut second = [0u8; 131072];
     let mut third = [0u8; 131072];
-    let a = os::arg(1, &mut first);
-    let b = os::arg(2, &mut second);
-    let c = os::arg(3, &mut third);
+    let a = input::word(1, &mut first);
+    let b = input::word(2, &mut second);
+    let c = input::word(3, &mut third);
+    let name = &first[0..a];
     let terminal = libc::isatty(STDIN_FILENO) == 1;
-    let asked = usage::report_asked(
-        input::words(),
-        &first[..a],
-        &second[..b],
-        &third[..c],
-        terminal,
-    );
+    let asked = usage::report_asked(input::words(), name, &second[0..b], &third[0..c], terminal);
     match asked {
         Asked::Usage => say_usage(),
         Asked::Help => say_help(),
         Asked::Input => report_file(b"-"),
-        Asked::File => report_file(&first[..a]),
+        Asked::File => report_file(name),
     }
 }

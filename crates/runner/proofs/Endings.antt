@@ -3,6 +3,7 @@ use Prim.Native.Nat.{ℕ, _≤_, _<_}
 use mathlib.Core.Bool.{Bool, true, false, not}
 use mathlib.Core.List.{List}
 use mathlib.Core.Path.{_≡_, refl, sym, _∙_, ap}
+use lib.Dec.{ltb}
 use lib.ListN.{length}
 use borrow.Author.Tests.{lt-ltb, le-ltb}
 use Rattle.model.specs.declared.Tree.{Tree}
@@ -12,10 +13,13 @@ use Rattle.rules.specs.Rules.{treeKeeps}
 use Rattle.folds.proofs.Folds.{picked, passed, clash}
 use Rattle.text.specs.Text.{lines}
 use Rattle.lines.specs.declared.FileAnswer.{FileAnswer}
+use Rattle.lines.specs.declared.FileAnswer.the-variants.{Accepted, Refused, Broken}
+use Rattle.trace.specs.declared.Request.{Request}
 use Rattle.trace.specs.TraceFile.{readTrace, requests}
 use Rattle.model.specs.Builders.{zeroState}
 use Rattle.machine.specs.Machine.{Start, started, notStarted, Beginning, beginning, freshState, freshened}
-use Rattle.runner.specs.Run.{runFor, refusedAt, broken, answered, overwritten, ranOf, bufferAfter}
+use Rattle.runner.specs.Run.{Trail, runFor, Ending, refusedAt, broken, done, stopped, endAfter, endOf, answered, over, overwritten, ranOf, bufferAfter}
+use Rattle.runner.specs.Wait.{noWait, waitFor, toldRead, toldOf}
 
 -- what the start's answer says of the configuration
 module _ (t : Tree) (f : Start) (s : State) where
@@ -65,3 +69,62 @@ module _ (t : Tree) (s d : List ℕ) where
       ap (λ (y : FileAnswer). overwritten y (runFor t (requests (lines s)) (length d)) d) (sym e)
           ∙ sym (passed _ _ _ (ap not k) ∙ passed _ _ _ (le-ltb _ _ l)),
     )
+
+-- and what it tells of a transaction
+module _ (t : Tree) (s : List ℕ) (a k n : ℕ) where
+  pub told-broken : treeKeeps t ≡ false → noWait ≡ toldOf t s a k n
+  unfolding toldOf
+  told-broken e = sym (picked _ _ _ (ap not e))
+
+  module _ (e : treeKeeps t ≡ true) where
+    pub told-size : 65536 < n → noWait ≡ toldOf t s a k n
+    unfolding toldOf
+    told-size l = sym (passed _ _ _ (ap not e) ∙ picked _ _ _ (lt-ltb _ _ l))
+
+    pub told-read : n ≤ 65536 → (x : FileAnswer) → readTrace t s ≡ x → toldRead x (waitFor t (requests (lines s)) a k n) ≡ toldOf t s a k n
+    unfolding toldOf
+    told-read l x f =
+        ap (λ (y : FileAnswer). toldRead y (waitFor t (requests (lines s)) a k n)) (sym f)
+        ∙ sym (passed _ _ _ (ap not e) ∙ passed _ _ _ (le-ltb _ _ l))
+
+-- x where a run is refused, y where it is not
+abbrev pub ranBy : {A : Type 0} → Ending → A → A → A
+ranBy (refusedAt n l) x y = x
+ranBy (broken n) x y = x
+ranBy (done n) x y = y
+ranBy (stopped n) x y = y
+
+pub ranBy-end : {A : Type 0} (z : Trail) (x y : A) → ranBy (endOf z) x y ≡ y
+ranBy-end z x y = go (z .done)
+  where
+    go : (b : Bool) → ranBy (endAfter b (length (z .bytes))) x y ≡ y
+    go true = refl
+    go false = refl
+
+module _ (t : Tree) (s : List ℕ) where
+  abbrev lines-of : List Request
+  lines-of = requests (lines s)
+
+  pub told-by : (a k n : ℕ) → toldOf t s a k n ≡ ranBy (ranOf t s n) noWait (waitFor t lines-of a k n)
+  unfolding toldOf ranOf
+  told-by a k n = go (treeKeeps t) (ltb 65536 n) (readTrace t s)
+    where
+      go : (b c : Bool) (y : FileAnswer) → pick (not b) noWait (pick c noWait (toldRead y (waitFor t lines-of a k n)))
+          ≡ ranBy (pick (not b) (broken 11) (pick c (refusedAt 2 0) (answered y (runFor t lines-of n)))) noWait (waitFor t lines-of a k n)
+      go false c y = refl
+      go true true y = refl
+      go true false Accepted = sym (ranBy-end (runFor t lines-of n) noWait (waitFor t lines-of a k n))
+      go true false (Refused r l) = refl
+      go true false Broken = refl
+
+  pub buffer-by : (d : List ℕ) → bufferAfter t s d ≡ ranBy (ranOf t s (length d)) d (over (runFor t lines-of (length d)) d)
+  unfolding bufferAfter ranOf
+  buffer-by d = go (treeKeeps t) (ltb 65536 (length d)) (readTrace t s) (runFor t lines-of (length d))
+    where
+      go : (b c : Bool) (y : FileAnswer) (x : Trail) → pick (not b) d (pick c d (overwritten y x d))
+          ≡ ranBy (pick (not b) (broken 11) (pick c (refusedAt 2 0) (answered y x))) d (over x d)
+      go false c y x = refl
+      go true true y x = refl
+      go true false Accepted x = sym (ranBy-end x d (over x d))
+      go true false (Refused r l) x = refl
+      go true false Broken x = refl

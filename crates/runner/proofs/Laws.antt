@@ -36,6 +36,11 @@ bytes-next zero t r = refl
 bytes-next (suc n) t r =
     ap₂ (λ (bs : List ℕ) (x : Run). bs ++ lastByte t x ∷ []) (bytes-next n t r) (standing-next n t r)
 
+pub bytes-length : (n : ℕ) (t : Tree) (r : Run) → length (bytesBefore n t r) ≡ n
+unfolding bytesBefore
+bytes-length zero t r = refl
+bytes-length (suc n) t r = sym (ap length (bytes-next n t r)) ∙ ap suc (bytes-length n t (next t r))
+
 -- what the trail of a run over at most k slots is
 pub record Ran (k : ℕ) (t : Tree) (r : Run) (x : Trail) : Type 0 where
   -- the slots used are at most the buffer's length

@@ -1,6 +1,8 @@
 pub mod Held
+pub mod Due
 pub mod Trace
 pub mod Slots
+pub mod Telling
 pub mod Endings
 pub mod Laws
 pub mod Asked

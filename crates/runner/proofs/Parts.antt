@@ -1,5 +1,5 @@
 -- The parts of a run's arrays where one number is stored or a part is kept, by the laws of `take`, `drop` and `set`.
-use Prim.Native.Nat.{ℕ, zero, suc, _+_, _-_, _<_}
+use Prim.Native.Nat.{ℕ, zero, suc, _+_, _-_, _<_, min}
 use mathlib.Core.Bool.{Bool}
 use mathlib.Core.List.{List, [], _∷_, _++_}
 use mathlib.Core.Path.{_≡_, refl, sym, _∙_, ap, ap₂}
@@ -16,7 +16,7 @@ use Rattle.admit.specs.Admitting.{arraysOf, waitings, admitteds, helds}
 use Rattle.admit.proofs.Kept.{first-kept, second-kept}
 use Rattle.admit.proofs.Offers.{arrays-same}
 use Rattle.runner.specs.Arrays.{turnedOn, takeOn, openOn, withHeld}
-use Rattle.runner.specs.Run.{hold}
+use Rattle.runner.specs.Due.{holdOn}
 
 -- a list of equal numbers with one more at its end
 one-more : (n x : ℕ) → replicate n x ++ (x ∷ []) ≡ replicate (suc n) x
@@ -48,17 +48,14 @@ module _ (r l : List ℕ) (j : ℕ) where
   copied-rest h = drop-set-lt 15 r j (getD l j 0) h
 
 -- the count of a request is added to what its accelerator holds
-module _ (b : List ℕ) (r : Request) where
-  abbrev added : ℕ
-  added = getD b (64 + r .accelerator) 0 + r .count
-
-  pub add-held : helds (set b (64 + r .accelerator) added) ≡ hold (helds b) r
+module _ (b : List ℕ) (r : Request) (n : ℕ) (e : n ≡ min 4294967295 (getD b (64 + r .accelerator) 0 + r .count)) where
+  pub add-held : helds (set b (64 + r .accelerator) n) ≡ holdOn (helds b) r
   add-held =
-      drop-set-add 64 b (r .accelerator) added
-      ∙ ap (λ (n : ℕ). set (helds b) (r .accelerator) (n + r .count)) (sym (getD-drop 64 b (r .accelerator) 0))
+      drop-set-add 64 b (r .accelerator) n
+      ∙ ap (set (helds b) (r .accelerator)) (e ∙ ap (λ (m : ℕ). min 4294967295 (m + r .count)) (sym (getD-drop 64 b (r .accelerator) 0)))
 
-  pub add-rest : take 64 (set b (64 + r .accelerator) added) ≡ take 64 b
-  add-rest = take-set-le 64 b (64 + r .accelerator) added (omega arith)
+  pub add-rest : take 64 (set b (64 + r .accelerator) n) ≡ take 64 b
+  add-rest = take-set-le 64 b (64 + r .accelerator) n (omega arith)
 
 -- one transaction of accelerator a is served
 module _ (b : List ℕ) (a n : ℕ) (h : a < 32) (e : n ≡ getD b a 0 - 1) where

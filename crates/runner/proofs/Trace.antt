@@ -1,12 +1,12 @@
 -- The lines of an accepted trace, walked from its bytes: where bytes are left, a request stands there, it is the next of the
 -- trace's requests, and what follows its line is accepted too. By the steps of the reader's walk.
-use Prim.Native.Nat.{ℕ, suc, _+_, _*_, _≤_, _<_}
+use Prim.Native.Nat.{ℕ, suc, zero, _+_, _-_, _*_, _≤_, _<_}
 use mathlib.Core.List.{List, [], _∷_}
 use mathlib.Core.Path.{_≡_, refl, sym, _∙_, ap, subst}
 use native.Mathlib.Decide.{decLt, ℕ-discrete}
 use native.Mathlib.Omega.{arith}
 use lib.Dec.{eqb}
-use lib.ListN.{length}
+use lib.ListN.{length, set}
 use lib.Seq.{getD-set-same, getD-set-other, set-out}
 use borrow.Author.Tests.{le-leb, lt-leb, eq-eqb, ne-eqb}
 use Rattle.model.specs.declared.Tree.{Tree}
@@ -14,6 +14,7 @@ use Rattle.folds.proofs.Folds.{picked, passed, clash}
 use Rattle.rules.proofs.Sound.{sound}
 use Rattle.trace.specs.declared.Request.{Request}
 use Rattle.machine.specs.Machine.{lastSlot}
+use Rattle.trace.specs.declared.NextRequest.{NextRequest}
 use Rattle.trace.specs.declared.NextRequest.the-variants.{Done, Due}
 use Rattle.lines.specs.declared.FileAnswer.the-variants.{Accepted}
 use Rattle.trace.specs.TraceFile.{added, noTotals, readTrace, requestAt}
@@ -22,7 +23,31 @@ use Rattle.trace.proofs.Requests.{accepted-trace, Step, walk-step, walk-end}
 use Rattle.runner.specs.Offers.{heldOf}
 use Rattle.runner.specs.Run.{hold, heldWith, leftAfter}
 use Rattle.runner.specs.declared.NextLine.{NextLine}
-use Rattle.runner.specs.Places.{leftAt, dueOf, Accepts, Room, AtLine, NextOf}
+use Rattle.runner.specs.Places.{leftAt, Accepts}
+use Rattle.runner.specs.Due.{lineAt, Taken, taken, holdOn, dueFrom, dueOn}
+use Rattle.runner.proofs.Due.{found, left, left-none, left-later, left-step, on-none, on-some}
+
+-- the slot of the first line of rs; none is due in any slot of a run where no line is left
+abbrev pub dueOf : List Request → ℕ
+dueOf [] = lastSlot
+dueOf (r ∷ rs) = r .slot
+
+-- the held counts h are at most 255 for each byte before `at`, so that adding a line's count fits
+abbrev pub Room : List ℕ → ℕ → Type 0
+Room h at = (a : ℕ) → heldOf h a ≤ 255 * at
+
+-- x is a place in trace s from which its lines can be walked, with a slot before which the line there is not due, and h are the
+-- held counts
+pub record AtLine (s h : List ℕ) (x : NextLine) : Type 0 where
+  pub accepts : Accepts s (x .at)
+  pub room : Room h (x .at)
+  pub due : x .due ≤ dueOf (leftAt s (x .at))
+
+-- x has the lines due in slot n, from the place `at` on, added to the held counts h, and its line is the next one then
+pub record NextOf (n : ℕ) (s h : List ℕ) (at : ℕ) (x : Taken) : Type 0 where
+  pub held : x .held ≡ heldWith n h (leftAt s at)
+  pub left : leftAt s (x .line .at) ≡ leftAfter n (leftAt s at)
+  pub line : AtLine s (x .held) (x .line)
 
 -- the request r stands at a place of an accepted trace, and its line ends before the place p
 pub record Next (s : List ℕ) (at : ℕ) (r : Request) (p : ℕ) : Type 0 where
@@ -120,52 +145,62 @@ hold-room h at p r R c m a = elim (ℕ-discrete a (r .accelerator)) [
   | no d ↦ omega (arith, getD-set-other h (r .accelerator) a (heldOf h (r .accelerator) + r .count) 0 d, R a)
 ]
 
--- the held counts h′ have the lines due in slot n, from the place `at` on, added to h, and r is the next line then
-abbrev Taken : (n : ℕ) (s h : List ℕ) (at : ℕ) (h′ : List ℕ) (r : NextLine) → Type 0
-Taken n s h at h′ r = (h′ ≡ heldWith n h (leftAt s at)) × NextOf n s h at r
-
-taken : (n : ℕ) (s h : List ℕ) (at : ℕ) (h′ : List ℕ) (r : NextLine) → h′ ≡ heldWith n h (leftAt s at)
-    → leftAt s (r .at) ≡ leftAfter n (leftAt s at) → AtLine s h′ r → Taken n s h at h′ r
-taken n s h at h′ r e l A = (e, record { left = l; line = subst (λ (x : List ℕ). AtLine s x r) e A })
+-- so that a count held in 32 bits is the count itself
+hold-same : (h : List ℕ) (at : ℕ) (r : Request) → Room h at → at ≤ 65536 → r .count < 256 → holdOn h r ≡ hold h r
+hold-same h at r R m c = ap (set h (r .accelerator)) (omega (arith, R (r .accelerator)))
 
 -- the lines due, between two of them: what is left to add from here is what was left at the start
-pub record Taking (n : ℕ) (s h₀ : List ℕ) (at₀ : ℕ) (h : List ℕ) (at : ℕ) : Type 0 where
-  pub accepts : Accepts s at
-  pub room : Room h at
-  pub held : heldWith n h₀ (leftAt s at₀) ≡ heldWith n h (leftAt s at)
-  pub left : leftAfter n (leftAt s at₀) ≡ leftAfter n (leftAt s at)
+module _ (n : ℕ) (s : List ℕ) (h₀ : List ℕ) (at₀ : ℕ) where
+  pub record Taking (h : List ℕ) (at : ℕ) : Type 0 where
+    pub accepts : Accepts s at
+    pub room : Room h at
+    pub held : heldWith n h₀ (leftAt s at₀) ≡ heldWith n h (leftAt s at)
+    pub left : leftAfter n (leftAt s at₀) ≡ leftAfter n (leftAt s at)
 
-pub taking-start : (n : ℕ) (s h : List ℕ) (at : ℕ) → Accepts s at → Room h at → Taking n s h at h at
-taking-start n s h at A R = record { accepts = A; room = R; held = refl; left = refl }
+  ends : (h : List ℕ) (at n′ : ℕ) → Taking h at → n′ ≤ dueOf (leftAt s at)
+      → (heldWith n h (leftAt s at) ≡ h) × (leftAfter n (leftAt s at) ≡ leftAt s at) → NextOf n s h₀ at₀ (taken h (lineAt at n′))
+  ends h at n′ T d e = record {
+    held = sym (T .held ∙ e .0);
+    left = sym (T .left ∙ e .1);
+    line = record { accepts = T .accepts; room = T .room; due = d };
+  }
 
-module _ (n : ℕ) (s h₀ : List ℕ) (at₀ : ℕ) (h : List ℕ) (at : ℕ) (T : Taking n s h₀ at₀ h at) where
-  ends : (n′ : ℕ) → n′ ≤ dueOf (leftAt s at) → (heldWith n h (leftAt s at) ≡ h) × (leftAfter n (leftAt s at) ≡ leftAt s at)
-      → Taken n s h₀ at₀ h (record { at = at; due = n′ })
-  ends n′ d e = taken n s h₀ at₀ h _ (sym (T .held ∙ e .0)) (sym (T .left ∙ e .1)) (record { accepts = T .accepts; room = T .room; due = d })
-
-  pub taking-all : length s ≤ at → Taken n s h₀ at₀ h (record { at = at; due = lastSlot })
-  taking-all l =
+  all-taken : (h : List ℕ) (at : ℕ) → Taking h at → length s ≤ at → NextOf n s h₀ at₀ (taken h (lineAt at lastSlot))
+  all-taken h at T l =
       let e = walk-end s at l .1 in
-      ends lastSlot (subst (λ (rs : List Request). lastSlot ≤ dueOf rs) (sym e) (omega arith)) (none-due n h (leftAt s at) e)
+      ends h at lastSlot T (subst (λ (rs : List Request). lastSlot ≤ dueOf rs) (sym e) (omega arith)) (none-due n h (leftAt s at) e)
 
-  module _ (l : at < length s) (r : Request) (p : ℕ) (e : requestAt s at ≡ Due r p) where
-    pub taking-next : Next s at r p
-    taking-next = line-next s at (T .accepts) l r p e
+  -- one line of the walk; what follows a request that is due is left to the caller
+  walk-one : (h : List ℕ) (at : ℕ) → Taking h at → (q : NextRequest) → requestAt s at ≡ q
+      → ((r : Request) (p : ℕ) → Next s at r p → Taking (hold h r) p → NextOf n s h₀ at₀ (left n s p (hold h r)))
+      → NextOf n s h₀ at₀ (left n s at h)
+  walk-one h at T Done e f = elim (decLt at (length s)) [
+    | yes l ↦ absurd (line-some s at (T .accepts) l e)
+    | no d ↦ subst (NextOf n s h₀ at₀) (sym (left-none n s at h e)) (all-taken h at T (omega arith))
+  ]
+  walk-one h at T (Due r p) e f =
+      let F = found s at r p e in
+      let N = line-next s at (T .accepts) (omega (arith, F .later, F .inside)) r p e in
+      elim (decLt n (r .slot)) [
+        | yes l ↦
+            subst (NextOf n s h₀ at₀) (sym (left-later n s at h r p e l))
+            (ends h at (r .slot) T (subst (λ (rs : List Request). r .slot ≤ dueOf rs) (sym (N .left)) (omega arith)) (later-due n h (leftAt s at) (leftAt s p) r (N .left) l))
+        | no d ↦
+            let m = now-due n h (leftAt s at) (leftAt s p) r (N .left) (omega arith) in
+            let fits = hold-same h at r (T .room) (omega (arith, T .accepts .inside, T .accepts .short)) (omega (arith, F .few)) in
+            subst (NextOf n s h₀ at₀) (sym (left-step n s at h r p e (omega arith) ∙ ap (left n s p) fits))
+            (f r p N
+            (record {
+              accepts = N .accepts;
+              room = hold-room h at p r (T .room) (omega (arith, F .few)) (N .later);
+              held = T .held ∙ m .0;
+              left = T .left ∙ m .1;
+            }))
+      ]
 
-    pub taking-later : n < r .slot → Taken n s h₀ at₀ h (record { at = at; due = r .slot })
-    taking-later m =
-        let q = taking-next .left in
-        ends (r .slot) (subst (λ (rs : List Request). r .slot ≤ dueOf rs) (sym q) (omega arith)) (later-due n h (leftAt s at) (leftAt s p) r q m)
-
-    pub taking-turn : r .slot ≤ n → r .count < 256 → Taking n s h₀ at₀ (hold h r) p
-    taking-turn m c =
-        let d = now-due n h (leftAt s at) (leftAt s p) r (taking-next .left) m in
-        record {
-          accepts = taking-next .accepts;
-          room = hold-room h at p r (T .room) c (taking-next .later);
-          held = T .held ∙ d .0;
-          left = T .left ∙ d .1;
-        }
+  walked : (k : ℕ) (h : List ℕ) (at : ℕ) → length s - at ≤ k → Taking h at → NextOf n s h₀ at₀ (left n s at h)
+  walked zero h at m T = subst (NextOf n s h₀ at₀) (sym (left-none n s at h (walk-end s at (omega arith) .0))) (all-taken h at T (omega arith))
+  walked (suc k) h at m T = walk-one h at T (requestAt s at) refl (λ r p N T₁. walked k (hold h r) p (omega (arith, N .later)) T₁)
 
 -- before the slot of the next line none is due
 pub not-due : (n : ℕ) (h : List ℕ) (rs : List Request) → n < dueOf rs → (heldWith n h rs ≡ h) × (leftAfter n rs ≡ rs)
@@ -173,7 +208,13 @@ unfolding heldWith leftAfter
 not-due n h [] l = (refl, refl)
 not-due n h (r ∷ rs) l = later-due n h (r ∷ rs) rs r refl l
 
-pub taken-none : (n : ℕ) (s h : List ℕ) (d : NextLine) → AtLine s h d → n < d .due → Taken n s h (d .at) h d
-taken-none n s h d A l =
-    let e = not-due n h (leftAt s (d .at)) (omega (arith, A .due)) in
-    taken n s h (d .at) h d (sym (e .0)) (sym (e .1)) A
+-- from the next line of an accepted trace on, the walk adds the lines due of the definition
+pub due-taken : (n : ℕ) (s h : List ℕ) (x : NextLine) → AtLine s h x → NextOf n s h (x .at) (dueOn n s x h)
+due-taken n s h x A = elim (decLt n (x .due)) [
+  | yes l ↦
+      let e = not-due n h (leftAt s (x .at)) (omega (arith, A .due)) in
+      subst (NextOf n s h (x .at)) (sym (on-none n s x h l)) (record { held = sym (e .0); left = sym (e .1); line = A })
+  | no d ↦
+      subst (NextOf n s h (x .at)) (sym (on-some n s x h (omega arith)))
+      (walked n s h (x .at) (length s) h (x .at) (omega arith) (record { accepts = A .accepts; room = A .room; held = refl; left = refl }))
+]

@@ -28,10 +28,11 @@ use Rattle.runner.specs.declared.NextLine.{NextLine}
 use Rattle.runner.specs.declared.SlotEnd.{SlotEnd}
 use Rattle.runner.specs.Offers.{heldOf, offering, offerEach}
 use Rattle.runner.specs.Run.{Run, heldWith, leftAfter, withDue, beforeSlot, byteOf, lastByte, next, noneHeld, isDone, start}
-use Rattle.runner.specs.Places.{leftAt, Accepts, Room, AtLine, NextOf}
+use Rattle.runner.specs.Places.{leftAt, Accepts}
+use Rattle.runner.specs.Due.{dueOn}
 use Rattle.runner.specs.Arrays.{serveOn, opensOn, leftOn, endOn, slotEndOn, afterOn, everyOn, withHeld, beforeOn}
 use Rattle.runner.proofs.Held.{each-same, each-less}
-use Rattle.runner.proofs.Trace.{left-ends, not-due}
+use Rattle.runner.proofs.Trace.{Room, AtLine, NextOf, left-ends, not-due, due-taken}
 use Rattle.runner.proofs.Settled.{Idles, Settled, settled-each, settled-served}
 use Rattle.runner.proofs.Service.{servedFrom, slotAnswer, served-frame, served-answer, served-outcome, served-others, served-known, leftIn, left-first, left-next, left-opens}
 use Rattle.runner.proofs.Stored.{Stored, StoredOffering, StoredSlot, live-none, before-offered, serves}
@@ -110,9 +111,15 @@ module _ (t : Tree) (s : List ℕ) (z : State) (d : Arrays) (x : NextLine) (e : 
       q ∙ ap₂ (λ (y z : Bool). y && noneHeld (d .held) && z) (left-ends s (x .at) (H .line .accepts))
       (live-none t z (H .stored .rules) (d .under) (d .live) (H .stored .counts))
 
-  module _ (w k : List ℕ) (F : Fixed t w k) (n : ℕ) (N : z .slot ≡ n) (x₁ : NextLine) (T : NextOf n s (d .held) (x .at) x₁) where
+  module _ (w k : List ℕ) (F : Fixed t w k) (n : ℕ) (N : z .slot ≡ n) where
     abbrev due : List ℕ
-    due = heldWith n (d .held) (leftAt s (x .at))
+    due = dueOn n s x (d .held) .held
+
+    abbrev line : NextLine
+    line = dueOn n s x (d .held) .line
+
+    T : NextOf n s (d .held) (x .at) (dueOn n s x (d .held))
+    T = due-taken n s (d .held) x (H .line)
 
     abbrev before : Arrays
     before = beforeOn s n x e (t .accs) w d
@@ -123,10 +130,11 @@ module _ (t : Tree) (s : List ℕ) (z : State) (d : Arrays) (x : NextLine) (e : 
         let q = quiet (e .opened) (x .due) n (e .served) f in
         let y = H .settled (q .0) (q .2) in
         let none = not-due n (d .held) (leftAt s (x .at)) (omega (arith, H .line .due, q .1)) .0 in
-        (y .0, subst (λ (h : List ℕ). Settled t z h (e .served)) (sym none) (y .1))
+        (y .0, subst (λ (h : List ℕ). Settled t z h (e .served)) (sym (T .held ∙ none)) (y .1))
 
     same-before : offerEach (t .accs) t (offering z due) ≡ beforeSlot t run
-    same-before = ap (λ (i : ℕ). offerEach (t .accs) t (offering z (heldWith i (d .held) (leftAt s (x .at))))) (sym N)
+    same-before =
+        ap (λ (h : List ℕ). offerEach (t .accs) t (offering z h)) (T .held ∙ ap (λ (i : ℕ). heldWith i (d .held) (leftAt s (x .at))) (sym N))
 
     due-stored : Stored t z (withHeld due d)
     due-stored =
@@ -230,18 +238,19 @@ module _ (t : Tree) (s : List ℕ) (z : State) (d : Arrays) (x : NextLine) (e : 
             (sym (after-stored .admitted) ∙ passed _ _ _ a ∙ Y .admitted ∙ before-shown .stored .admitted)),
       )
 
-      after-room : Room (after .held) (x₁ .at)
+      after-room : Room (after .held) (line .at)
       after-room a =
           omega (
             arith,
             ap (λ (h : List ℕ). heldOf h a) after-held,
             each-less (t .accs) t (withDue run) a,
             T .line .room a,
+            ap (λ (h : List ℕ). heldOf h a) (T .held),
             ap (λ (i : ℕ). heldOf (heldWith i (d .held) (leftAt s (x .at))) a) N,
           )
 
       -- the run one slot on, its byte, and what holds of its arrays
-      shows-next : Shows t s (next t run .state) after x₁ (endOn byte window left)
+      shows-next : Shows t s (next t run .state) after line (endOn byte window left)
       unfolding next
       shows-next = record {
         stored = after-stored;
@@ -249,7 +258,7 @@ module _ (t : Tree) (s : List ℕ) (z : State) (d : Arrays) (x : NextLine) (e : 
         settled = after-settled;
       }
 
-      run-next : runOf s (next t run .state) after x₁ ≡ next t run
+      run-next : runOf s (next t run .state) after line ≡ next t run
       unfolding next
       run-next =
           ap₂ (λ (h : List ℕ) (l : List Request). record { state = then; held = h; left = l }) after-held
@@ -262,7 +271,7 @@ module _ (t : Tree) (s : List ℕ) (z : State) (d : Arrays) (x : NextLine) (e : 
       unfolding next
       slot-next = ap (λ (y : State). y .slot) (sym then-is) ∙ ticked-slot
 
-      walked : (P : Run → Type 0) → (byte ≡ lastByte t run → P (next t run)) → Walk t s P after x₁ (endOn byte window left) (n + 1)
+      walked : (P : Run → Type 0) → (byte ≡ lastByte t run → P (next t run)) → Walk t s P after line (endOn byte window left) (n + 1)
       walked P f = record {
         state = next t run .state;
         shows = shows-next;
@@ -280,11 +289,20 @@ module _ (t : Tree) (w k s : List ℕ) (F : Fixed t w k) (Q : Run → Type 0) (d
   pub walk-done : (b : Bool) → b ≡ (eqb (x .at) (length s) && noneHeld (d .held) && eqb (getD (d .live) 0 0) 0) → b ≡ isDone here
   walk-done = shows-done t s (G .state) d x e (G .shows)
 
-  pub walk-next : (x₁ : NextLine) → NextOf n s (d .held) (x .at) x₁ → (d₁ : Arrays) → d₁ ≡ beforeOn s n x e (t .accs) w d
+  pub walk-next : (x₁ : NextLine) → x₁ ≡ dueOn n s x (d .held) .line → (d₁ : Arrays) → d₁ ≡ beforeOn s n x e (t .accs) w d
       → (p : ℕ) → p ≡ t .bus .window → (e₂ : SlotEnd) → e₂ ≡ slotEndOn k w p (e .left) d₁
       → (d₂ : Arrays) → d₂ ≡ afterOn k w (e .left) d₁
       → n < lastSlot → (P : Run → Type 0) → (e₂ .served ≡ lastByte t here → P (next t here)) → Walk t s P d₂ x₁ e₂ (n + 1)
   walk-next x₁ T d₁ E p h e₂ q d₂ E₂ g P f =
       let end = q ∙ ap₂ (λ (i : ℕ) (y : Arrays). slotEndOn k w i (e .left) y) h E in
-      subst₂ (λ (y : Arrays) (i : SlotEnd). Walk t s P y x₁ i (n + 1)) (sym (E₂ ∙ ap (afterOn k w (e .left)) E)) (sym end)
-      (walked t s (G .state) d x e (G .shows) w k F n (G .slot) x₁ T g (G .left) P (λ b. f (ap (λ (i : SlotEnd). i .served) end ∙ b)))
+      subst (λ (l : NextLine). Walk t s P d₂ l e₂ (n + 1)) (sym T)
+      (subst₂ (λ (y : Arrays) (i : SlotEnd). Walk t s P y (dueOn n s x (d .held) .line) i (n + 1)) (sym (E₂ ∙ ap (afterOn k w (e .left)) E)) (sym end)
+      (walked t s (G .state) d x e (G .shows) w k F n (G .slot) g (G .left) P (λ b. f (ap (λ (i : SlotEnd). i .served) end ∙ b))))
+
+  -- after it the waiting counts are those of the definition
+  pub walk-waiting : (x₁ : NextLine) → x₁ ≡ dueOn n s x (d .held) .line → (d₁ : Arrays) → d₁ ≡ beforeOn s n x e (t .accs) w d
+      → (p : ℕ) → p ≡ t .bus .window → (e₂ : SlotEnd) → e₂ ≡ slotEndOn k w p (e .left) d₁
+      → (d₂ : Arrays) → d₂ ≡ afterOn k w (e .left) d₁ → n < lastSlot → d₂ .waiting ≡ next t here .state .waiting
+  walk-waiting x₁ T d₁ E p h e₂ q d₂ E₂ g =
+      let W = walk-next x₁ T d₁ E p h e₂ q d₂ E₂ g (λ (r : Run). r ≡ next t here) (λ _. refl) in
+      W .shows .stored .waiting ∙ ap (λ (r : Run). r .state .waiting) (W .holds)

@@ -26,8 +26,7 @@ use Rattle.counts.specs.Choice.{Choice, chooseOn}
 use Rattle.admit.specs.Admitting.{Arrays, offersBefore}
 use Rattle.runner.specs.declared.NextLine.{NextLine}
 use Rattle.runner.specs.declared.SlotEnd.{SlotEnd}
-use Rattle.runner.specs.Run.{heldWith}
-use Rattle.runner.specs.Places.{leftAt}
+use Rattle.runner.specs.Due.{dueOn}
 
 pub record Slot : Type 0 where
   pub byte : ℕ
@@ -112,4 +111,4 @@ withHeld h d =
     }
 
 abbrev pub beforeOn : (s : List ℕ) (n : ℕ) → NextLine → SlotEnd → ℕ → List ℕ → Arrays → Arrays
-beforeOn s n x e k w d = offersBefore w (everyOn e x n) (e .served) k (withHeld (heldWith n (d .held) (leftAt s (x .at))) d)
+beforeOn s n x e k w d = offersBefore w (everyOn e x n) (e .served) k (withHeld (dueOn n s x (d .held) .held) d)

@@ -1,6 +1,7 @@
 // The runner of document 01: a trace is run slot by slot on a configuration, from the fresh state, and each slot's service
 // is written as one byte.
 mod steps;
+mod waiting;
 
 use counts::tables::table_of;
 use lines::FileAnswer;
@@ -15,14 +16,17 @@ use steps::is_done;
 use steps::turns_of;
 use trace::read_requests;
 use turns::next_ports;
+use waiting::number_asked;
+use waiting::tell;
 ghost use mathlib.Core.Path.{_≡_};
 ghost use mathlib.Core.Bool.{true};
-ghost use Prim.Native.Nat.{_≤_};
+ghost use Prim.Native.Nat.{_≤_, _<_};
 ghost use lib.ListN.{length};
 ghost use Rattle.rules.specs.Rules.{treeKeeps};
 ghost use Rattle.machine.specs.Machine.{freshState};
-ghost use Rattle.runner.specs.Run.{runFor, endAfter, endOf, over, ranOf, bufferAfter};
-ghost use Rattle.runner.specs.Answers.{runMeans};
+ghost use Rattle.runner.specs.Run.{start, runFor, endAfter, endOf, over, ranOf, bufferAfter};
+ghost use Rattle.runner.specs.Answers.{runMeans, waitOf};
+ghost use Rattle.runner.specs.Wait.{noWait, waitsAfter, usedBy, toldOf};
 ghost use Rattle.runner.specs.Places.{leftAt, Accepts};
 
 // The byte of an idle slot.
@@ -50,6 +54,34 @@ pub struct SlotEnd {
     pub left: u32,
 }
 
+// What a run tells of one transaction: the slots of its admission and of its service, and how many of its accelerator were served.
+pub struct Wait {
+    pub admission: u32,
+    pub service: u32,
+    pub count: u32,
+}
+
+// What a run answers, and what it tells of one transaction.
+pub struct RunWait {
+    pub answer: RunAnswer,
+    pub wait: Wait,
+}
+
+// Nothing is told.
+fn untold(answer: RunAnswer) -> RunWait
+    ensures answer { λ r. ⌜ r .answer ≡ answer ⌝ }
+    ensures wait { λ r. ⌜ waitOf (r .wait) ≡ noWait ⌝ }
+{
+    RunWait {
+        answer: answer,
+        wait: Wait {
+            admission: 0,
+            service: 0,
+            count: 0,
+        },
+    }
+}
+
 // How a run that used so many slots ended.
 fn ended(done: bool, used: u32) -> RunAnswer
     ensures { λ r. ⌜ runMeans r ≡ endAfter done used ⌝ }
@@ -60,12 +92,14 @@ fn ended(done: bool, used: u32) -> RunAnswer
     RunAnswer::Stopped(used)
 }
 
-// The run of an accepted trace, one byte a slot, until nothing is left or the buffer is full. Beside the state's arrays it
-// keeps what waits under each port and the live ports, and the next line's slot. The slot count is the number of bytes used.
-fn run_slots(t: Tree, fresh: State, trace: &[u8], out: &mut [u8]) -> RunAnswer
-    requires { ⌜ (treeKeeps t ≡ true) × (fresh ≡ freshState t) × (length (now out) ≤ 65536) × Accepts (now trace) 0 ⌝ }
-    ensures answer { λ r. ⌜ runMeans r ≡ endOf (runFor t (leftAt (now (trace .entry)) 0) (length (now (out .entry)))) ⌝ }
+// The run of an accepted trace, one byte a slot, until nothing is left or the buffer is full, and what it tells of transaction k of
+// accelerator a, of none if k is 0. Beside the state's arrays it keeps what waits under each port and the live ports, and the next
+// line's slot. The slot count is the number of bytes used.
+fn run_slots(t: Tree, fresh: State, trace: &[u8], a: u8, k: u32, out: &mut [u8]) -> RunWait
+    requires { ⌜ (treeKeeps t ≡ true) × (fresh ≡ freshState t) × (length (now out) ≤ 65536) × Accepts (now trace) 0 × ((k ≡ 0 → ⊥) → a < t .accs) ⌝ }
+    ensures answer { λ r. ⌜ runMeans (r .answer) ≡ endOf (runFor t (leftAt (now (trace .entry)) 0) (length (now (out .entry)))) ⌝ }
     ensures bytes { λ r. ⌜ now (out .exit) ≡ over (runFor t (leftAt (now (trace .entry)) 0) (length (now (out .entry)))) (now (out .entry)) ⌝ }
+    ensures wait { λ r. ⌜ waitOf (r .wait) ≡ waitsAfter t (start t (leftAt (now (trace .entry)) 0)) (usedBy t (leftAt (now (trace .entry)) 0) (length (now (out .entry)))) a k ⌝ }
 {
     let table = table_of(t);
     let next = next_ports();
@@ -79,6 +113,11 @@ fn run_slots(t: Tree, fresh: State, trace: &[u8], out: &mut [u8]) -> RunAnswer
         served: IDLE,
         opened: true,
         left: window,
+    };
+    let mut told = Wait {
+        admission: 0,
+        service: 0,
+        count: 0,
     };
     let mut used: usize = 0;
     while used < out.len() && !is_done(trace, line.at, &blocks, &turns) {
@@ -103,9 +142,37 @@ fn run_slots(t: Tree, fresh: State, trace: &[u8], out: &mut [u8]) -> RunAnswer
             &mut turns,
         );
         out[used] = past.served;
+        told = tell(told, k, a, used as u32, &blocks, past.served);
         used += 1;
     }
-    ended(is_done(trace, line.at, &blocks, &turns), used as u32)
+    RunWait {
+        answer: ended(is_done(trace, line.at, &blocks, &turns), used as u32),
+        wait: told,
+    }
+}
+
+// Runs the trace on the configuration, writes one byte a slot into `out`, and tells of transaction k of accelerator a, counted from 1
+// in the order of service, when it was admitted and served; of none if k is 0 or there is no such accelerator.
+pub fn run_wait(t: Tree, trace: &[u8], a: u8, k: u32, out: &mut [u8]) -> RunWait
+    ensures answer { λ r. ⌜ runMeans (r .answer) ≡ ranOf t (now (trace .entry)) (length (now (out .entry))) ⌝ }
+    ensures bytes { λ r. ⌜ now (out .exit) ≡ bufferAfter t (now (trace .entry)) (now (out .entry)) ⌝ }
+    ensures wait { λ r. ⌜ waitOf (r .wait) ≡ toldOf t (now (trace .entry)) a k (length (now (out .entry))) ⌝ }
+{
+    let start = fresh(t);
+    let started = start.answer;
+    let FreshAnswer::Started = started else {
+        return untold(RunAnswer::Broken);
+    };
+    if 65536 < out.len() {
+        return untold(RunAnswer::Refused(Refusal::Limit, 0));
+    }
+    match read_requests(t.accs, trace) {
+        FileAnswer::Accepted => {
+            run_slots(t, start.state, trace, a, number_asked(t.accs, a, k), out)
+        }
+        FileAnswer::Refused(why, line) => untold(RunAnswer::Refused(why, line)),
+        FileAnswer::Broken => untold(RunAnswer::Broken),
+    }
 }
 
 // Runs the trace on the configuration and writes one byte a slot into `out`.
@@ -113,17 +180,6 @@ pub fn run(t: Tree, trace: &[u8], out: &mut [u8]) -> RunAnswer
     ensures answer { λ r. ⌜ runMeans r ≡ ranOf t (now (trace .entry)) (length (now (out .entry))) ⌝ }
     ensures bytes { λ r. ⌜ now (out .exit) ≡ bufferAfter t (now (trace .entry)) (now (out .entry)) ⌝ }
 {
-    let start = fresh(t);
-    let started = start.answer;
-    let FreshAnswer::Started = started else {
-        return RunAnswer::Broken;
-    };
-    if 65536 < out.len() {
-        return RunAnswer::Refused(Refusal::Limit, 0);
-    }
-    match read_requests(t.accs, trace) {
-        FileAnswer::Accepted => run_slots(t, start.state, trace, out),
-        FileAnswer::Refused(why, line) => RunAnswer::Refused(why, line),
-        FileAnswer::Broken => RunAnswer::Broken,
-    }
+    let ran = run_wait(t, trace, 0, 0, out);
+    ran.answer
 }

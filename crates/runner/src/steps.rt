@@ -14,21 +14,30 @@ use trace::NextRequest;
 use trace::request_at;
 ghost use mathlib.Core.Path.{_≡_};
 ghost use mathlib.Core.Bool.{_&&_};
-ghost use Prim.Native.Nat.{_<_, _+_, _-_};
+ghost use Prim.Native.Nat.{_<_, _+_, _-_, min};
 ghost use lib.Dec.{eqb};
 ghost use lib.ListN.{length, getD, take, replicate};
 ghost use Rattle.counts.specs.Counts.{lasts, allowances, lives};
 ghost use Rattle.admit.specs.Admitting.{waitings, admitteds, helds, arraysOf};
 ghost use Rattle.folds.specs.Fold.{pick};
-ghost use Rattle.runner.specs.Run.{noneHeld, heldWith};
-ghost use Rattle.runner.specs.Places.{leftAt, AtLine, NextOf};
+ghost use Rattle.runner.specs.Run.{noneHeld};
+ghost use Rattle.runner.specs.Due.{taken, dueOn};
 ghost use Rattle.runner.specs.Arrays.{slotOn, serveOn, leftOn, slotEndOn, afterOn, beforeOn};
+
+// What an accelerator holds with a line's count added: no more than the type has.
+fn more_held(held: u32, count: u8) -> u32
+    ensures { λ r. ⌜ r ≡ min 4294967295 (held + count) ⌝ }
+{
+    let more = count as u32;
+    if 4294967295 - more < held {
+        return 4294967295;
+    }
+    held + more
+}
 
 // Adds the lines due in this slot to the held counts.
 fn take_due(trace: &[u8], slot: u32, line: NextLine, blocks: &mut [u32; 96]) -> NextLine
-    requires { ⌜ AtLine (now trace) (helds (now blocks)) line ⌝ }
-    ensures held { λ _. ⌜ helds (now (blocks .exit)) ≡ heldWith slot (helds (now (blocks .entry))) (leftAt (now (trace .entry)) (line .at)) ⌝ }
-    ensures line { λ r. ⌜ NextOf slot (now (trace .entry)) (helds (now (blocks .entry))) (line .at) r ⌝ }
+    ensures due { λ r. ⌜ taken (helds (now (blocks .exit))) r ≡ dueOn slot (now (trace .entry)) line (helds (now (blocks .entry))) ⌝ }
     ensures rest { λ _. ⌜ take 64 (now (blocks .exit)) ≡ take 64 (now (blocks .entry)) ⌝ }
 {
     if slot < line.due {
@@ -37,7 +46,10 @@ fn take_due(trace: &[u8], slot: u32, line: NextLine, blocks: &mut [u32; 96]) -> 
     let mut place = line.at;
     while place < trace.len() {
         let NextRequest::Due(request, next) = request_at(trace, place) else {
-            return line;
+            return NextLine {
+                at: place,
+                due: 4294967295,
+            };
         };
         if slot < request.slot {
             return NextLine {
@@ -46,7 +58,7 @@ fn take_due(trace: &[u8], slot: u32, line: NextLine, blocks: &mut [u32; 96]) -> 
             };
         }
         let a = HELD + request.accelerator as usize;
-        blocks[a] = blocks[a] + request.count as u32;
+        blocks[a] = more_held(blocks[a], request.count);
         place = next;
     }
     NextLine {
@@ -71,7 +83,10 @@ fn none_held(blocks: &[u32; 96]) -> bool
 pub fn is_done(trace: &[u8], at: usize, blocks: &[u32; 96], turns: &[u8; 45]) -> bool
     ensures { λ r. ⌜ r ≡ (eqb at (length (now (trace .entry))) && noneHeld (helds (now (blocks .entry))) && eqb (getD (lives (now (turns .entry))) 0 0) 0) ⌝ }
 {
-    (at == trace.len()) & none_held(blocks) & (turns[LIVE] == 0)
+    if turns[LIVE] != 0 {
+        return false;
+    }
+    (at == trace.len()) & none_held(blocks)
 }
 
 // Serves the transaction whose turn it is, and answers its accelerator, or that the slot is idle.
@@ -147,10 +162,9 @@ pub fn before_slot(
     under: &mut [u16; 120],
     turns: &mut [u8; 45],
 ) -> NextLine
-    requires { ⌜ AtLine (now trace) (helds (now blocks)) line ⌝ }
     ensures arrays { λ r. ⌜ arraysOf (now (blocks .exit)) (now (under .exit)) (now (turns .exit))
         ≡ beforeOn (now (trace .entry)) slot line past accs (now (table .entry)) (arraysOf (now (blocks .entry)) (now (under .entry)) (now (turns .entry))) ⌝ }
-    ensures line { λ r. ⌜ NextOf slot (now (trace .entry)) (helds (now (blocks .entry))) (line .at) r ⌝ }
+    ensures line { λ r. ⌜ r ≡ dueOn slot (now (trace .entry)) line (helds (now (blocks .entry))) .line ⌝ }
 {
     let every = past.opened | (line.due <= slot) | (past.served == IDLE);
     let next = take_due(trace, slot, line, blocks);

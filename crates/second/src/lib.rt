@@ -1,11 +1,12 @@
-// A second implementation of document 01's readers, machine, runner and bounds, written separately from the library and its
-// definitions: it shares no code with them.
+// A second implementation of document 01's readers, machine, runner and bounds, and of document 02's item 1, written separately
+// from the library and its definitions: it shares no code with them.
 //
 // Test code: it is proved that each function is safe and ends. Those that a comparison with the library reads its entries by have
 // equations: which number of the store each of them answers.
 pub mod book;
 pub mod calls;
 pub mod entries;
+pub mod past;
 pub mod queues;
 pub mod requests;
 pub mod response;
@@ -38,8 +39,20 @@ pub const UNKNOWN_FIRST: usize = 10;
 pub const LAST_FIRST: usize = 11;
 // the buffer's size tested before 11 by a run,
 pub const SIZE_FIRST: usize = 12;
-// and the trace tested before the buffer's size.
+// the trace tested before the buffer's size,
 pub const TRACE_FIRST: usize = 13;
+// the slot of service among those that a transaction waited,
+pub const SERVICE_LISTED: usize = 14;
+// its admission one slot late,
+pub const ADMITTED_LATE: usize = 15;
+// the root for the interconnect at which two paths meet,
+pub const ROOT_MEETS: usize = 16;
+// an earlier one of the same accelerator told by an interconnect,
+pub const OWN_MEETS: usize = 17;
+// half a pair at the end of an odd buffer,
+pub const HALF_PAIR: usize = 18;
+// and 12 tested before 7.
+pub const NUMBER_FIRST: usize = 19;
 
 // An answer on a file: 0 where it is accepted, or the number of a refusal; and the line.
 pub struct Said {

@@ -50,8 +50,11 @@ pub(crate) const SLOT: usize = 2208;
 // and the next line of the log.
 const NEXT: usize = 2209;
 
-// The queues, sixteen places to each accelerator: a ring of tickets, each the number of its transaction.
+// The queues, sixteen places to each accelerator: a ring of tickets, each the number of its transaction,
 pub(crate) const QUEUE: usize = 2560;
+
+// and beside each ticket the slot of its admission.
+const SINCE: usize = 1536;
 
 // How a run ends: the number and line of a refusal, or 0; whether it is done; the slots used.
 pub struct Ended {
@@ -79,7 +82,9 @@ pub(crate) fn place_in_queue(a: usize, ticket: usize) -> usize {
 // Puts the next ticket of accelerator a last in its queue.
 pub(crate) fn push(d: &mut [usize; 16384], a: usize) {
     let ticket = get(d, ADMITTED, a);
+    let now = get(d, SLOT, 0);
     put(d, QUEUE, place_in_queue(a, ticket), ticket);
+    put(d, SINCE, place_in_queue(a, ticket), now);
     add(d, ADMITTED, a, 1);
     add(d, USED, a, 1);
 }
@@ -90,6 +95,12 @@ fn pop(d: &mut [usize; 16384], a: usize) -> bool {
     let ticket = get(d, QUEUE, place_in_queue(a, oldest));
     add(d, SERVED, a, 1);
     ticket == oldest
+}
+
+// The slot in which the transaction of accelerator a that was served last had been admitted.
+pub(crate) fn since(d: &[usize; 16384], a: usize) -> usize {
+    let ticket = std::num::wrapping_sub_usize(get(d, SERVED, a), 1);
+    get(d, SINCE, place_in_queue(a, ticket))
 }
 
 // Does the way from accelerator a up to the root enter interconnect i by the port p?
@@ -264,7 +275,16 @@ pub(crate) fn one_slot(d: &mut [usize; 16384], wrong: usize) -> usize {
     if pop(d, a) { a } else { 254 }
 }
 
-fn nothing_left(d: &[usize; 16384], lines: usize) -> bool {
+// One slot of a run over the lines of the log, its offers first.
+pub(crate) fn run_slot(d: &mut [usize; 16384], lines: usize, wrong: usize) -> usize {
+    take_due(d, lines);
+    offer_all(d);
+    let a = one_slot(d, wrong);
+    advance(d, wrong);
+    a
+}
+
+pub(crate) fn nothing_left(d: &[usize; 16384], lines: usize) -> bool {
     (lines <= get(d, NEXT, 0)) & (all_held(d) == 0) & (all_queued(d) == 0)
 }
 
@@ -310,17 +330,14 @@ fn run_log(d: &mut [usize; 16384], out: &mut [u8], wrong: usize) -> Ended {
         if nothing_left(d, lines) {
             return run_end(true, used);
         }
-        take_due(d, lines);
-        offer_all(d);
-        let a = one_slot(d, wrong);
-        advance(d, wrong);
+        let a = run_slot(d, lines, wrong);
         out[used] = (a % 256) as u8;
         used += 1;
     }
     run_end(nothing_left(d, lines), used)
 }
 
-fn said(number: usize, line: usize) -> Said {
+pub(crate) fn said(number: usize, line: usize) -> Said {
     Said {
         number: number,
         line: line,

@@ -99,23 +99,20 @@ fn run_files(slots: usize, tree_name: &[u8], trace_name: &[u8]) {
     run_tree(slots, tree_name, &tree[..n], trace_name);
 }
 
-// What the first three words ask; the longest word of Linux fits an array.
+// What the first three words ask.
 fn main() {
-    let mut tree_name = [0u8; 131072];
-    let mut trace_name = [0u8; 131072];
-    let mut word = [0u8; 131072];
-    let n = os::arg(1, &mut tree_name);
-    let m = os::arg(2, &mut trace_name);
-    let k = os::arg(3, &mut word);
-    let asked = simulation::simulate_asked(
-        input::words(),
-        &tree_name[..n],
-        &trace_name[..m],
-        &word[..k],
-    );
+    let mut first = [0u8; 131072];
+    let mut second = [0u8; 131072];
+    let mut third = [0u8; 131072];
+    let n = input::word(1, &mut first);
+    let m = input::word(2, &mut second);
+    let k = input::word(3, &mut third);
+    let tree_name = &first[0..n];
+    let trace_name = &second[0..m];
+    let asked = simulation::simulate_asked(input::words(), tree_name, trace_name, &third[0..k]);
     match asked {
         Asked::Usage => say_usage(),
         Asked::Help => say_help(),
-        Asked::Slots(slots) => run_files(slots, &tree_name[..n], &trace_name[..m]),
+        Asked::Slots(slots) => run_files(slots, tree_name, trace_name),
     }
 }

@@ -1,53 +1,32 @@
--- The words of `simulate`. SLOTS: a number that reached 65,537 stays above 65,536, whatever digits follow; its tests are those of
--- the definition, and so are those of all the words.
-use Prim.Native.Nat.{ℕ, zero, suc, _+_, _-_, _*_, _^_, _≤_, _<_, min}
-use mathlib.Core.Bool.{Bool, true, false, _&&_, not}
+-- The words of `simulate`: the tests are those of the definition.
+use Prim.Native.Nat.{ℕ}
+use mathlib.Core.Bool.{Bool, true, false, _&&_}
 use mathlib.Core.List.{List}
-use mathlib.Core.Path.{_≡_, refl, ap, sym, _∙_}
-use native.Mathlib.Decide.{decLe}
-use native.Mathlib.Nat.{mul-le-mul-left, mul-one, mul-le-mul-right, min-eq-left, min-eq-right}
-use native.Mathlib.Omega.{arith}
+use mathlib.Core.Path.{_≡_, ap, sym, _∙_}
 use lib.Dec.{leb, eqb}
-use lib.ListN.{length, drop, getD}
 use borrow.Author.Tests.{eq-eqb, ne-eqb}
 use Rattle.folds.specs.Fold.{pick, within}
 use Rattle.folds.proofs.Folds.{picked, passed}
-use Rattle.text.specs.Text.{allDigits, decimal, leadingZero}
-use Rattle.usage.specs.Usage.{helpAsked}
+use Rattle.usage.specs.Usage.{helpAsked, twoFiles}
+use Rattle.usage.specs.declared.NumberWord.{NumberWord}
+use Rattle.usage.specs.declared.NumberWord.the-variants.{NoNumber, Number}
+use Rattle.usage.specs.Usage.{plainNumber, numberAsked}
+use Rattle.usage.proofs.Numbers.{numberIn, said-plain, said-number}
 use Rattle.simulation.specs.declared.Asked.{Asked}
 use Rattle.simulation.specs.declared.Asked.the-variants.{Usage, Help, Slots}
-use Rattle.simulation.specs.Simulation.{plainNumber, slotsAsked, twoFiles, simulateAsked}
+use Rattle.simulation.specs.Simulation.{slotsAsked, simulateAsked}
 
--- a number capped and then moved up by digits is capped as the number is
-pub capped-up : (v n r : ℕ) → 1 ≤ n → min (min v 65537 * n + r) 65537 ≡ min (v * n + r) 65537
-capped-up v n r h = elim (decLe v 65537) [ yes l ↦ small l | no l ↦ large l ] where
-  small : v ≤ 65537 → min (min v 65537 * n + r) 65537 ≡ min (v * n + r) 65537
-  small l = ap (λ (k : ℕ). min (k * n + r) 65537) (omega arith)
-
-  large : (v ≤ 65537 → ⊥) → min (min v 65537 * n + r) 65537 ≡ min (v * n + r) 65537
-  large l =
-      let a : 65537 * 1 ≤ 65537 * n = mul-le-mul-left 65537 h in
-      let b : 65537 * n ≤ v * n = mul-le-mul-right n (omega arith) in
-      let c : min v 65537 ≡ 65537 = omega arith in
-      ap (λ (k : ℕ). min (k * n + r) 65537) c ∙ omega arith
-
-module _ (w : List ℕ) where
-  pub asked-none : plainNumber w ≡ false → Usage ≡ slotsAsked w
+-- the word SLOTS, as it was read
+module _ (w : List ℕ) (x : NumberWord) (e : x ≡ numberAsked w 65537) where
+  pub slots-none : x ≡ NoNumber → Usage ≡ slotsAsked w
   unfolding slotsAsked
-  asked-none e = sym (passed _ _ _ e)
+  slots-none n = sym (passed _ _ _ (said-plain w 65537 NoNumber (sym n ∙ e)))
 
-  pub asked-slots : (k : ℕ) → plainNumber w ≡ true → k ≡ min (decimal w) 65537 → Slots k ≡ slotsAsked w
+  pub slots-said : (k : ℕ) → x ≡ Number k → Slots k ≡ slotsAsked w
   unfolding slotsAsked
-  asked-slots k e f = ap Slots f ∙ sym (picked _ _ _ e)
-
-  pub no-word : length w ≡ 0 → plainNumber w ≡ false
-  no-word e = rw (eq-eqb _ _ e) refl
-
-  pub zero-first : (length w ≡ 0 → ⊥) → leadingZero w ≡ true → plainNumber w ≡ false
-  zero-first d e = rw (ne-eqb _ _ d, e) refl
-
-  pub told : (length w ≡ 0 → ⊥) → leadingZero w ≡ false → (b : Bool) → allDigits w ≡ b → plainNumber w ≡ b
-  told d e b f = rw (ne-eqb _ _ d, e) f
+  slots-said k n =
+      let p : plainNumber w ≡ true = said-plain w 65537 (Number k) (sym n ∙ e) in
+      ap Slots (said-number w 65537 (Number k) (sym n ∙ e) p) ∙ sym (picked _ _ _ p)
 
 -- what `simulate` does, test by test in the definition's order
 module _ (n : ℕ) (a b c : List ℕ) where

@@ -2,10 +2,8 @@
 -- (document 01: "It writes one byte a slot .. and reports done or stopped, and the number of slots used"; "A refusal prints one
 -- line only").
 --
--- plainNumber w        the word w is a number: digits, at least one, "no sign, no leading zero except 0 itself"
 -- slotsAsked w         how many slots the word SLOTS asks for; 65,537, which a run refuses by 2, stands for every number above
 --                      65,536; usage where it is no number
--- twoFiles a b         the words a and b name two files: neither is an option, and standard input, "-", is one of them at most
 -- simulateAsked n a b c   what `simulate` does, started with n words, of which a, b and c are the first three: help, if asked;
 --                      with two files, 65,536 slots or what a third word asks; usage for any other words
 -- refusedPart o n      what the outcome o of a run over n slots refuses: the tree, else SLOTS if above 65,536, else the trace
@@ -14,29 +12,23 @@
 -- simulationText o bs  what is printed of an outcome and the buffer: the slots and the end of a run, or a refusal's one line
 -- pageCount o          the pages that text is given in; simulationPage o bs i: page i of it, from 0
 use Prim.Native.Nat.{ℕ, min}
-use mathlib.Core.Bool.{Bool, _&&_, _||_, not}
+use mathlib.Core.Bool.{Bool, _&&_}
 use mathlib.Core.List.{List}
 use lib.Dec.{ltb, eqb}
 use lib.ListN.{length, take}
 use Rattle.folds.specs.Fold.{pick, within}
-use Rattle.text.specs.Text.{allDigits, decimal, leadingZero}
+use Rattle.text.specs.Text.{decimal}
 use Rattle.answers.specs.declared.Outcome.{Outcome}
 use Rattle.listing.specs.Listing.{refusalText}
 use Rattle.journal.specs.Journal.{runText, pages, pageText}
-use Rattle.usage.specs.Usage.{helpAsked, isOption, isDash}
+use Rattle.usage.specs.Usage.{helpAsked, twoFiles, plainNumber}
 use Rattle.simulation.specs.declared.Asked.{Asked}
 use Rattle.simulation.specs.declared.Asked.the-variants.{Usage, Help, Slots}
 use Rattle.simulation.specs.declared.Part.{Part}
 use Rattle.simulation.specs.declared.Part.the-variants.{Nothing, Tree, Word, Trace}
 
-abbrev pub plainNumber : List ℕ → Bool
-plainNumber w = not (eqb (length w) 0) && not (leadingZero w) && allDigits w
-
 unfoldable pub slotsAsked : List ℕ → Asked
 slotsAsked w = pick (plainNumber w) (Slots (min (decimal w) 65537)) Usage
-
-abbrev pub twoFiles : List ℕ → List ℕ → Bool
-twoFiles a b = not (isOption a || isOption b) && not (isDash a && isDash b)
 
 unfoldable pub simulateAsked : ℕ → List ℕ → List ℕ → List ℕ → Asked
 simulateAsked n a b c =

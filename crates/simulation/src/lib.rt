@@ -3,14 +3,15 @@
 use answers::Outcome;
 use journal::pages;
 use listing::refusal_text;
+use usage::NumberWord;
 use usage::help_asked;
-use usage::is_dash;
-use usage::is_option;
+use usage::number_asked;
+use usage::two_files;
 ghost use mathlib.Core.Path.{_≡_};
-ghost use Prim.Native.Nat.{_≤_, min};
+ghost use Prim.Native.Nat.{_≤_};
 ghost use lib.ListN.{length, take};
 ghost use Rattle.put.specs.Page.{Written};
-ghost use Rattle.simulation.specs.Simulation.{slotsAsked, twoFiles, simulateAsked, refusedPart, pageCount, simulationPage};
+ghost use Rattle.simulation.specs.Simulation.{slotsAsked, simulateAsked, refusedPart, pageCount, simulationPage};
 
 // What `simulate` does by its words: it runs so many slots, 65,537 for every number above 65,536, or says its usage or its help.
 pub enum Asked {
@@ -27,53 +28,15 @@ pub enum Part {
     Trace,
 }
 
-// A number, or 65,537 if it is larger.
-fn capped(n: usize) -> usize
-    ensures { λ r. ⌜ r ≡ min n 65537 ⌝ }
-{
-    if n < 65537 {
-        return n;
-    }
-    65537
-}
-
-fn wide(b: u8) -> usize
-    ensures { λ r. ⌜ r ≡ b ⌝ }
-{
-    b as usize
-}
-
 // How many slots the word SLOTS asks for; usage where it is no number.
 pub fn slots_asked(word: &[u8]) -> Asked
     ensures { λ r. ⌜ r ≡ slotsAsked (now (word .entry)) ⌝ }
 {
-    if word.len() == 0 {
-        return Asked::Usage;
+    let said = number_asked(word, 65537);
+    match said {
+        NumberWord::NoNumber => Asked::Usage,
+        NumberWord::Number(n) => Asked::Slots(n as usize),
     }
-    if (word[0] == 48) & (word.len() != 1) {
-        return Asked::Usage;
-    }
-    let mut value: usize = 0;
-    let mut i = 0;
-    while i < word.len() {
-        let b = word[i];
-        if b < 48 {
-            return Asked::Usage;
-        }
-        if 57 < b {
-            return Asked::Usage;
-        }
-        value = capped(value * 10 + wide(b - 48));
-        i += 1;
-    }
-    Asked::Slots(value)
-}
-
-// Whether the words can be two files: neither is an option, and standard input is one of them at most.
-fn two_files(tree: &[u8], trace: &[u8]) -> bool
-    ensures { λ r. ⌜ r ≡ twoFiles (now (tree .entry)) (now (trace .entry)) ⌝ }
-{
-    !(is_option(tree) | is_option(trace)) & !(is_dash(tree) & is_dash(trace))
 }
 
 // What `simulate` does, started with `count` words, of which these are the first three.

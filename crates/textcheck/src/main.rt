@@ -2,9 +2,12 @@
 // refused, done and stopped runs by the word SLOTS, and refusals in words; what the programs do by their words; and which files
 // can be read. The file `stdout` holds them, written apart from the definitions.
 use input::Input;
+use inquiry::Reply;
 use libc::STDOUT_FILENO;
 use simulation::Asked;
 use simulation::Part;
+use text::part_end;
+use text::same_bytes;
 
 fn show(page: &[u8], n: usize) {
     if n <= page.len() {
@@ -26,15 +29,60 @@ fn show_usage() {
     show_page(&page, n);
     let n = usage::simulate_help(&mut page);
     show_page(&page, n);
+    let n = usage::why_usage(&mut page);
+    show_page(&page, n);
+    let n = usage::why_help(&mut page);
+    show_page(&page, n);
 }
 
 fn say_line(line: &[u8]) {
     io::write_all(STDOUT_FILENO, line);
 }
 
-// What `report` does, started with so many words.
-fn report_does(count: usize, first: &[u8], second: &[u8], third: &[u8], terminal: bool) {
-    let asked = usage::report_asked(count, first, second, third, terminal);
+// The word that a line begins with: each is ended by a semicolon. Of an empty line no byte, as of a word that was not given.
+fn word(line: &[u8]) -> &[u8] {
+    let end = part_end(line, 0, b';');
+    if end < line.len() {
+        return &line[0..end];
+    }
+    line
+}
+
+// What stands after that word.
+fn after(line: &[u8]) -> &[u8] {
+    let end = part_end(line, 0, b';');
+    if end < line.len() {
+        return &line[end + 1..];
+    }
+    line
+}
+
+// How many words a line has.
+fn word_count(line: &[u8]) -> usize {
+    let mut count = 0;
+    let mut at = 0;
+    while at < line.len() {
+        let end = part_end(line, at, b';');
+        if line.len() <= end {
+            return count;
+        }
+        count += 1;
+        at = end + 1;
+    }
+    count
+}
+
+// What `report` does, started with these words.
+fn report_does(words: &[u8], terminal: bool) {
+    let second = after(words);
+    let third = after(second);
+    let asked = usage::report_asked(
+        word_count(words),
+        word(words),
+        word(second),
+        word(third),
+        terminal,
+    );
     match asked {
         usage::Asked::Usage => say_line(b"report: usage\n"),
         usage::Asked::Help => say_line(b"report: help\n"),
@@ -43,28 +91,16 @@ fn report_does(count: usize, first: &[u8], second: &[u8], third: &[u8], terminal
     }
 }
 
-fn report_all() {
-    report_does(0, b"", b"", b"", true);
-    report_does(0, b"", b"", b"", false);
-    report_does(1, b"--help", b"", b"", true);
-    report_does(1, b"-h", b"", b"", false);
-    report_does(1, b"--helpme", b"", b"", false);
-    report_does(1, b"-x", b"", b"", false);
-    report_does(1, b"--", b"", b"", false);
-    report_does(1, b"-", b"", b"", false);
-    report_does(1, b"-", b"", b"", true);
-    report_does(1, b"a.tree", b"", b"", true);
-    report_does(1, b"", b"", b"", true);
-    report_does(2, b"a.tree", b"b.tree", b"", false);
-    report_does(2, b"-", b"-", b"", false);
-    report_does(2, b"a.tree", b"--help", b"", false);
-    report_does(3, b"a.tree", b"b.tree", b"-h", false);
-    report_does(4, b"a.tree", b"b.tree", b"c.tree", false);
-}
-
-// What `simulate` does, started with so many words.
-fn simulate_does(count: usize, tree: &[u8], trace: &[u8], slots: &[u8]) {
-    let asked = simulation::simulate_asked(count, tree, trace, slots);
+// What `simulate` does, started with these words.
+fn simulate_does(words: &[u8]) {
+    let second = after(words);
+    let third = after(second);
+    let asked = simulation::simulate_asked(
+        word_count(words),
+        word(words),
+        word(second),
+        word(third),
+    );
     match asked {
         Asked::Usage => say_line(b"simulate: usage\n"),
         Asked::Help => say_line(b"simulate: help\n"),
@@ -76,35 +112,134 @@ fn simulate_does(count: usize, tree: &[u8], trace: &[u8], slots: &[u8]) {
     }
 }
 
-fn simulate_all() {
-    simulate_does(0, b"", b"", b"");
-    simulate_does(1, b"--help", b"", b"");
-    simulate_does(1, b"-h", b"", b"");
-    simulate_does(1, b"a.tree", b"", b"");
-    simulate_does(2, b"a.tree", b"a.trace", b"");
-    simulate_does(2, b"-", b"a.trace", b"");
-    simulate_does(2, b"a.tree", b"-", b"");
-    simulate_does(2, b"-", b"-", b"");
-    simulate_does(2, b"-x", b"a.trace", b"");
-    simulate_does(2, b"a.tree", b"--slots", b"");
-    simulate_does(2, b"a.tree", b"--help", b"");
-    simulate_does(4, b"a.tree", b"a.trace", b"1");
-    slots_all();
+// What `why` does, started with these words.
+fn why_does(words: &[u8]) {
+    let second = after(words);
+    let third = after(second);
+    let fourth = after(third);
+    let asked = inquiry::why_asked(
+        word_count(words),
+        word(words),
+        word(second),
+        word(third),
+        word(fourth),
+    );
+    match asked {
+        inquiry::Asked::Usage => say_line(b"why: usage\n"),
+        inquiry::Asked::Help => say_line(b"why: help\n"),
+        inquiry::Asked::Wait(a, k) => {
+            say_line(b"why: accelerator ");
+            io::print_decimal(STDOUT_FILENO, a as u64);
+            say_line(b", number ");
+            io::print_decimal(STDOUT_FILENO, k as u64);
+            say_line(b"\n");
+        }
+    }
 }
 
-// The third word.
-fn slots_all() {
-    simulate_does(3, b"a.tree", b"a.trace", b"0");
-    simulate_does(3, b"a.tree", b"a.trace", b"1");
-    simulate_does(3, b"a.tree", b"-", b"65536");
-    simulate_does(3, b"a.tree", b"a.trace", b"65537");
-    simulate_does(3, b"a.tree", b"a.trace", b"99999999999999999999");
-    simulate_does(3, b"a.tree", b"a.trace", b"x");
-    simulate_does(3, b"a.tree", b"a.trace", b"");
-    simulate_does(3, b"a.tree", b"a.trace", b"-");
-    simulate_does(3, b"a.tree", b"a.trace", b"+1");
-    simulate_does(3, b"-", b"-", b"1");
-    simulate_does(3, b"a.tree", b"a.trace", b"-h");
+// What the program does that the line's first word names, by the words after it: `report` where standard input is no terminal,
+// and where it is one.
+fn does(line: &[u8]) {
+    let name = word(line);
+    let words = after(line);
+    if same_bytes(name, b"report") {
+        report_does(words, false);
+        report_does(words, true);
+    }
+    if same_bytes(name, b"simulate") {
+        simulate_does(words);
+    }
+    if same_bytes(name, b"why") {
+        why_does(words);
+    }
+}
+
+// What is done by each line of the table.
+fn do_lines(table: &[u8]) {
+    let mut at = 0;
+    while at < table.len() {
+        let end = part_end(table, at, b'\n');
+        if table.len() <= end {
+            return;
+        }
+        does(&table[at..end]);
+        at = end + 1;
+    }
+}
+
+fn report_lines() {
+    do_lines(
+        b"report;\n\
+        report;--help;\n\
+        report;-h;\n\
+        report;--helpme;\n\
+        report;-x;\n\
+        report;--;\n\
+        report;-;\n\
+        report;a.tree;\n\
+        report;;\n\
+        report;a.tree;b.tree;\n\
+        report;-;-;\n\
+        report;a.tree;--help;\n\
+        report;a.tree;b.tree;-h;\n\
+        report;a.tree;b.tree;c.tree;-h;\n",
+    );
+}
+
+fn simulate_lines() {
+    do_lines(
+        b"simulate;\n\
+        simulate;--help;\n\
+        simulate;-h;\n\
+        simulate;a.tree;\n\
+        simulate;a.tree;a.trace;\n\
+        simulate;-;a.trace;\n\
+        simulate;a.tree;-;\n\
+        simulate;-;-;\n\
+        simulate;-x;a.trace;\n\
+        simulate;a.tree;--slots;\n\
+        simulate;a.tree;--help;\n\
+        simulate;a.tree;a.trace;1;2;\n\
+        simulate;a.tree;a.trace;0;\n\
+        simulate;a.tree;a.trace;1;\n\
+        simulate;a.tree;-;65536;\n\
+        simulate;a.tree;a.trace;65537;\n\
+        simulate;a.tree;a.trace;99999999999999999999;\n\
+        simulate;a.tree;a.trace;x;\n\
+        simulate;a.tree;a.trace;;\n\
+        simulate;a.tree;a.trace;-;\n\
+        simulate;a.tree;a.trace;+1;\n\
+        simulate;-;-;1;\n\
+        simulate;a.tree;a.trace;-h;\n",
+    );
+}
+
+fn why_lines() {
+    do_lines(
+        b"why;\n\
+        why;--help;\n\
+        why;a.tree;-h;\n\
+        why;a.tree;a.trace;--help;2;\n\
+        why;a.tree;a.trace;1;-h;\n\
+        why;a.tree;a.trace;1;\n\
+        why;a.tree;a.trace;1;2;3;\n\
+        why;a.tree;a.trace;1;2;-h;\n\
+        why;a.tree;a.trace;1;2;\n\
+        why;-;a.trace;0;0;\n\
+        why;a.tree;-;31;65536;\n\
+        why;-;-;1;2;\n\
+        why;-x;a.trace;1;2;\n\
+        why;a.tree;-x;1;2;\n\
+        why;a.tree;a.trace;x;2;\n\
+        why;a.tree;a.trace;1;2x;\n\
+        why;a.tree;a.trace;-1;2;\n\
+        why;a.tree;a.trace;1;02;\n\
+        why;a.tree;a.trace;;2;\n\
+        why;a.tree;a.trace;1;;\n\
+        why;a.tree;a.trace;255;4294967295;\n\
+        why;a.tree;a.trace;256;4294967296;\n\
+        why;a.tree;a.trace;99999999999999999999;99999999999999999999;\n",
+    );
 }
 
 // The first 16 bytes of a file, or that it cannot be read.
@@ -271,7 +406,10 @@ fn say_numbers() {
     say(false, tree, 9, 0);
     say(false, tree, 10, 0);
     say(false, tree, 11, 0);
+    say(true, tree, 7, 0);
+    say(true, tree, 12, 0);
     say(false, tree, 12, 1);
+    say(false, tree, 13, 1);
     say(false, tree, 255, 0);
     say(false, tree, 1, 0);
     say(false, tree, 2, 0);
@@ -305,6 +443,42 @@ fn simulate(tree: &[u8], trace: &[u8], word: &[u8]) {
     }
 }
 
+// The first page of the reply's text.
+fn show_reply(reply: Reply, list: &[u8; 65536]) {
+    let mut page = [0u8; 65536];
+    let n = inquiry::page_text(reply, list, 0, &mut page);
+    show_page(&page, n);
+}
+
+// Of a refusal also what is refused.
+fn why(tree: &[u8], trace: &[u8], a: u8, k: u32) {
+    let mut list = [0u8; 65536];
+    let reply = inquiry::inquire(tree, trace, a, k, &mut list);
+    show_reply(reply, &list);
+    let Reply::Refused(part, _, _) = reply else {
+        return;
+    };
+    match part {
+        inquiry::Part::Tree => say_line(b"of the tree\n"),
+        inquiry::Part::Trace => say_line(b"of the trace\n"),
+        inquiry::Part::Accelerator => say_line(b"of ACC\n"),
+        inquiry::Part::Number => say_line(b"of NUMBER\n"),
+    }
+}
+
+fn why_words(tree: &[u8]) {
+    let trace = b"o\t0\t0\t2\no\t0\t1\t1\n";
+    why(tree, trace, 0, 1);
+    why(tree, trace, 0, 2);
+    why(tree, trace, 1, 1);
+    why(tree, trace, 0, 3);
+    why(tree, trace, 0, 0);
+    why(tree, trace, 2, 0);
+    why(tree, trace, 255, 4294967295);
+    why(tree, b"o\t0\t2\t1\n", 2, 0);
+    why(b"x\n", b"x\n", 2, 0);
+}
+
 fn simulate_words(tree: &[u8], trace: &[u8]) {
     simulate(tree, trace, b"0");
     simulate(tree, trace, b"1");
@@ -317,22 +491,38 @@ fn simulate_words(tree: &[u8], trace: &[u8]) {
     simulate(tree, trace, b"1x");
 }
 
-fn main() {
-    show_usage();
-    let tree =
-        b"bus\t8\t1\t4\t2\t2\t30\t25\t1\t1\t16\nint\t0\t-\t-\t1\nacc\t0\t0\t0\t4\t2\t10\t5\t1000\t2000\nacc\t1\t0\t3\t4\t2\t1\t0\t0\t100\n";
+// A refused tree, a refused trace, and then also a refused word.
+fn simulate_refused(tree: &[u8]) {
+    simulate(b"x\n", b"", b"1");
+    simulate(b"x\n", b"", b"65537");
+    simulate(tree, b"o\t0\t2\t1\n", b"1");
+    simulate(tree, b"o\t0\t2\t1\n", b"65537");
+}
+
+fn reports(tree: &[u8]) {
     report(tree);
     report(
         b"bus\t8\t1\t4\t2\t2\t30\t25\t1\t1\t16\nint\t0\t-\t-\t1\nacc\t0\t0\t0\t33\t2\t10\t5\t1000\t2000\n",
     );
     report(b"");
+}
+
+// The texts of the programs on a tree: the reports, the runs, the waits.
+fn programs(tree: &[u8]) {
+    reports(tree);
     simulate_words(tree, b"o\t0\t0\t1\no\t1\t1\t1\n");
-    simulate(b"x\n", b"", b"1");
-    simulate(b"x\n", b"", b"65537");
-    simulate(tree, b"o\t0\t2\t1\n", b"1");
-    simulate(tree, b"o\t0\t2\t1\n", b"65537");
-    report_all();
-    simulate_all();
+    simulate_refused(tree);
+    why_words(tree);
+}
+
+fn main() {
+    show_usage();
+    programs(
+        b"bus\t8\t1\t4\t2\t2\t30\t25\t1\t1\t16\nint\t0\t-\t-\t1\nacc\t0\t0\t0\t4\t2\t10\t5\t1000\t2000\nacc\t1\t0\t3\t4\t2\t1\t0\t0\t100\n",
+    );
+    report_lines();
+    simulate_lines();
+    why_lines();
     load_all();
     say_shapes();
     say_limits();

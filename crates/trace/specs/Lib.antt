@@ -1,4 +1,2 @@
 pub mod TraceFile
 pub mod OfferText
-pub mod TraceText
-pub mod TraceRefused

@@ -1,11 +1,8 @@
 // The library's tree, entry by entry, beside the rows of `second`: whether it is the tree that the rows say, and whether a
-// tree file could have given it. Trees are also altered here, so that some break a rule.
+// tree file could have given it.
 //
 // Test code: it is proved that each function is safe and ends, and of the comparison which number of the store it compares with
 // which entry of the tree.
-pub mod alter;
-pub mod tangle;
-
 use model::Accelerator;
 use model::Bus;
 use model::Interconnect;

@@ -1,23 +1,28 @@
--- What the programs say of themselves, which words ask for it, and what `report` does by its words.
+-- What the programs say of themselves, what their words say, and what `report` does by its words.
 --
 -- asksHelp w           the word asks for help
 -- helpAsked a b c      one of a program's first three words does, wherever it stands among them; a word that is not given is empty
 -- isOption w           the word begins as an option does, and is not "-"; isDash w: it is "-", which stands for standard input
+-- twoFiles a b         the words a and b name two files: neither is an option, and standard input, "-", is one of them at most
+-- plainNumber w        the word w is a number: digits, at least one, "no sign, no leading zero except 0 itself"
+-- numberAsked w m      the number that the word w says, m standing for every number above m
 -- reportAsked n a b c t   what `report` does, started with n words, of which a, b and c are the first three: help, if asked; usage,
 --                      for more than one word or an option; the file that its one word names, "-" too; without a word standard
 --                      input, or usage where that is a terminal (t)
--- reportUsage, simulateUsage   what is said where the arguments are wrong
--- reportHelp, simulateHelp     what is said where help is asked for
-use Prim.Native.Nat.{ℕ}
-use mathlib.Core.Bool.{Bool, _&&_, _||_}
+-- reportUsage, simulateUsage, whyUsage   what is said where the arguments are wrong
+-- reportHelp, simulateHelp, whyHelp      what is said where help is asked for
+use Prim.Native.Nat.{ℕ, min}
+use mathlib.Core.Bool.{Bool, _&&_, _||_, not}
 use mathlib.Core.List.{List, _++_}
 use lib.Dec.{eqb, ltb}
 use lib.ListN.{length, getD}
 use Rattle.folds.specs.Fold.{pick}
-use Rattle.text.specs.Text.{same}
+use Rattle.text.specs.Text.{same, allDigits, decimal, leadingZero}
 use Rattle.put.specs.Page.{bytes}
 use Rattle.usage.specs.declared.Asked.{Asked}
 use Rattle.usage.specs.declared.Asked.the-variants.{Usage, Help, Input, File}
+use Rattle.usage.specs.declared.NumberWord.{NumberWord}
+use Rattle.usage.specs.declared.NumberWord.the-variants.{NoNumber, Number}
 
 abbrev pub asksHelp : List ℕ → Bool
 asksHelp w = same w (bytes "-h") || same w (bytes "--help")
@@ -30,6 +35,15 @@ isOption w = ltb 1 (length w) && eqb (getD w 0 0) 45
 
 abbrev pub isDash : List ℕ → Bool
 isDash w = same w (bytes "-")
+
+abbrev pub twoFiles : List ℕ → List ℕ → Bool
+twoFiles a b = not (isOption a || isOption b) && not (isDash a && isDash b)
+
+abbrev pub plainNumber : List ℕ → Bool
+plainNumber w = not (eqb (length w) 0) && not (leadingZero w) && allDigits w
+
+unfoldable pub numberAsked : List ℕ → ℕ → NumberWord
+numberAsked w m = pick (plainNumber w) (Number (min (decimal w) m)) NoNumber
 
 unfoldable pub reportAsked : ℕ → List ℕ → List ℕ → List ℕ → Bool → Asked
 reportAsked n a b c t =
@@ -59,3 +73,16 @@ simulateHelp =
     ++ bytes "A line for each slot: its number, and the accelerator served or idle; then done or stopped, and the slots used.\n"
     ++ bytes "A refused file prints \"refused\", the number of the cause and the line; standard error says it in words.\n"
     ++ bytes "example: simulate scanner.tree scanner.trace 100\n"
+
+abbrev pub whyUsage : List ℕ
+whyUsage = bytes "usage: why TREE TRACE ACC NUMBER\nexample: why scanner.tree scanner.trace 1 3\n"
+
+abbrev pub whyHelp : List ℕ
+whyHelp =
+    bytes "why TREE TRACE ACC NUMBER: runs a trace of requests on a tree, and says why a transaction waited.\n"
+    ++ bytes "TREE and TRACE are files; one of the two may be -, standard input. The run has 65536 slots at most.\n"
+    ++ bytes "NUMBER is that of a transaction of accelerator ACC, counted from 1 in the order of service.\n"
+    ++ bytes "A line for each slot from its admission up to the one before its service, the first 32768 of them: the slot, the\n"
+    ++ bytes "accelerator served, and the deepest interconnect on both paths, or own; then waited, and the count of all.\n"
+    ++ bytes "A refusal prints \"refused\", the number of the cause and the line; standard error says it in words.\n"
+    ++ bytes "example: why scanner.tree scanner.trace 1 3\n"

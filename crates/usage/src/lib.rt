@@ -1,10 +1,11 @@
-// What the programs say of themselves, each text put into a page that the caller lends; which words ask for it, and what `report`
-// does by its words. `simulate`, which also reads a number, is in `simulation`.
+// What the programs say of themselves, each text put into a page that the caller lends; what their words say: help, files, a
+// number; and what `report` does by its words. `simulate` is in `simulation`, `why` in `inquiry`.
 use put::put_bytes;
 use text::same_bytes;
 ghost use mathlib.Core.Path.{_≡_};
+ghost use Prim.Native.Nat.{min};
 ghost use Rattle.put.specs.Page.{Written};
-ghost use Rattle.usage.specs.Usage.{asksHelp, helpAsked, isOption, isDash, reportAsked, reportUsage, reportHelp, simulateUsage, simulateHelp};
+ghost use Rattle.usage.specs.Usage.{asksHelp, helpAsked, isOption, isDash, twoFiles, numberAsked, reportAsked, reportUsage, reportHelp, simulateUsage, simulateHelp, whyUsage, whyHelp};
 
 // What `report` does by its words.
 pub enum Asked {
@@ -12,6 +13,12 @@ pub enum Asked {
     Help,
     Input,
     File,
+}
+
+// What a word says that should be a number: none, or which.
+pub enum NumberWord {
+    NoNumber,
+    Number(u32),
 }
 
 // Whether the word is -h or --help.
@@ -43,6 +50,55 @@ pub fn is_dash(word: &[u8]) -> bool
     ensures { λ r. ⌜ r ≡ isDash (now (word .entry)) ⌝ }
 {
     same_bytes(word, b"-")
+}
+
+// Whether the words can be two files: neither is an option, and standard input is one of them at most.
+pub fn two_files(first: &[u8], second: &[u8]) -> bool
+    ensures { λ r. ⌜ r ≡ twoFiles (now (first .entry)) (now (second .entry)) ⌝ }
+{
+    !(is_option(first) | is_option(second)) & !(is_dash(first) & is_dash(second))
+}
+
+// A number, or `most` if it is larger.
+fn capped(n: u64, most: u32) -> u64
+    ensures { λ r. ⌜ r ≡ min n most ⌝ }
+{
+    if n < most as u64 {
+        return n;
+    }
+    most as u64
+}
+
+fn wide(b: u8) -> u64
+    ensures { λ r. ⌜ r ≡ b ⌝ }
+{
+    b as u64
+}
+
+// The number that the word writes, or `most` if it is larger: a word has any number of digits.
+pub fn number_asked(word: &[u8], most: u32) -> NumberWord
+    ensures { λ r. ⌜ r ≡ numberAsked (now (word .entry)) most ⌝ }
+{
+    if word.len() == 0 {
+        return NumberWord::NoNumber;
+    }
+    if (word[0] == 48) & (word.len() != 1) {
+        return NumberWord::NoNumber;
+    }
+    let mut value: u64 = 0;
+    let mut i = 0;
+    while i < word.len() {
+        let b = word[i];
+        if b < 48 {
+            return NumberWord::NoNumber;
+        }
+        if 57 < b {
+            return NumberWord::NoNumber;
+        }
+        value = capped(value * 10 + wide(b - 48), most);
+        i += 1;
+    }
+    NumberWord::Number(value as u32)
 }
 
 // What `report` does, started with `count` words, of which these are the first three; `terminal`: standard input is one.
@@ -119,5 +175,33 @@ pub fn simulate_help(out: &mut [u8; 65536]) -> usize
         A line for each slot: its number, and the accelerator served or idle; then done or stopped, and the slots used.\n\
         A refused file prints \"refused\", the number of the cause and the line; standard error says it in words.\n\
         example: simulate scanner.tree scanner.trace 100\n",
+    )
+}
+
+// What `why` says where its arguments are wrong.
+pub fn why_usage(out: &mut [u8; 65536]) -> usize
+    ensures { λ r. ⌜ Written whyUsage (now (out .entry)) (now (out .exit)) r ⌝ }
+{
+    put_bytes(
+        out,
+        0,
+        b"usage: why TREE TRACE ACC NUMBER\nexample: why scanner.tree scanner.trace 1 3\n",
+    )
+}
+
+// What `why` says where help is asked for.
+pub fn why_help(out: &mut [u8; 65536]) -> usize
+    ensures { λ r. ⌜ Written whyHelp (now (out .entry)) (now (out .exit)) r ⌝ }
+{
+    put_bytes(
+        out,
+        0,
+        b"why TREE TRACE ACC NUMBER: runs a trace of requests on a tree, and says why a transaction waited.\n\
+        TREE and TRACE are files; one of the two may be -, standard input. The run has 65536 slots at most.\n\
+        NUMBER is that of a transaction of accelerator ACC, counted from 1 in the order of service.\n\
+        A line for each slot from its admission up to the one before its service, the first 32768 of them: the slot, the\n\
+        accelerator served, and the deepest interconnect on both paths, or own; then waited, and the count of all.\n\
+        A refusal prints \"refused\", the number of the cause and the line; standard error says it in words.\n\
+        example: why scanner.tree scanner.trace 1 3\n",
     )
 }

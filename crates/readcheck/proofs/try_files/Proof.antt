@@ -11,4 +11,14 @@ abbrev μ-loop : tie.MeasureT-loop
 μ-loop t s at₀ turns₀ at turns = 1000 - turns
 
 pub try-files-spec : {M : Type 1} → statement M
-try-files-spec = tie.close (tie.spec Inv-loop μ-loop (λ c. search needs) (λ c κs. search needs) (λ c. search needs) (λ c. search needs) (λ c. search needs) (λ c. search needs))
+try-files-spec =
+    tie.close
+    (tie.spec
+    Inv-loop
+    μ-loop
+    (λ c. search needs)
+    (λ c κs. search needs)
+    (λ c. search needs)
+    (λ c. search needs)
+    (λ c. search needs)
+    (λ c. search needs))

@@ -17,4 +17,15 @@ slice-aggregate-say-of : tie.Need-slice-aggregate-say-of
 slice-aggregate-say-of c = part-length (c .before .reason-text .ensures)
 
 pub refuse-spec : {M : Type 1} → statement M
-refuse-spec = tie.close (tie.spec (λ c κs. search needs) array-share-prefix-page slice-aggregate-write-out (λ c κs. search needs) (λ c κs. search needs) array-share-prefix-page-2 slice-aggregate-say-of (λ c κs. search needs) (λ c. search needs))
+refuse-spec =
+    tie.close
+    (tie.spec
+    (λ c κs. search needs)
+    array-share-prefix-page
+    slice-aggregate-write-out
+    (λ c κs. search needs)
+    (λ c κs. search needs)
+    array-share-prefix-page-2
+    slice-aggregate-say-of
+    (λ c κs. search needs)
+    (λ c. search needs))

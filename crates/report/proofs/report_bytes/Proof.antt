@@ -11,4 +11,13 @@ slice-aggregate-write-out : tie.Need-slice-aggregate-write-out
 slice-aggregate-write-out c = part-length (c .before .before .before .report .ensures .text)
 
 pub report-bytes-spec : {M : Type 1} → statement M
-report-bytes-spec = tie.close (tie.spec (λ c κs. search needs) (λ c κs. search needs) (λ c. search needs) array-share-prefix-page slice-aggregate-write-out (λ c κs. search needs) (λ c. search needs))
+report-bytes-spec =
+    tie.close
+    (tie.spec
+    (λ c κs. search needs)
+    (λ c κs. search needs)
+    (λ c. search needs)
+    array-share-prefix-page
+    slice-aggregate-write-out
+    (λ c κs. search needs)
+    (λ c. search needs))

@@ -11,4 +11,15 @@ slice-aggregate-report-bytes : tie.Need-slice-aggregate-report-bytes
 slice-aggregate-report-bytes c = read-part _ (c .before .before .read .given .1) (c .before .before .before .before .before .load .ensures)
 
 pub report-file-spec : {M : Type 1} → statement M
-report-file-spec = tie.close (tie.spec (λ c. search needs) (λ c κs. search needs) (λ c. search needs) (λ c. search needs) (λ c. search needs) array-share-prefix-tree slice-aggregate-report-bytes (λ c κs. search needs) (λ c. search needs))
+report-file-spec =
+    tie.close
+    (tie.spec
+    (λ c. search needs)
+    (λ c κs. search needs)
+    (λ c. search needs)
+    (λ c. search needs)
+    (λ c. search needs)
+    array-share-prefix-tree
+    slice-aggregate-report-bytes
+    (λ c κs. search needs)
+    (λ c. search needs))

@@ -1,4 +1,5 @@
 -- `bus_keeps` meets its contract: each field is tested against its limits.
+use mir.Facts.{fits-widen}
 use borrow.Author.Needs.{needs}
 use Rattle.rules.specs.Rules.{busKeeps}
 use Rattle.model.proofs.Lists.{and-cong}
@@ -13,24 +14,24 @@ pub bus-keeps-spec : {M : Type 1} → statement M
 bus-keeps-spec =
     tie.close
     (tie.spec
-    (λ c. search needs)
+    (λ c. fits-widen tt (c .struct-known .given .0))
     (λ c κs. search needs)
-    (λ c. search needs)
+    (λ c. fits-widen tt (c .struct-known2 .given .1 .0))
     (λ c κs. search needs)
-    (λ c. search needs)
+    (λ c. fits-widen tt (c .struct-known3 .given .1 .1 .0))
     (λ c κs. search needs)
-    (λ c. search needs)
+    (λ c. fits-widen tt (c .struct-known4 .given .1 .1 .1 .0))
     (λ c κs. search needs)
-    (λ c. search needs)
+    (λ c. fits-widen tt (c .struct-known5 .given .1 .1 .1 .1 .0))
     (λ c κs. search needs)
-    (λ c. search needs)
+    (λ c. fits-widen tt (c .struct-known6 .given .1 .1 .1 .1 .1 .0))
     (λ c κs. search needs)
-    (λ c. search needs)
+    (λ c. fits-widen tt (c .struct-known7 .given .1 .1 .1 .1 .1 .1 .0))
     (λ c κs. search needs)
-    (λ c. search needs)
+    (λ c. fits-widen tt (c .struct-known8 .given .1 .1 .1 .1 .1 .1 .1 .0))
     (λ c κs. search needs)
-    (λ c. search needs)
+    (λ c. fits-widen tt (c .struct-known9 .given .1 .1 .1 .1 .1 .1 .1 .1 .0))
     (λ c κs. search needs)
-    (λ c. search needs)
+    (λ c. fits-widen tt (c .struct-known10 .given .1 .1 .1 .1 .1 .1 .1 .1 .1 .0))
     (λ c κs. search needs)
     returns)

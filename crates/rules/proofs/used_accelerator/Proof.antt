@@ -2,6 +2,7 @@
 use mathlib.Core.Path.{ap, _∙_}
 use mathlib.Core.Bool.{_&&_}
 use lib.Dec.{ltb, leb}
+use mir.Facts.{fits-widen}
 use borrow.Author.Needs.{needs}
 use Rattle.model.specs.declared.Accelerator.{Accelerator}
 use Rattle.folds.specs.Fold.{within}
@@ -26,4 +27,22 @@ returns c =
     (c .in-limits6 .ensures ∙ ap (λ (x : Accelerator). within 1 (x .period) 4294967295) e)
 
 pub used-accelerator-spec : {M : Type 1} → statement M
-used-accelerator-spec = tie.close (tie.spec (λ c κs. search needs) (λ c κs. search needs) (λ c κs. search needs) (λ c. search needs) (λ c κs. search needs) (λ c. search needs) (λ c κs. search needs) (λ c. search needs) (λ c κs. search needs) (λ c. search needs) (λ c κs. search needs) (λ c. search needs) (λ c κs. search needs) (λ c. search needs) (λ c κs. search needs) returns)
+used-accelerator-spec =
+    tie.close
+    (tie.spec
+    (λ c κs. search needs)
+    (λ c κs. search needs)
+    (λ c κs. search needs)
+    (λ c. fits-widen tt (c .struct-known4 .given .1 .1 .0))
+    (λ c κs. search needs)
+    (λ c. fits-widen tt (c .struct-known5 .given .1 .1 .1 .0))
+    (λ c κs. search needs)
+    (λ c. fits-widen tt (c .struct-known6 .given .1 .1 .1 .1 .0))
+    (λ c κs. search needs)
+    (λ c. fits-widen tt (c .struct-known7 .given .1 .1 .1 .1 .1 .0))
+    (λ c κs. search needs)
+    (λ c. fits-widen tt (c .struct-known8 .given .1 .1 .1 .1 .1 .1 .0))
+    (λ c κs. search needs)
+    (λ c. fits-widen tt (c .struct-known9 .given .1 .1 .1 .1 .1 .1 .1 .0))
+    (λ c κs. search needs)
+    returns)

@@ -1,89 +1,124 @@
--- `run_slots` meets its contract: what was written so far, with what is left of the run, is the run from the start.
-use mathlib.Core.Path.{_≡_, refl, sym, _∙_}
-use Prim.Native.Nat.{_≤_, _-_, _+_}
+-- `run_slots` meets its contract: what was written so far, with what is left of the run, is the run from the start, and what was told is
+-- what its slots tell.
+use mathlib.Core.Path.{_≡_, refl, sym, _∙_, ap}
+use Prim.Native.Nat.{ℕ, _≤_, _<_, _-_, _+_, _%_}
 use mathlib.Core.Bool.{true, false}
+use mathlib.Core.List.{List}
+use mathlib.Core.Logic.{inl, inr}
 use native.Mathlib.Omega.{arith}
-use lib.ListN.{length}
+use lib.ListN.{length, getD}
+use lib.Seq.{getD-take}
 use borrow.Author.Needs.{needs}
 use borrow.Author.Tests.{not-true, not-false}
-use mathlib.Core.Logic.{inl, inr}
 use Rattle.folds.proofs.Folds.{clash}
 use Rattle.counts.proofs.Table.{table-is}
+use Rattle.machine.specs.Machine.{lastSlot}
 use Rattle.admit.specs.Admitting.{arraysOf}
-use Rattle.runner.specs.Run.{runFor}
+use Rattle.rules.proofs.Sound.{sound}
+use Rattle.runner.specs.Run.{start}
 use Rattle.runner.specs.Places.{leftAt}
-use Rattle.runner.proofs.Slots.{Running, running-start, running-turn, running-ended}
-use Rattle.runner.proofs.Walk.{fewer, Fixed, Walk, walk-start, walk-done, walk-next}
+use Rattle.runner.proofs.Walk.{fewer, Fixed, Walk, walk-start, walk-done, walk-waiting, walk-next}
+use Rattle.runner.specs.Answers.{waitOf}
+use Rattle.runner.proofs.Telling.{Telling, telling-start, telling-slot, telling-few, telling-turn, telling-ended}
 use Rattle.runner.proofs.run_slots.Statement.{statement}
 use Rattle.runner.proofs.run_slots.Tie as tie
 
 abbrev Inv-loop : tie.InvT-loop
-Inv-loop t trace out₀ table next blocks₀ under₀ turns₀ line₀ window past₀ used₀ out blocks under turns line past used =
+Inv-loop t trace a k out₀ table next blocks₀ under₀ turns₀ line₀ window past₀ told₀ used₀ out blocks under turns line past told used =
     Fixed t table next
-    × Walk t trace (Running t (runFor t (leftAt trace 0) (length out₀)) out₀ out used) (arraysOf blocks under turns) line past used
+    × Walk t trace (Telling t (start t (leftAt trace 0)) a k out₀ out (waitOf told) used) (arraysOf blocks under turns) line past used
     × (length out₀ ≤ 65536)
+    × ((k ≡ 0 → ⊥) → a < 32)
     × (window ≡ t .bus .window)
 
 abbrev μ-loop : tie.MeasureT-loop
-μ-loop t trace out₀ table next blocks₀ under₀ turns₀ line₀ window past₀ used₀ out blocks under turns line past used = length out - used
+μ-loop t trace a k out₀ table next blocks₀ under₀ turns₀ line₀ window past₀ told₀ used₀ out blocks under turns line past told used = length out - used
 
 loop-holds : tie.Need-loop-holds Inv-loop μ-loop
 loop-holds c =
     let x = c .before .before .before .before .before .before .before .args in
     let q = c .before .before .before .before .before .before .before .pre in
     let y = c .before .turns-of .ensures in (
-      record { rules = q .0; table = table-is (x .t) _ (c .before .before .before .before .table-of .ensures); next = c .before .before .before .next-ports .ensures },
+      record {
+        rules = q .0;
+        table = table-is (x .t) _ (c .before .before .before .before .table-of .ensures);
+        next = c .before .before .before .next-ports .ensures;
+      },
       walk-start (x .t) (x .trace .now) _ _ _ (x .fresh) _ (q .0) (q .1) (q .3) (y .0) (y .1 .0) (y .1 .1)
-          (running-start (x .t) (x .out .now) _),
+          (telling-start (x .t) _ (x .a) (x .k) (x .out .now)),
       q .2,
+      (λ z. omega (arith, sound (x .t) (q .0) .most-accs, q .4 z)),
       refl,
     )
 
-before-slot-requires : tie.Need-before-slot-requires Inv-loop μ-loop
-before-slot-requires c κs = c .before .before .before .before .before .before .before .before .before .loop .inv .1 .shows .line
-
 cast-before-slot : tie.Need-cast-before-slot Inv-loop μ-loop
-cast-before-slot c = let l = c .before .before .before .before .before .loop in omega (arith, l .inv .1 .holds .small)
+cast-before-slot c =
+    let more = c .before .before .before .before in
+    let l = more .before .loop in
+    omega (arith, telling-slot _ _ _ _ _ _ _ _ _ (l .inv .1 .holds) (more .loop-test .taken) (l .inv .2))
 
 slice-write-out : tie.Need-slice-write-out Inv-loop μ-loop
 slice-write-out c = c .before .before .before .before .before .before .before .before .before .before .before .before .before .before .before .loop-test .taken
 
+cast-tell : tie.Need-cast-tell Inv-loop μ-loop
+cast-tell c =
+    let more = c .before .before .before .before .before .before .before .before .before .before .before .before .before .before .before in
+    let l = more .before .loop in
+    omega (arith, telling-slot _ _ _ _ _ _ _ _ _ (l .inv .1 .holds) (more .loop-test .taken) (l .inv .2))
+
+tell-requires : tie.Need-tell-requires Inv-loop μ-loop
+tell-requires c κs =
+    let more = c .before .before .before .before .before .before .before .before .before .before .before .before .before .before .before .before in
+    let l = more .before .loop in
+    (telling-slot _ _ _ _ _ _ _ _ _ (l .inv .1 .holds) (more .loop-test .taken) (l .inv .2), telling-few _ _ _ _ _ _ _ _ _ (l .inv .1 .holds))
+
 add-used : tie.Need-add-used Inv-loop μ-loop
-add-used c = let l = c .before .before .before .before .before .before .before .before .before .before .before .before .before .before .before .before .loop in omega (arith, l .inv .1 .holds .small)
+add-used c =
+    let more = c .before .before .before .before .before .before .before .before .before .before .before .before .before .before .before .before .before in
+    let l = more .before .loop in
+    omega (arith, telling-slot _ _ _ _ _ _ _ _ _ (l .inv .1 .holds) (more .loop-test .taken) (l .inv .2))
 
 loop-less : tie.Need-loop-less Inv-loop μ-loop
 loop-less c =
-    let k = c .before .before .before .before .before .before .before .before .before .before .before .before .before .before .before in
-    let l = k .before .loop in
-    fewer (l .out) (l .used) _ _ (k .loop-test .taken) (omega arith)
+    let more = c .before .before .before .before .before .before .before .before .before .before .before .before .before .before .before .before .before in
+    let l = more .before .loop in
+    fewer (l .out) (l .used) _ _ (more .loop-test .taken) (omega arith)
 
 loop-again : tie.Need-loop-again Inv-loop μ-loop
 loop-again c =
-    let k = c .before .before .before .before .before .before .before .before .before .before .before in
+    let k = c .before .before .before .before .before .before .before .before .before .before .before .before .before in
     let x = k .before .before .before .before .before .before .before .before .before .before .before .before .before .args in
     let l = k .before .before .before .before .before .loop in
     let G = l .inv .1 in
     let d = arraysOf (l .blocks) (l .under) (l .turns) in
-    let first = c .before .before .before .before .before .before .before-slot in
-    let then = c .after-slot in
-    let R = Running (x .t) (runFor (x .t) (leftAt (x .trace .now) 0) (length (x .out .now))) (x .out .now) in
+    let first = c .before .before .before .before .before .before .before .before .before-slot in
+    let then = c .before .before .after-slot in
     let more = k .before .before .before .before .loop-test .taken in
+    let early : l .used < lastSlot = omega (arith, G .holds .running .long, l .inv .2) in
+    let shown = walk-waiting (x .t) _ _ (x .trace .now) (l .inv .0) _ d (l .line) (l .past) (l .used) G
+    (first .result) (first .ensures .1) _ (first .ensures .0) _ (l .inv .4) (then .result) (then .ensures .0) _ (then .ensures .1) early in
+    let b = then .last .1 .1 .1 .1 .0 in
     let done = walk-done (x .t) _ _ (x .trace .now) (l .inv .0) _ d (l .line) (l .past) (l .used) G _ (k .before .is-done .ensures) in
     let going = sym done ∙ not-true _ (k .if1 .taken) in (
       l .inv .0,
       walk-next (x .t) _ _ (x .trace .now) (l .inv .0) _ d (l .line) (l .past) (l .used) G
-          (first .result) (first .ensures .1) _ (first .ensures .0) _ (l .inv .3) (then .result) (then .ensures .0) _ (then .ensures .1)
-          (omega (arith, G .holds .long)) (R _ (l .used + 1))
-          (running-turn (x .t) _ (x .out .now) (l .out) (l .used) _ (G .holds) more going (then .result .served)),
+          (first .result) (first .ensures .1) _ (first .ensures .0) _ (l .inv .4) (then .result) (then .ensures .0) _ (then .ensures .1)
+          early (Telling (x .t) _ (x .a) (x .k) (x .out .now) _ _ (l .used + 1))
+          (telling-turn (x .t) _ (x .a) (x .k) (x .out .now) (l .out) (waitOf (l .told)) (l .used) _ (G .holds) more going
+          (λ z e. omega (arith, l .inv .3 z)) _
+          (λ z. let own = l .inv .3 z in let same : x .a % 32 ≡ x .a = omega (arith, own) in
+          ap (λ (i : ℕ). getD b i 0) same ∙ sym (getD-take 32 b (x .a) 0 own) ∙ ap (λ (w : List ℕ). getD w (x .a) 0) shown)
+          (then .result .served) (waitOf (c .tell .result)) (c .tell .ensures)),
       l .inv .2,
       l .inv .3,
+      l .inv .4,
     )
 
 cast-ended : tie.Need-cast-ended Inv-loop μ-loop
-cast-ended c = let l = c .before .before .before .before .loop in omega (arith, l .inv .1 .holds .small)
+cast-ended c = let l = c .before .before .before .before .loop in omega (arith, l .inv .1 .holds .running .small, l .inv .2)
 
 same-length : tie.Need-same-length Inv-loop μ-loop
-same-length c = c .before .before .before .before .before .loop .inv .1 .holds .long
+same-length c = c .before .before .before .before .before .loop .inv .1 .holds .running .long
 
 returns : tie.Need-returns Inv-loop μ-loop
 returns c =
@@ -98,12 +133,12 @@ returns c =
           clash cc
       | inr q ↦ q .left
     ] in
-    let r = running-ended (x .t) _ (x .out .now) (l .out) (l .used) _ (G .holds) _ full (sym e) in
-    (c .ended .ensures ∙ r .0, r .1)
+    let r = telling-ended (x .t) _ (x .a) (x .k) (x .out .now) (l .out) (waitOf (l .told)) (l .used) _ (G .holds) _ full (sym e) in
+    (c .ended .ensures ∙ r .0, (r .1, r .2))
 
 pub run-slots-spec : {M : Type 1} → statement M
 run-slots-spec =
     tie.close
-    (tie.spec Inv-loop μ-loop (λ c κs. search needs) (λ c κs. search needs) (λ c κs. search needs) (λ c. search needs) loop-holds (λ c κs. search needs)
-    cast-before-slot before-slot-requires (λ c κs. search needs) slice-write-out add-used
-    loop-less loop-again (λ c κs. search needs) cast-ended (λ c κs. search needs) same-length returns)
+    (tie.spec Inv-loop μ-loop (λ c κs. search needs) (λ c κs. search needs) (λ c κs. search needs) (λ c. search needs) loop-holds
+    (λ c κs. search needs) cast-before-slot (λ c κs. search needs) (λ c κs. search needs) slice-write-out cast-tell
+    tell-requires add-used loop-less loop-again (λ c κs. search needs) cast-ended (λ c κs. search needs) same-length returns)

@@ -11,4 +11,15 @@ slice-aggregate-run-tree : tie.Need-slice-aggregate-run-tree
 slice-aggregate-run-tree c = read-part _ (c .before .before .read .given .1) (c .before .before .before .before .before .load .ensures)
 
 pub run-files-spec : {M : Type 1} → statement M
-run-files-spec = tie.close (tie.spec (λ c. search needs) (λ c κs. search needs) (λ c. search needs) (λ c. search needs) (λ c. search needs) array-share-prefix-tree slice-aggregate-run-tree (λ c κs. search needs) (λ c. search needs))
+run-files-spec =
+    tie.close
+    (tie.spec
+    (λ c. search needs)
+    (λ c κs. search needs)
+    (λ c. search needs)
+    (λ c. search needs)
+    (λ c. search needs)
+    array-share-prefix-tree
+    slice-aggregate-run-tree
+    (λ c κs. search needs)
+    (λ c. search needs))

@@ -11,4 +11,15 @@ slice-aggregate-run-slots : tie.Need-slice-aggregate-run-slots
 slice-aggregate-run-slots c = read-part _ (c .before .before .read .given .1) (c .before .before .before .before .before .load .ensures)
 
 pub run-tree-spec : {M : Type 1} → statement M
-run-tree-spec = tie.close (tie.spec (λ c. search needs) (λ c κs. search needs) (λ c. search needs) (λ c. search needs) (λ c. search needs) array-share-prefix-trace slice-aggregate-run-slots (λ c κs. search needs) (λ c. search needs))
+run-tree-spec =
+    tie.close
+    (tie.spec
+    (λ c. search needs)
+    (λ c κs. search needs)
+    (λ c. search needs)
+    (λ c. search needs)
+    (λ c. search needs)
+    array-share-prefix-trace
+    slice-aggregate-run-slots
+    (λ c κs. search needs)
+    (λ c. search needs))

@@ -2,6 +2,7 @@
 use mathlib.Core.Path.{_∙_, ap}
 use borrow.Author.Needs.{needs}
 use Rattle.admit.specs.Admitting.{offersBefore}
+use Rattle.runner.specs.Due.{Taken}
 use Rattle.runner.specs.Arrays.{everyOn}
 use Rattle.runner.proofs.Parts.{due-arrays}
 use Rattle.runner.proofs.steps.before_slot.Statement.{statement}
@@ -14,8 +15,8 @@ returns c =
     let T = q .ensures in (
       c .offer-before-slot .ensures
           ∙ ap (offersBefore (x .table .now) (everyOn (x .past) (x .line) (x .slot)) (x .past .served) (x .accs))
-          (due-arrays (x .blocks .now) (q .last .1 .1 .1 .0) (x .under .now) (x .turns .now) _ (T .0) (T .1 .1)),
-      T .1 .0,
+          (due-arrays (x .blocks .now) (q .last .1 .1 .1 .0) (x .under .now) (x .turns .now) _ (ap (λ (y : Taken). y .held) (T .0)) (T .1)),
+      ap (λ (y : Taken). y .line) (T .0),
     )
 
 pub before-slot-spec : {M : Type 1} → statement M

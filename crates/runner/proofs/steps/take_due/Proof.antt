@@ -1,113 +1,160 @@
--- `take_due` meets its contract: what is left to add from here is what was left at the start.
-use mathlib.Core.Path.{_≡_, refl, sym, _∙_, subst}
-use mathlib.Core.List.{List}
-use Prim.Native.Nat.{ℕ, _-_}
+use mathlib.Core.Path.{_≡_, refl, ap, sym, _∙_}
+use Prim.Native.Nat.{ℕ, _≤_, _<_, _-_, _+_, _*_}
 use native.Mathlib.Omega.{arith}
-use lib.ListN.{length, take}
-use lib.Seq.{getD-drop}
+use borrow.Author.Tests.{le-ltb, lt-ltb, le-leb, lt-leb, eq-eqb, ne-eqb}
+use lib.ListN.{length, take, drop, getD, set}
 use Rattle.admit.specs.Admitting.{helds}
 use borrow.Author.Needs.{needs}
+use Rattle.trace.proofs.Requests.{walk-end}
+use Rattle.runner.specs.Due.{taken, lineAt}
 use Rattle.runner.proofs.Parts.{add-held, add-rest}
-use Rattle.runner.proofs.Trace.{Taking, taking-start, taken-none, line-some, taking-next, taking-later, taking-turn, taking-all}
+use Rattle.runner.proofs.Due.{found, left, left-none, left-later, left-step, on-none, on-some}
 use Rattle.runner.proofs.steps.take_due.Statement.{statement}
 use Rattle.runner.proofs.steps.take_due.Tie as tie
+use Rattle.runner.proofs.steps.take_due.Reads as reads
+use Rattle.runner.proofs.steps.take_due.Lts as lts
+use Rattle.runner.proofs.steps.more_held.Reads as more-held-reads
+use Rattle.trace.proofs.request_at.Reads as request-at-reads
 
 abbrev Inv-loop : tie.InvT-loop
-Inv-loop trace slot line blocks₀ place₀ blocks place =
-    Taking slot trace (helds blocks₀) (line .at) (helds blocks) place × (take 64 blocks ≡ take 64 blocks₀)
+Inv-loop trace slot blocks₀ place₀ blocks place =
+    (left slot trace place (helds blocks) ≡ left slot trace place₀ (helds blocks₀)) × (take 64 blocks ≡ take 64 blocks₀)
 
 abbrev μ-loop : tie.MeasureT-loop
-μ-loop trace slot line blocks₀ place₀ blocks place = length trace - place
+μ-loop trace slot blocks₀ place₀ blocks place = length trace - place
 
+-- src/steps.rt:44:9
 returns : tie.Need-returns Inv-loop μ-loop
 returns c =
     let x = c .before .before .before .args in
-    let T = taken-none (x .slot) (x .trace .now) (helds (x .blocks .now)) (x .line) (c .before .before .before .pre) (c .if1 .taken) in
-    (T .0, (T .1, refl))
+    (sym (on-none (x .slot) (x .trace .now) (x .line) (helds (x .blocks .now)) (c .if1 .taken)), refl)
 
+-- src/steps.rt:47:5
 loop-holds : tie.Need-loop-holds Inv-loop μ-loop
-loop-holds c =
-    let x = c .before .before .before .args in
-    let q = c .before .before .before .pre in
-    (taking-start (x .slot) (x .trace .now) (helds (x .blocks .now)) (x .line .at) (q .accepts) (q .room), refl)
+loop-holds c = (refl, refl)
 
+-- src/steps.rt:48:47
+request-at-requires : tie.Need-request-at-requires Inv-loop μ-loop
+request-at-requires c κs = search needs
+
+-- src/steps.rt:48:30
+enum-known-request : tie.Need-enum-known-request Inv-loop μ-loop
+enum-known-request c = search needs
+
+-- src/steps.rt:49:13
+enum-told : tie.Need-enum-told Inv-loop μ-loop
+enum-told c = search needs
+
+-- src/steps.rt:49:13
 returns-2 : tie.Need-returns-2 Inv-loop μ-loop
 returns-2 c =
-    let l = c .before .before .before .before .loop in
-    let found = sym (c .before .before .request-at .ensures) ∙ c .enum-told .given .1 in
-    absurd (line-some _ _ (l .inv .0 .accepts) (c .before .before .before .loop-test .taken) found)
+    let k = c .before .before .before .before in
+    let x = k .before .before .before .before .args in
+    let l = k .loop in
+    let done = sym (c .before .before .request-at .ensures) ∙ c .enum-told .given .1 in (
+      sym (left-none (x .slot) (x .trace .now) (l .place) (helds (l .blocks)) done) ∙ l .inv .0
+          ∙ sym (on-some (x .slot) (x .trace .now) (x .line) (helds (x .blocks .now)) (omega (arith, k .before .if1 .left))),
+      l .inv .1,
+    )
 
+-- src/steps.rt:55:13
 returns-3 : tie.Need-returns-3 Inv-loop μ-loop
 returns-3 c =
     let k = c .before .before .before .before .before .before .before in
     let x = k .before .before .before .before .args in
     let l = k .loop in
-    let e = sym (c .before .before .before .before .before .request-at .ensures) ∙ c .before .before .before .request .given .1 in
-    let T = taking-later (x .slot) (x .trace .now) (helds (x .blocks .now)) (x .line .at) (helds (l .blocks)) (l .place) (l .inv .0)
-    (c .before .before .before .before .before .before .loop-test .taken) _ _ e (c .if2 .taken) in
-    (T .0, (T .1, l .inv .1))
+    let e = sym (c .before .before .before .before .before .request-at .ensures) ∙ c .before .before .before .request .given .1 in (
+      sym (left-later (x .slot) (x .trace .now) (l .place) (helds (l .blocks)) _ _ e (c .if2 .taken)) ∙ l .inv .0
+          ∙ sym (on-some (x .slot) (x .trace .now) (x .line) (helds (x .blocks .now)) (omega (arith, k .before .if1 .left))),
+      l .inv .1,
+    )
 
-element-copy-out-blocks : tie.Need-element-copy-out-blocks Inv-loop μ-loop
-element-copy-out-blocks c =
-    let k = c .before .before .before .before .before .before .before .before in
-    let x = k .before .before .before .before .args in
-    let l = k .loop in
+-- src/steps.rt:60:24
+cast-a : tie.Need-cast-a Inv-loop μ-loop
+cast-a c = search needs
+
+-- src/steps.rt:60:17
+add-a : tie.Need-add-a Inv-loop μ-loop
+add-a c = search needs
+
+-- src/steps.rt:61:31
+mul-more-held : tie.Need-mul-more-held Inv-loop μ-loop
+mul-more-held c = search needs
+
+-- src/steps.rt:61:31
+element-copy-out-more-held : tie.Need-element-copy-out-more-held Inv-loop μ-loop
+element-copy-out-more-held c =
     let e = sym (c .before .before .before .before .before .before .request-at .ensures) ∙ c .before .before .before .before .request .given .1 in
-    let q = taking-next (x .slot) (x .trace .now) (helds (x .blocks .now)) (x .line .at) (helds (l .blocks)) (l .place) (l .inv .0)
-    (c .before .before .before .before .before .before .before .loop-test .taken) _ _ e in
-    omega (arith, q .known)
+    let F = found _ _ _ _ e in
+    omega (arith, F .known)
 
-add-blocks : tie.Need-add-blocks Inv-loop μ-loop
-add-blocks c =
-    let l = c .before .before .before .before .before .before .before .before .before .before .loop in
-    let a = c .before .before .before .before .before .before .request .given .0 .0 .accelerator in
-    omega (arith, getD-drop 64 (l .blocks) a 0, l .inv .0 .room a, l .inv .0 .accepts .inside, l .inv .0 .accepts .short)
+-- src/steps.rt:61:21
+more-held-requires : tie.Need-more-held-requires Inv-loop μ-loop
+more-held-requires c κs = search needs
 
+-- src/steps.rt:61:9
+mul-blocks : tie.Need-mul-blocks Inv-loop μ-loop
+mul-blocks c = search needs
+
+-- src/steps.rt:61:9
 element-write-blocks : tie.Need-element-write-blocks Inv-loop μ-loop
 element-write-blocks c =
-    let k = c .before .before .before .before .before .before .before .before .before .before in
-    let x = k .before .before .before .before .args in
-    let l = k .loop in
     let e = sym (c .before .before .before .before .before .before .before .before .request-at .ensures) ∙ c .before .before .before .before .before .before .request .given .1 in
-    let q = taking-next (x .slot) (x .trace .now) (helds (x .blocks .now)) (x .line .at) (helds (l .blocks)) (l .place) (l .inv .0)
-    (c .before .before .before .before .before .before .before .before .before .loop-test .taken) _ _ e in
-    omega (arith, q .known)
+    let F = found _ _ _ _ e in
+    omega (arith, F .known)
 
+-- src/steps.rt:47:5
 loop-less : tie.Need-loop-less Inv-loop μ-loop
 loop-less c =
-    let k = c .before .before .before .before .before .before .before .before .before .before in
-    let x = k .before .before .before .before .args in
-    let l = k .loop in
     let e = sym (c .before .before .before .before .before .before .before .before .request-at .ensures) ∙ c .before .before .before .before .before .before .request .given .1 in
-    let q = taking-next (x .slot) (x .trace .now) (helds (x .blocks .now)) (x .line .at) (helds (l .blocks)) (l .place) (l .inv .0)
-    (c .before .before .before .before .before .before .before .before .before .loop-test .taken) _ _ e in
-    omega (arith, q .later, q .accepts .inside)
+    let F = found _ _ _ _ e in
+    omega (arith, F .later, F .inside)
 
+-- src/steps.rt:47:5
 loop-again : tie.Need-loop-again Inv-loop μ-loop
 loop-again c =
     let k = c .before .before .before .before .before .before .before .before .before .before in
     let x = k .before .before .before .before .args in
     let l = k .loop in
-    let h₀ = helds (x .blocks .now) in
     let e = sym (c .before .before .before .before .before .before .before .before .request-at .ensures) ∙ c .before .before .before .before .before .before .request .given .1 in
     let r = c .before .before .before .before .before .before .request .given .0 .0 in
-    let p = c .before .before .before .before .before .before .request .given .0 .1 .0 in
-    let T = taking-turn (x .slot) (x .trace .now) h₀ (x .line .at) (helds (l .blocks)) (l .place) (l .inv .0)
-    (c .before .before .before .before .before .before .before .before .before .loop-test .taken) r p e (c .before .before .before .if2 .left) (search needs) in (
-      subst (λ (h : List ℕ). Taking (x .slot) (x .trace .now) h₀ (x .line .at) h p) (sym (add-held (l .blocks) r)) T,
-      add-rest (l .blocks) r ∙ l .inv .1,
+    let p = c .before .before .before .before .before .before .request .given .0 .1 .0 in (
+      ap (left (x .slot) (x .trace .now) p) (add-held (l .blocks) r _ (c .more-held .ensures))
+          ∙ sym (left-step (x .slot) (x .trace .now) (l .place) (helds (l .blocks)) r p e (omega (arith, c .before .before .before .if2 .left))) ∙ l .inv .0,
+      add-rest (l .blocks) r _ (c .more-held .ensures) ∙ l .inv .1,
     )
 
+-- src/steps.rt:39:1
 returns-4 : tie.Need-returns-4 Inv-loop μ-loop
 returns-4 c =
-    let x = c .before .before .before .before .before .args in
     let l = c .before .loop in
-    let T = taking-all (x .slot) (x .trace .now) (helds (x .blocks .now)) (x .line .at) (helds (l .blocks)) (l .place) (l .inv .0) (c .loop-test .left) in
-    (T .0, (T .1, l .inv .1))
+    let x = c .before .before .before .before .before .args in
+    let done = walk-end (x .trace .now) (l .place) (c .loop-test .left) .0 in (
+      sym (left-none (x .slot) (x .trace .now) (l .place) (helds (l .blocks)) done) ∙ l .inv .0
+          ∙ sym (on-some (x .slot) (x .trace .now) (x .line) (helds (x .blocks .now)) (omega (arith, c .before .before .if1 .left))),
+      l .inv .1,
+    )
 
 pub take-due-spec : {M : Type 1} → statement M
 take-due-spec =
     tie.close
-    (tie.spec Inv-loop μ-loop returns loop-holds (λ c κs. search needs) (λ c. search needs) (λ c. search needs) returns-2 returns-3
-    (λ c. search needs) (λ c. search needs) (λ c. search needs) element-copy-out-blocks (λ c. search needs) add-blocks
-    (λ c. search needs) element-write-blocks loop-less loop-again returns-4)
+    (tie.spec
+    Inv-loop
+    μ-loop
+    returns
+    loop-holds
+    request-at-requires
+    enum-known-request
+    enum-told
+    returns-2
+    returns-3
+    cast-a
+    add-a
+    mul-more-held
+    element-copy-out-more-held
+    more-held-requires
+    mul-blocks
+    element-write-blocks
+    loop-less
+    loop-again
+    returns-4)

@@ -1,0 +1,3 @@
+pub mod Words
+pub mod Paged
+pub mod Beyond

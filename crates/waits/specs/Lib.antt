@@ -1,0 +1,3 @@
+pub mod Why
+pub mod Answers
+pub mod Told
