@@ -1,4 +1,4 @@
-/* Calls the static library from C: the report of a tree, the bounds of each accelerator, a run, and a refusal.
+/* Calls the static library from C: the report of a tree, the bounds of each accelerator, a run, a wait, and a refusal.
  *
  *     cc -Iinclude include/example.c target/staticlib/librazhikum.a -o example
  */
@@ -34,6 +34,23 @@ static void show_run(const uint8_t *tree, size_t tree_bytes) {
     printf("%s\n", run.kind == RAZHIKUM_DONE ? "done" : "stopped or refused");
 }
 
+/* Why the second transaction of accelerator 0 waited. */
+static void show_wait(const uint8_t *tree, size_t tree_bytes) {
+    uint8_t list[8];
+    razhikum_wait wait =
+        razhikum_why(tree, tree_bytes, (const uint8_t *)TRACE, strlen(TRACE), 0, 2, list, sizeof list);
+    for (uint32_t i = 0; i < wait.count && 2 * i + 1 < sizeof list; i++) {
+        uint8_t met = list[2 * i + 1];
+        printf("slot %" PRIu32 ": waited for accelerator %u", wait.slot + i, list[2 * i]);
+        if (met == RAZHIKUM_OWN) {
+            puts(", its own");
+        } else {
+            printf(" at interconnect %u\n", met);
+        }
+    }
+    printf("waited %" PRIu32 " slots\n", wait.count);
+}
+
 int main(void) {
     static uint8_t page[RAZHIKUM_PAGE];
     const uint8_t *tree = (const uint8_t *)TREE;
@@ -46,6 +63,7 @@ int main(void) {
     fwrite(page, 1, report.bytes, stdout);
     show_bounds(tree, tree_bytes);
     show_run(tree, tree_bytes);
+    show_wait(tree, tree_bytes);
 
     razhikum_reading cut = razhikum_read_tree(tree, tree_bytes - 1);
     if (cut.number == RAZHIKUM_SHAPE) {

@@ -12,7 +12,7 @@
  * same time must not have the same `out`.
  *
  * In every answer `number` is the number of a refusal (enum razhikum_refusal), or 0 where nothing is refused, and `line` its
- * line, counted from 1, or 0 where it has none (the size of a file or of a buffer; 7 and 11 of a call). A refusal leaves every
+ * line, counted from 1, or 0 where it has none (the size of a file or of a buffer; 7, 11 and 12 of a call). A refusal leaves every
  * `out` as it was.
  */
 #ifndef RAZHIKUM_H
@@ -26,8 +26,8 @@
 extern "C" {
 #endif
 
-/* The version of this header: 10000 for each first figure, 100 for each second, 1 for each third. 10000 is 1.0.0. */
-#define RAZHIKUM_VERSION 10000
+/* The version of this header: 10000 for each first figure, 100 for each second, 1 for each third. 10100 is 1.1.0. */
+#define RAZHIKUM_VERSION 10100
 
 /* The version of the archive. Where it is not RAZHIKUM_VERSION, header and archive do not belong together. */
 uint32_t razhikum_version(void);
@@ -38,15 +38,19 @@ uint32_t razhikum_version(void);
 /* The most bytes of a file: a larger one is refused by RAZHIKUM_RANGE, with line 0. */
 #define RAZHIKUM_LIMIT 65536
 
-/* The most slots of a run: a larger buffer is refused by RAZHIKUM_RANGE, with line 0. */
+/* The most slots of a run, and the most bytes of a buffer for a run or a wait: a larger one is refused by RAZHIKUM_RANGE, with
+ * line 0. */
 #define RAZHIKUM_SLOTS 65536
 
 /* The byte of an idle slot. */
 #define RAZHIKUM_IDLE 255
 
-/* The number of a refusal (docs/FORMAT.md, F45). A tree file is refused by 1 to 5, a trace file by 1, 2, 6 or 7, a bound by 7
- * where the tree has no such accelerator. 8 to 10 answer calls of the machine, which are not exported; 11 answers a
- * configuration that no file gives. */
+/* The second byte of a slot of a wait in which the same accelerator is served. */
+#define RAZHIKUM_OWN 255
+
+/* The number of a refusal (docs/FORMAT.md, F45). A tree file is refused by 1 to 5, a trace file by 1, 2, 6 or 7, a bound and
+ * a wait by 7 where the tree has no such accelerator, a wait then by 12. 8 to 10 answer calls of the machine, which are not
+ * exported; 11 answers a configuration that no file gives. */
 enum razhikum_refusal {
     RAZHIKUM_ACCEPTED = 0,
     RAZHIKUM_SHAPE = 1,       /* a line of wrong shape: name, count of fields, a malformed number, a missing last LF */
@@ -59,7 +63,8 @@ enum razhikum_refusal {
     RAZHIKUM_OUTSTANDING = 8, /* phi transactions of the accelerator are outstanding */
     RAZHIKUM_BUDGET = 9,      /* the accelerator's budget of this window is used */
     RAZHIKUM_LAST_SLOT = 10,  /* the slot count is at its end */
-    RAZHIKUM_BROKEN = 11      /* the configuration or the state breaks its rules */
+    RAZHIKUM_BROKEN = 11,     /* the configuration or the state breaks its rules */
+    RAZHIKUM_NOT_SERVED = 12  /* the number of a transaction is 0, or the run serves fewer of its accelerator */
 };
 
 /* razhikum_reading.file: which file is refused. */
@@ -72,6 +77,10 @@ enum razhikum_kind {
     RAZHIKUM_TREE_REFUSED = 2,
     RAZHIKUM_TRACE_REFUSED = 3
 };
+
+/* razhikum_wait.kind, besides RAZHIKUM_TREE_REFUSED and RAZHIKUM_TRACE_REFUSED of a run: the wait is told; or both files are accepted,
+ * and the accelerator or the transaction that the call names is refused. */
+enum razhikum_wait_kind { RAZHIKUM_TOLD = 0, RAZHIKUM_CALL_REFUSED = 4 };
 
 /* What a reader answers. */
 typedef struct {
@@ -102,6 +111,24 @@ typedef struct {
     uint32_t slots;
 } razhikum_outcome;
 
+/* How a transaction waited. `count` is the number of slots from that of its admission up to the one before its service, 0 where it is
+ * served in the slot of its admission; `slot` is the slot of its admission, counted from 0, so `slot + count` is the one that
+ * serves it. By kind:
+ *
+ *     kind                      number          line                                           count, slot
+ *     RAZHIKUM_TOLD             0               0                                              as above
+ *     RAZHIKUM_TREE_REFUSED     1 to 5          of the tree file, 0 for its size               0
+ *     RAZHIKUM_TRACE_REFUSED    1, 2, 6 or 7    of the trace file, 0 for its size or `out`'s   0
+ *     RAZHIKUM_CALL_REFUSED     7 or 12         0                                              0
+ */
+typedef struct {
+    uint8_t kind;
+    uint8_t number;
+    uint32_t line;
+    uint32_t count;
+    uint32_t slot;
+} razhikum_wait;
+
 /* The bounds of an accelerator, by the names of the report's columns: its level, whether it meets its period, its share, the
  * interference of its reads (yr) and of its writes (yw) in slots, its response and its period in clock cycles. On a refusal
  * all of these are 0. */
@@ -117,8 +144,9 @@ typedef struct {
     uint64_t period;
 } razhikum_row;
 
-/* The stack that each call needs, in bytes, its caller's frame included: the most that include/stack.c measures, rounded up to
- * 1,024. How deep a call goes depends on the levels of the tree, at most 4, and on the digits of a number, and on nothing else of
+/* The stack that each call needs, in bytes, its caller's frame included: the most that include/stack.c measures, compiled by gcc or
+ * clang with or without -O2, rounded up to 1,024 with at least 64 to spare. razhikum_why keeps the bytes of a whole run on its
+ * stack. How deep a call goes depends on the levels of the tree, at most 4, and on the digits of a number, and on nothing else of
  * the files; stack.c has trees at that limit. */
 enum razhikum_stack {
     RAZHIKUM_STACK_VERSION = 1024,
@@ -127,6 +155,7 @@ enum razhikum_stack {
     RAZHIKUM_STACK_COUNT = 18432,
     RAZHIKUM_STACK_REPORT = 21504,
     RAZHIKUM_STACK_RUN = 23552,
+    RAZHIKUM_STACK_WHY = 90112,
     RAZHIKUM_STACK_BOUND = 20480
 };
 
@@ -148,6 +177,23 @@ razhikum_page razhikum_report(const uint8_t *tree, size_t tree_bytes, uint8_t *o
  * bytes past the slots used keep their contents, and on a refusal all do. */
 razhikum_outcome razhikum_run(
     const uint8_t *tree, size_t tree_bytes, const uint8_t *trace, size_t trace_bytes, uint8_t *out, size_t out_bytes);
+
+/* Lists why a transaction waited: that of this `number`, counted from 1, among those of the accelerator that the run serves. The
+ * run is that of razhikum_run with a buffer of RAZHIKUM_SLOTS bytes, whatever `out_bytes` is. Each slot from that of the admission
+ * up to the one before the service, oldest first, takes two bytes of `out`: the number of the accelerator that was served, then the
+ * deepest interconnect that the paths of both accelerators cross, or RAZHIKUM_OWN where it was an earlier transaction of the same
+ * accelerator. None of these slots is idle. Pair i, counted from 0, is of slot `slot + i`. The time for which a request was held
+ * before its admission is not in the list.
+ *
+ * A list of `count` slots has 2 * `count` bytes. Where `out` is shorter, the oldest slots fill it in whole pairs, and `count` still
+ * counts all; `out_bytes` may be 0. The bytes past the list keep their contents, and on a refusal all do.
+ *
+ * Checked in this order: the tree (1 to 5), the size of `out` (2), the trace (1, 2, 6, 7), the accelerator (7), the number of the
+ * transaction (12: it is 0, or the run serves fewer). Each call makes the run anew, and takes about as long as razhikum_run with a
+ * buffer of RAZHIKUM_SLOTS bytes. */
+razhikum_wait razhikum_why(
+    const uint8_t *tree, size_t tree_bytes, const uint8_t *trace, size_t trace_bytes, uint8_t accelerator, uint32_t number,
+    uint8_t *out, size_t out_bytes);
 
 /* The bounds of an accelerator of a tree file: refused as the tree is, or by 7 where the tree has no such accelerator. */
 razhikum_row razhikum_bound(const uint8_t *tree, size_t tree_bytes, uint8_t accelerator);

@@ -15,7 +15,7 @@
 
 enum { STACK = 1 << 18, UNPAINTED = 256, PAINT = 0xa5, FILE_ROOM = 1 << 17 };
 
-enum call { VERSION, READ_TREE, READ_TRACE, COUNT, REPORT, RUN, BOUND, CALLS };
+enum call { VERSION, READ_TREE, READ_TRACE, COUNT, REPORT, RUN, WHY, BOUND, CALLS };
 
 static const struct {
     const char *name;
@@ -24,7 +24,7 @@ static const struct {
     {"version", RAZHIKUM_STACK_VERSION}, {"read_tree", RAZHIKUM_STACK_READ_TREE},
     {"read_trace", RAZHIKUM_STACK_READ_TRACE}, {"count", RAZHIKUM_STACK_COUNT},
     {"report", RAZHIKUM_STACK_REPORT}, {"run", RAZHIKUM_STACK_RUN},
-    {"bound", RAZHIKUM_STACK_BOUND},
+    {"why", RAZHIKUM_STACK_WHY}, {"bound", RAZHIKUM_STACK_BOUND},
 };
 
 struct file {
@@ -47,6 +47,11 @@ static void make_call(void) {
     case COUNT: answered = razhikum_count(tree.text, tree.bytes).line; break;
     case REPORT: answered = razhikum_report(tree.text, tree.bytes, page).bytes; break;
     case RUN: answered = razhikum_run(tree.text, tree.bytes, trace.text, trace.bytes, served, sizeof served).slots; break;
+    case WHY:
+        for (uint8_t a = 0; a <= 32; a += 8) {
+            answered = razhikum_why(tree.text, tree.bytes, trace.text, trace.bytes, a, 1, served, sizeof served).count;
+        }
+        break;
     case BOUND:
         for (uint8_t a = 0; a <= 32; a++) {
             answered = razhikum_bound(tree.text, tree.bytes, a).share;

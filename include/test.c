@@ -31,6 +31,12 @@ FIELD(razhikum_outcome, number, 1, 1);
 FIELD(razhikum_outcome, line, 4, 4);
 FIELD(razhikum_outcome, slots, 8, 4);
 static_assert(sizeof(razhikum_outcome) == 12, "razhikum_outcome has another size");
+FIELD(razhikum_wait, kind, 0, 1);
+FIELD(razhikum_wait, number, 1, 1);
+FIELD(razhikum_wait, line, 4, 4);
+FIELD(razhikum_wait, count, 8, 4);
+FIELD(razhikum_wait, slot, 12, 4);
+static_assert(sizeof(razhikum_wait) == 16, "razhikum_wait has another size");
 FIELD(razhikum_row, number, 0, 1);
 FIELD(razhikum_row, line, 4, 4);
 FIELD(razhikum_row, level, 8, 1);
@@ -151,6 +157,45 @@ static void is_outcome(size_t room, unsigned kind, unsigned number, unsigned lin
     }
 }
 
+static void is_wait_refused(unsigned a, unsigned long which, size_t room, unsigned kind, unsigned number, unsigned line) {
+    memset(served, 99, sizeof served);
+    razhikum_wait w =
+        razhikum_why(tree.text, tree.bytes, trace.text, trace.bytes, (uint8_t)a, (uint32_t)which, served, room);
+    same("kind of a refused wait", w.kind, kind);
+    same("number of a refused wait", w.number, number);
+    same("line of a refused wait", w.line, line);
+    same("count and slot of a refused wait", w.count + w.slot, 0);
+    for (size_t i = 0; i < sizeof served; i++) {
+        same("a byte of a refused wait's buffer", served[i], 99);
+    }
+}
+
+/* The wait and its list, in a buffer of that length: the oldest slots in whole pairs, and the bytes past them as they were. */
+static void is_wait_in(size_t room, unsigned a, unsigned which, unsigned slot, unsigned count, const uint8_t *list) {
+    size_t listed = room / 2 < count ? room / 2 : count;
+    memset(served, 99, sizeof served);
+    razhikum_wait w = razhikum_why(tree.text, tree.bytes, trace.text, trace.bytes, (uint8_t)a, which, served, room);
+    same("kind of a wait", w.kind, RAZHIKUM_TOLD);
+    same("number of a wait", w.number, RAZHIKUM_ACCEPTED);
+    same("line of a wait", w.line, 0);
+    same("count of a wait", w.count, count);
+    same("slot of admission", w.slot, slot);
+    for (size_t i = 0; i < 2 * listed; i++) {
+        same("a byte of the list", served[i], list[i]);
+    }
+    for (size_t i = 2 * listed; i < sizeof served; i++) {
+        same("a byte past the list", served[i], 99);
+    }
+}
+
+/* In buffers of every length up to one that the list leaves free bytes of, and in the largest. */
+static void is_wait(unsigned a, unsigned which, unsigned slot, unsigned count, const uint8_t *list) {
+    for (size_t room = 0; room <= 2 * count + 3; room++) {
+        is_wait_in(room, a, which, slot, count, list);
+    }
+    is_wait_in(RAZHIKUM_SLOTS, a, which, slot, count, list);
+}
+
 static void is_trace(unsigned which, unsigned number, unsigned line) {
     razhikum_reading r = razhikum_read_trace(tree.text, tree.bytes, trace.text, trace.bytes);
     same("file", r.file, which);
@@ -166,6 +211,7 @@ static void tree_is_refused(unsigned number, unsigned line) {
     same("line", r.line, line);
     is_trace(RAZHIKUM_FILE_TREE, number, line);
     is_outcome(8, RAZHIKUM_TREE_REFUSED, number, line, 0);
+    is_wait_refused(0, 1, 8, RAZHIKUM_TREE_REFUSED, number, line);
     is_row_refused(0, number, line);
     razhikum_counted count = razhikum_count(tree.text, tree.bytes);
     same("count's number", count.number, number);
@@ -224,6 +270,33 @@ static void traces(void) {
     is_outcome(8, RAZHIKUM_TRACE_REFUSED, RAZHIKUM_UNKNOWN, 2, 0);
 }
 
+/* Three interconnects beneath each other, four accelerators (docs/MODEL.md, M73 and M74). The run serves 0 1 0 2 0 1 0 3, and
+ * everything is admitted in slot 0. */
+#define NESTED                                                                                      \
+    "bus 16 1 4 2 2 30 25 1 1 16\n" ROOT "int 1 0 1 1\nint 2 1 1 1\nacc 0 0 0 4 8 1 1 0 1\n"        \
+    "acc 1 1 0 4 8 1 1 0 1\nacc 2 2 0 4 8 1 1 0 1\nacc 3 2 1 4 8 1 1 0 1\n"
+
+static void waits(void) {
+    static const uint8_t last[] = {0, 0, 1, 1, 0, 0, 2, 2, 0, 0, 1, 1, 0, 0};
+    static const uint8_t second[] = {0, RAZHIKUM_OWN, 1, 0};
+    static const uint8_t late[] = {0, RAZHIKUM_OWN};
+    spaced(&tree, NESTED);
+    spaced(&trace, "o 0 0 4\no 0 1 2\no 0 2 1\no 0 3 1\n");
+    is_wait(3, 1, 0, 7, last);
+    is_wait(0, 2, 0, 2, second);
+    is_wait(0, 1, 0, 0, NULL);
+    is_wait_refused(0, 0, 8, RAZHIKUM_CALL_REFUSED, RAZHIKUM_NOT_SERVED, 0);
+    is_wait_refused(0, 5, 8, RAZHIKUM_CALL_REFUSED, RAZHIKUM_NOT_SERVED, 0);
+    is_wait_refused(0, 4294967295, 8, RAZHIKUM_CALL_REFUSED, RAZHIKUM_NOT_SERVED, 0);
+    is_wait_refused(4, 0, 8, RAZHIKUM_CALL_REFUSED, RAZHIKUM_UNKNOWN, 0);
+    is_wait_refused(255, 1, 8, RAZHIKUM_CALL_REFUSED, RAZHIKUM_UNKNOWN, 0);
+    is_wait_refused(4, 0, RAZHIKUM_SLOTS + 1, RAZHIKUM_TRACE_REFUSED, RAZHIKUM_RANGE, 0);
+    spaced(&trace, "o 5 0 2\n");
+    is_wait(0, 2, 5, 1, late);
+    spaced(&trace, "o 5 0 1\no 4 0 1\n");
+    is_wait_refused(4, 0, 8, RAZHIKUM_TRACE_REFUSED, RAZHIKUM_FALLING, 2);
+}
+
 /* The figures are those of docs/MODEL.md, M54 to M63, worked out by hand. */
 static void examples(const char *folder) {
     spaced(&tree, BUS ROOT ACCS);
@@ -239,6 +312,11 @@ static void examples(const char *folder) {
     is_row(2, 2, 15, 0, 336, 16768, 100000);
     rows_are_the_report();
     is_trace(RAZHIKUM_FILE_NONE, RAZHIKUM_ACCEPTED, 0);
+    /* The laser's tenth waits for two of the camera's and its own ninth; the camera's 65th is held until the second window. */
+    static const uint8_t laser[] = {0, 0, 0, 0, 1, RAZHIKUM_OWN};
+    is_wait(1, 10, 128, 3, laser);
+    is_wait(0, 65, 128, 0, NULL);
+    is_wait_refused(1, 25, 8, RAZHIKUM_CALL_REFUSED, RAZHIKUM_NOT_SERVED, 0);
     load(&tree, folder, "full.tree");
     load(&trace, folder, "full.trace");
     same("accelerators", razhikum_count(tree.text, tree.bytes).accelerators, 32);
@@ -255,6 +333,7 @@ int main(int arguments, char **words) {
     same("version of header and archive", razhikum_version(), RAZHIKUM_VERSION);
     examples(words[1]);
     traces();
+    waits();
     refused_trees();
     printf("%lu values, no difference\n", compared);
     return 0;

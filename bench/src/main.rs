@@ -150,6 +150,31 @@ fn run_row(what: &str, tree: &[u8], slots: u32) -> f64 {
     )
 }
 
+/// The accelerator that the last slot of a run serves, and the number of the transaction.
+fn last_served(tree: &[u8], trace: &[u8]) -> (u8, u32) {
+    let mut served = vec![0; SLOTS as usize];
+    razhikum::run(tree, trace, &mut served).expect("a sound trace");
+    let last = *served.last().expect("a slot");
+    (last, served.iter().filter(|&&b| b == last).count() as u32)
+}
+
+/// Why a transaction waited. Both read the tree and the trace in the call.
+fn wait_row(what: &str, tree: &[u8], trace: &[u8], (accelerator, number): (u8, u32)) -> f64 {
+    let (mut ours, mut theirs) = (vec![0; SLOTS as usize], vec![0; SLOTS as usize]);
+    let wait = razhikum::why(tree, trace, accelerator, number, &mut ours);
+    assert!(wait.is_ok(), "{wait:?}");
+    assert_eq!(wait, peer::why::why(tree, trace, accelerator, number, &mut theirs));
+    row(
+        what,
+        &mut || {
+            let _ = black_box(razhikum::why(black_box(tree), black_box(trace), accelerator, number, &mut ours));
+        },
+        &mut || {
+            let _ = black_box(peer::why::why(black_box(tree), black_box(trace), accelerator, number, &mut theirs));
+        },
+    )
+}
+
 fn heading(title: &str) {
     println!("\n{title:<44}{:>14}{:>14}{:>10}", "library", "peer", "ratio");
 }
@@ -221,6 +246,19 @@ fn time_runs(small: &[u8], middle: &[u8], full: &[u8]) -> Vec<Target> {
     ]
 }
 
+fn time_waits(small: &[u8], middle: &[u8], full: &[u8]) -> Vec<Target> {
+    let last = |what: &str, tree: &[u8]| {
+        let trace = busy_trace(tree, SLOTS);
+        wait_row(what, tree, &trace, last_served(tree, &trace))
+    };
+    heading("why, 65,536 slots");
+    last("small tree, of the last slot", small);
+    last("middle tree, of the last slot", middle);
+    let of_full = last("full tree, of the last slot", full);
+    wait_row("full tree, of the first slot", full, &busy_trace(full, SLOTS), (0, 1));
+    vec![("full tree, why of the last slot", of_full)]
+}
+
 fn time_growth(full: &[u8]) {
     heading("growth with slots, full tree");
     for slots in [8_192, 16_384, 32_768, 65_536] {
@@ -244,6 +282,7 @@ fn main() {
     println!("Processor time, median of {SAMPLES} samples each. A ratio above 1 says that the library takes longer.");
     let mut targets = time_reading(&small, &middle, &full);
     targets.extend(time_runs(&small, &middle, &full));
+    targets.extend(time_waits(&small, &middle, &full));
     time_growth(&full);
 
     println!("\nprograms, from start to end by the wall clock");

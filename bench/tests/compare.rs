@@ -1,9 +1,9 @@
-//! Compares the library with the peer on random and damaged files, and the runs also with the simple simulator. The seed
+//! Compares the library with the peer on random and damaged files, and runs and waits also with the simple simulator. The seed
 //! is fixed. A difference prints the input and ends the test.
 mod common;
 
-use common::simple::{self, Budget};
-use razhikum::{Ending, FileRefused, PAGE};
+use common::simple::{self, Budget, Rule};
+use razhikum::{Ending, FileRefused, Wait, WaitRefused, LIMIT, OWN, PAGE};
 use razhikum_bench::inputs::{damage_bytes, damage_lines, random_trace, random_tree, text, Random};
 use razhikum_bench::peer;
 use razhikum_bench::peer::read::{read_trace, read_tree};
@@ -11,6 +11,7 @@ use std::collections::BTreeMap;
 
 const TREES: usize = 1_000_000;
 const RUNS: usize = 300_000;
+const WAITS: usize = 100_000;
 
 /// How many inputs got each answer.
 #[derive(Default)]
@@ -153,11 +154,11 @@ fn compare_run(tree: &[u8], trace: &[u8], slots: usize, counts: &mut Counts) -> 
         return false;
     }
     let mut plain = vec![filled; slots];
-    let simple = simple::run(&tree, &requests, &mut plain, Budget::OfWindow);
+    let (simple, _) = simple::run(&tree, &requests, &mut plain, Budget::OfWindow);
     check("run against the simple one", ending, simple, &files);
     check("bytes against the simple one", &ours, &plain, &files);
     let mut wrong = vec![filled; slots];
-    let of_whole_run = simple::run(&tree, &requests, &mut wrong, Budget::OfWholeRun);
+    let (of_whole_run, _) = simple::run(&tree, &requests, &mut wrong, Budget::OfWholeRun);
     of_whole_run != ending || wrong != ours
 }
 
@@ -175,8 +176,173 @@ fn compare_runs() -> usize {
     RUNS
 }
 
+/// An accelerator, mostly one that the run serves, and the number of a transaction, mostly one of those served.
+fn question(random: &mut Random, known: u64, served: &[u8]) -> (u8, u32) {
+    let a = match random.below(12) {
+        0 => random.below(256) as u8,
+        1 => (known + random.below(2)) as u8,
+        2 => random.below(known) as u8,
+        _ if served.is_empty() => 0,
+        _ => *random.pick(served),
+    };
+    let most = served.iter().filter(|&&b| b == a).count() as u32;
+    let number = match random.below(10) {
+        0 => *random.pick(&[0, 1, most + 1, most + 2, u32::MAX]),
+        1 => random.number() as u32,
+        2 => most,
+        _ => 1 + random.below(most.max(1).into()) as u32,
+    };
+    (a, number)
+}
+
+/// The length of a buffer: about that of the list, about the limit, or short.
+fn room(random: &mut Random, count: u32) -> usize {
+    let bytes = match random.below(40) {
+        0 => 65_534 + random.below(4),
+        1..=20 => (2 * u64::from(count) + random.below(7)).saturating_sub(3),
+        _ => random.below(40),
+    };
+    bytes as usize
+}
+
+/// What is answered to a wait.
+type Told<'a> = Result<Wait<'a>, WaitRefused>;
+
+fn wait_answer(answer: &Told) -> String {
+    match answer {
+        Ok(Wait { count: 0, .. }) => "told, no slot".into(),
+        Ok(wait) if wait.pairs.len() < wait.count as usize => "told, longer than the buffer".into(),
+        Ok(_) => "told, in the buffer".into(),
+        Err(WaitRefused::Tree(r)) => format!("tree refused {}", r.cause.number()),
+        Err(WaitRefused::Trace(r)) => format!("trace or buffer refused {}", r.cause.number()),
+        Err(WaitRefused::Call(r)) => format!("call refused {}", r.cause.number()),
+    }
+}
+
+/// Rules that the comparison must find wrong.
+const WRONG: [Rule; 6] = [
+    Rule::FromRequest,
+    Rule::AfterAdmission,
+    Rule::UntilService,
+    Rule::MeetAtRoot,
+    Rule::MeetAtOwnHome,
+    Rule::OwnByInterconnect,
+];
+
+/// A wait against the simple simulator, where the run is done within 400 slots. Counts for each wrong rule whether it would differ.
+fn compare_simple(files: [&[u8]; 2], a: u8, number: u32, differing: &mut [usize; WRONG.len()]) {
+    let mut short = [0; 400];
+    if !matches!(razhikum::run(files[0], files[1], &mut short), Ok(Ending::Done(_))) {
+        return;
+    }
+    let tree = read_tree(files[0]).expect("read before");
+    let requests = read_trace(tree.accelerators.len(), files[1]).expect("read before");
+    let (_, services) = simple::run(&tree, &requests, &mut short, Budget::OfWindow);
+    let mut list = [0; 800];
+    let library = razhikum::why(files[0], files[1], a, number, &mut list).ok();
+    let library = library.map(|wait| (wait.slot as usize, wait.pairs.to_vec()));
+    let told = |rule| simple::why(&tree, &services, a, number, rule);
+    check("wait against the simple one", &library, &told(Rule::AsWritten), &files);
+    for (count, rule) in differing.iter_mut().zip(WRONG) {
+        *count += usize::from(told(rule) != library);
+    }
+}
+
+/// A wait that is asked for: the number of the transaction and the length of the buffer; the tree's window, how many transactions of
+/// the accelerator the run serves, and whether the run is stopped.
+struct Asked {
+    number: u32,
+    room: usize,
+    window: u32,
+    most: u32,
+    stopped: bool,
+}
+
+/// What the comparison of waits must meet, and whether this one does.
+fn kinds(asked: &Asked, answer: &Told) -> [(&'static str, bool); 18] {
+    let &Asked { number, room, window, most, stopped } = asked;
+    let refused = |by| matches!(answer, Err(WaitRefused::Call(r)) if r.cause.number() == by);
+    let wait = answer.ok();
+    let told = wait.is_some();
+    let entry = |is: fn(u8) -> bool| wait.is_some_and(|w| w.pairs.iter().any(|pair| is(pair[1])));
+    let list = wait.map_or(0, |w| 2 * w.count as usize);
+    let windows = wait.map_or((0, 0), |w| (w.slot / window, (w.slot + w.count) / window));
+    [
+        ("a slot of the same accelerator", entry(|met| met == OWN)),
+        ("a meeting at the root", entry(|met| met == 0)),
+        ("a meeting below the root", entry(|met| met != 0 && met != OWN)),
+        ("admitted after the first window", windows.0 > 0),
+        ("admitted in one window, served in a later one", windows.0 < windows.1),
+        ("served in the last slot that a run may have", wait.is_some_and(|w| w.slot + w.count == LIMIT as u32 - 1)),
+        ("the last one served", told && number == most),
+        ("an empty buffer for a list", room == 0 && list > 0),
+        ("a short buffer of odd length", room % 2 == 1 && room < list),
+        ("a buffer of one byte more than the list", told && room == list + 1),
+        ("a buffer of 65,536 bytes", told && room == LIMIT),
+        ("a buffer of 65,537 bytes", matches!(answer, Err(WaitRefused::Trace(_))) && room == LIMIT + 1),
+        ("number 0", refused(12) && number == 0),
+        ("one more than is served", refused(12) && number == most + 1 && most > 0),
+        ("one more than a stopped run serves", refused(12) && number == most + 1 && stopped),
+        ("the highest number", refused(12) && number == u32::MAX),
+        ("an accelerator that is not there", refused(7) && number > 0),
+        ("an accelerator that is not there, and number 0", refused(7) && number == 0),
+    ]
+}
+
+/// The counts of a comparison of waits.
+#[derive(Default)]
+struct WaitCounts {
+    answers: Counts,
+    kinds: BTreeMap<&'static str, usize>,
+    differing: [usize; WRONG.len()],
+}
+
+fn compare_wait(random: &mut Random, counts: &mut WaitCounts) {
+    let (tree, trace, _) = run_files(random);
+    let files = [&tree[..], &trace[..]];
+    let mut served = vec![255; LIMIT];
+    let ending = razhikum::run(&tree, &trace, &mut served);
+    served.retain(|&b| b != 255);
+    let (known, window) = read_tree(&tree).map_or((1, 1), |t| (t.accelerators.len(), t.bus.window));
+    let (a, number) = question(random, known as u64, &served);
+    let count = peer::why::why(&tree, &trace, a, number, &mut []).map_or(0, |wait| wait.count);
+    let (room, filled) = (room(random, count), random.below(256) as u8);
+    let (mut ours, mut theirs) = (vec![filled; room], vec![filled; room]);
+    let answer = razhikum::why(&tree, &trace, a, number, &mut ours);
+    counts.answers.add(wait_answer(&answer));
+    let most = served.iter().filter(|&&b| b == a).count() as u32;
+    let stopped = matches!(ending, Ok(Ending::Stopped(_)));
+    for (kind, met) in kinds(&Asked { number, room, window, most, stopped }, &answer) {
+        *counts.kinds.entry(kind).or_default() += usize::from(met);
+    }
+    let what = format!("wait of accelerator {a}, number {number}, in {room} bytes");
+    check(&what, answer, peer::why::why(&tree, &trace, a, number, &mut theirs), &files);
+    check(&what, &ours, &theirs, &files);
+    if ending.is_ok() && usize::from(a) < known {
+        compare_simple(files, a, number, &mut counts.differing);
+    }
+}
+
+fn compare_waits() -> usize {
+    let mut random = Random::new(3);
+    let mut counts = WaitCounts::default();
+    for _ in 0..WAITS {
+        compare_wait(&mut random, &mut counts);
+    }
+    counts.answers.print("waits: answer, list, every byte of the buffer");
+    for (kind, count) in counts.kinds {
+        println!("  {kind}: {count}");
+        assert!(count > 0, "no input has {kind}");
+    }
+    for (rule, count) in WRONG.iter().zip(counts.differing) {
+        println!("  the rule {rule:?} would differ in {count} of them");
+        assert!(count > 0, "the comparison does not find {rule:?}");
+    }
+    WAITS
+}
+
 fn main() {
-    let total = compare_trees() + compare_runs();
+    let total = compare_trees() + compare_runs() + compare_waits();
     assert!(total >= 1_000_000);
     println!("{total} inputs, no difference");
 }

@@ -1,5 +1,5 @@
-//! Figures of document 01 ("Figures to check by") and the limits on sizes, by library and peer alike.
-use razhikum::{Ending, FileRefused, Refused, PAGE};
+//! Figures of document 01 ("Figures to check by"), waits on them, and the limits on sizes, by library and peer alike.
+use razhikum::{Ending, FileRefused, Refused, Wait, WaitRefused, LIMIT, OWN, PAGE};
 use razhikum_bench::peer;
 
 const BUS: &str = "bus 16 1 4 2 2 30 25 1 1 16\nint 0 - - 1\n";
@@ -33,6 +33,56 @@ fn cases_1_and_2() {
     let (ending, out) = run(&tree, &trace, 16);
     assert_eq!(ending, Ok(Ending::Done(8)));
     assert_eq!(out[..9], [0, 1, 0, 2, 0, 1, 0, 3, 99]);
+}
+
+fn wait(tree: &[u8], trace: &[u8], a: u8, number: u32, expected: Result<(u32, u32, &[[u8; 2]]), Refused>) {
+    let expected = expected.map(|(slot, count, pairs)| Wait { count, slot, pairs }).map_err(WaitRefused::Call);
+    let (mut out, mut other) = (vec![99; LIMIT], vec![99; LIMIT]);
+    assert_eq!(razhikum::why(tree, trace, a, number, &mut out), expected);
+    assert_eq!(peer::why::why(tree, trace, a, number, &mut other), expected);
+    assert_eq!(out, other);
+}
+
+#[test]
+fn waits_in_case_2() {
+    let accs = "acc 0 0 0 4 8 1 1 0 1\nacc 1 1 0 4 8 1 1 0 1\nacc 2 2 0 4 8 1 1 0 1\nacc 3 2 1 4 8 1 1 0 1\n";
+    let tree = file(&format!("{BUS}int 1 0 1 1\nint 2 1 1 1\n{accs}"));
+    let trace = file("o 0 0 4\no 0 1 2\no 0 2 1\no 0 3 1\n");
+    wait(&tree, &trace, 3, 1, Ok((0, 7, &[[0, 0], [1, 1], [0, 0], [2, 2], [0, 0], [1, 1], [0, 0]])));
+    wait(&tree, &trace, 0, 2, Ok((0, 2, &[[0, OWN], [1, 0]])));
+    wait(&tree, &trace, 0, 1, Ok((0, 0, &[])));
+    wait(&tree, &trace, 0, 5, Err(Refused::by(12, 0)));
+    wait(&tree, &trace, 4, 0, Err(Refused::by(7, 0)));
+}
+
+/// A request that is held: its wait begins where it is admitted. With budget 1 in windows of 4 slots the second is admitted in
+/// slot 4 and served there.
+#[test]
+fn a_wait_begins_with_the_admission() {
+    let tree = file(&format!("{}acc 0 0 0 4 1 1 1 0 1\n", BUS.replace("bus 16", "bus 4")));
+    wait(&tree, &file("o 0 0 2\n"), 0, 2, Ok((4, 0, &[])));
+}
+
+/// Four levels, seven accelerators and the next interconnect on each, eight on the last, g and phi 16, all busy from slot 0 on: the
+/// transaction of the last accelerator waits longer than the largest buffer lists.
+#[test]
+fn a_list_longer_than_the_largest_buffer() {
+    let mut tree = "bus 64 1 4 2 2 30 25 1 1 16\nint 0 - - 16\nint 1 0 7 16\nint 2 1 7 16\nint 3 2 7 16\n".to_string();
+    let mut trace = String::new();
+    for a in 0..29 {
+        let (level, port) = if a == 28 { (3, 7) } else { (a / 7, a % 7) };
+        tree += &format!("acc {a} {level} {port} 16 1024 1 1 0 1\n");
+        trace += &format!("o 0 {a} 16\n").repeat([500, 60, 8, 1][level]);
+    }
+    let (tree, trace) = (file(&tree), file(&trace));
+    let (mut out, mut other) = (vec![99; LIMIT], vec![99; LIMIT]);
+    let wait = razhikum::why(&tree, &trace, 28, 1, &mut out).expect("a wait");
+    assert_eq!(Ok(wait), peer::why::why(&tree, &trace, 28, 1, &mut other));
+    let share = razhikum::bound(&tree, 28).expect("a bound").share;
+    assert!(wait.count > 32_768 && u64::from(wait.count) < share, "{} of {share}", wait.count);
+    assert_eq!((wait.slot, wait.pairs.len()), (0, 32_768));
+    assert_eq!(wait.pairs[..17], [&[[0, 0]; 16][..], &[[1, 0]]].concat());
+    assert_eq!(out, other);
 }
 
 #[test]

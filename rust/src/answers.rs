@@ -26,6 +26,8 @@ pub enum Cause {
     LastSlot,
     /// 11: the configuration or the state breaks its rules. No file gives such a configuration.
     Broken,
+    /// 12: the number of a transaction is 0, or the run serves fewer of its accelerator.
+    NotServed,
     /// A number that is none of these, so that every number has its cause. The archive of this version answers none.
     Other(u8),
 }
@@ -44,6 +46,7 @@ impl From<u8> for Cause {
             9 => Cause::Budget,
             10 => Cause::LastSlot,
             11 => Cause::Broken,
+            12 => Cause::NotServed,
             other => Cause::Other(other),
         }
     }
@@ -64,6 +67,7 @@ impl Cause {
             Cause::Budget => 9,
             Cause::LastSlot => 10,
             Cause::Broken => 11,
+            Cause::NotServed => 12,
             Cause::Other(other) => other,
         }
     }
@@ -83,6 +87,7 @@ impl fmt::Display for Cause {
             Cause::Budget => "the budget of this window used",
             Cause::LastSlot => "the slot count at its end",
             Cause::Broken => "a configuration or a state that breaks its rules",
+            Cause::NotServed => "the run serves no transaction of this number",
             Cause::Other(_) => "an unknown cause",
         })
     }
@@ -135,6 +140,42 @@ impl fmt::Display for FileRefused {
 }
 
 impl core::error::Error for FileRefused {}
+
+/// A refusal of a wait: of a file, as [`FileRefused`] has it, or of the accelerator or the number that the call names.
+#[derive(Clone, Copy, Debug, PartialEq, Eq, Hash)]
+pub enum WaitRefused {
+    /// The tree file is refused.
+    Tree(Refused),
+    /// The tree file is accepted; the trace file, or the size of the output buffer, is refused.
+    Trace(Refused),
+    /// Both files are accepted; the tree has no such accelerator, or the run serves no transaction of this number. It has no line.
+    Call(Refused),
+}
+
+impl fmt::Display for WaitRefused {
+    fn fmt(&self, f: &mut fmt::Formatter<'_>) -> fmt::Result {
+        match self {
+            WaitRefused::Tree(refused) => write!(f, "tree {refused}"),
+            WaitRefused::Trace(refused) => write!(f, "trace {refused}"),
+            WaitRefused::Call(refused) => write!(f, "{refused}"),
+        }
+    }
+}
+
+impl core::error::Error for WaitRefused {}
+
+/// Why a transaction waited.
+#[derive(Clone, Copy, Debug, PartialEq, Eq, Hash)]
+pub struct Wait<'a> {
+    /// How many slots it waited, those that do not fit the buffer included: 0 where it is served in the slot of its admission.
+    pub count: u32,
+    /// The slot of its admission, counted from 0; `slot + count` is the one that serves it. For how long it was held before its
+    /// admission is not said.
+    pub slot: u32,
+    /// The slots that it waited, from that of its admission on, as far as the buffer holds them: the accelerator served, then the
+    /// deepest interconnect that both paths cross, or [`OWN`](crate::OWN) where it is an earlier one of the same accelerator.
+    pub pairs: &'a [[u8; 2]],
+}
 
 /// How a run ended, with the number of slots used.
 #[derive(Clone, Copy, Debug, PartialEq, Eq, Hash)]

@@ -1,6 +1,6 @@
-//! The Razhikum planner for Rust: whether the blocks of a tree of interconnects meet their periods, and which block is served in
-//! which slot. The work is done by the proved static library `librazhikum.a`, which `rt staticlib razhikum` writes for x86-64;
-//! this package wraps it: slices in, enums and structs out.
+//! The Razhikum planner for Rust: whether the blocks of a tree of interconnects meet their periods, which block is served in
+//! which slot, and why a burst waited. The work is done by the proved static library `librazhikum.a`, which `rt staticlib
+//! razhikum` writes for x86-64; this package wraps it: slices in, enums and structs out.
 //!
 //! No function of the library has a condition on the values that it is given, so every call is safe and answers every input,
 //! files of any bytes included. What C passes as a pointer and a length comes from a slice here. Files are those of
@@ -24,6 +24,11 @@
 //! assert_eq!(ending, razhikum::Ending::Done(3));
 //! assert_eq!(served[..3], [0, 1, 0]);
 //!
+//! let mut list = [0; 16];
+//! let wait = razhikum::why(tree, b"o\t0\t0\t2\no\t0\t1\t1\n", 0, 2, &mut list)?;
+//! assert_eq!((wait.slot, wait.count), (0, 2));
+//! assert_eq!(wait.pairs, [[0, razhikum::OWN], [1, 0]]);
+//!
 //! let refused = razhikum::bound(tree, 2).unwrap_err();
 //! assert_eq!(refused.cause, razhikum::Cause::Unknown);
 //! # Ok::<(), Box<dyn std::error::Error>>(())
@@ -34,19 +39,22 @@
 mod answers;
 mod raw;
 
-pub use answers::{Bound, Cause, Ending, FileRefused, Refused};
+pub use answers::{Bound, Cause, Ending, FileRefused, Refused, Wait, WaitRefused};
 
 /// The version of this wrapper: 10,000 for each first figure, 100 for each second, 1 for each third.
-pub const VERSION: u32 = 10_000;
+pub const VERSION: u32 = 10_100;
 
 /// The size of the page that a report is put on, in bytes.
 pub const PAGE: usize = 65_536;
 
-/// The most bytes that a file, and the most slots that a run's buffer may have.
+/// The most bytes that a file, a run's buffer and a wait's buffer may have; a run has as many slots.
 pub const LIMIT: usize = 65_536;
 
 /// The byte of an idle slot.
 pub const IDLE: u8 = 255;
+
+/// In a pair of a wait, in place of an interconnect: the same accelerator is served.
+pub const OWN: u8 = 255;
 
 fn refusal(number: u8, line: u32) -> Result<(), Refused> {
     match number {
@@ -104,6 +112,38 @@ pub fn run(tree: &[u8], trace: &[u8], out: &mut [u8]) -> Result<Ending, FileRefu
         1 => Ok(Ending::Stopped(r.slots)),
         2 => Err(FileRefused::Tree(why)),
         _ => Err(FileRefused::Trace(why)),
+    }
+}
+
+/// Lists why a transaction waited: that of this `number`, counted from 1, among those of the accelerator that the run serves. The
+/// run is that of [`run`] with a buffer of [`LIMIT`] bytes, whatever the length of `out`. The list is written into `out`, two
+/// bytes a slot, oldest first, in whole pairs as far as they fit: [`Wait::pairs`] are these. The bytes past it keep their
+/// contents; on a refusal all do.
+///
+/// Refused as a run is, then by [`Cause::Unknown`] where the tree has no such accelerator, then by [`Cause::NotServed`] where the
+/// number is 0 or the run serves fewer. Each call makes the run anew, and keeps its bytes on the stack: of all calls it needs
+/// the most.
+pub fn why<'a>(
+    tree: &[u8],
+    trace: &[u8],
+    accelerator: u8,
+    number: u32,
+    out: &'a mut [u8],
+) -> Result<Wait<'a>, WaitRefused> {
+    let (room, bytes) = (out.as_mut_ptr(), out.len());
+    let r = unsafe {
+        raw::razhikum_why(tree.as_ptr(), tree.len(), trace.as_ptr(), trace.len(), accelerator, number, room, bytes)
+    };
+    let why = Refused::by(r.number, r.line);
+    match r.kind {
+        0 => {
+            let (pairs, _) = out.as_chunks();
+            let listed = pairs.len().min(r.count as usize);
+            Ok(Wait { count: r.count, slot: r.slot, pairs: &pairs[..listed] })
+        }
+        2 => Err(WaitRefused::Tree(why)),
+        3 => Err(WaitRefused::Trace(why)),
+        _ => Err(WaitRefused::Call(why)),
     }
 }
 

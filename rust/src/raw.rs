@@ -30,6 +30,15 @@ pub struct Outcome {
 }
 
 #[repr(C)]
+pub struct Wait {
+    pub kind: u8,
+    pub number: u8,
+    pub line: u32,
+    pub count: u32,
+    pub slot: u32,
+}
+
+#[repr(C)]
 pub struct Row {
     pub number: u8,
     pub line: u32,
@@ -56,5 +65,15 @@ extern "C" {
         out: *mut u8,
         out_bytes: usize,
     ) -> Outcome;
+    pub fn razhikum_why(
+        tree: *const u8,
+        tree_bytes: usize,
+        trace: *const u8,
+        trace_bytes: usize,
+        accelerator: u8,
+        number: u32,
+        out: *mut u8,
+        out_bytes: usize,
+    ) -> Wait;
     pub fn razhikum_bound(tree: *const u8, tree_bytes: usize, accelerator: u8) -> Row;
 }

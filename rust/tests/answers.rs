@@ -1,6 +1,7 @@
 //! Each function on accepted and refused files, with figures worked out by hand from `docs/MODEL.md`.
 use razhikum::{
-    bound, count, read_trace, read_tree, report, run, Bound, Cause, Ending, FileRefused, Refused, LIMIT, PAGE,
+    bound, count, read_trace, read_tree, report, run, why, Bound, Cause, Ending, FileRefused, Refused, Wait,
+    WaitRefused, LIMIT, OWN, PAGE,
 };
 
 const SMALL: &str = "bus 8 1 4 2 2 30 25 1 1 16\nint 0 - - 1\nacc 0 0 0 4 2 10 5 1000 2000\nacc 1 0 3 4 2 1 0 0 100\n";
@@ -61,12 +62,74 @@ fn runs() {
     assert_eq!(out, [0, 1, 0, 99]);
 }
 
+/// Three interconnects beneath each other, four accelerators (`docs/MODEL.md`, M73 and M74): served 0 1 0 2 0 1 0 3.
+fn nested() -> (Vec<u8>, Vec<u8>) {
+    let tree = "bus 16 1 4 2 2 30 25 1 1 16\nint 0 - - 1\nint 1 0 1 1\nint 2 1 1 1\nacc 0 0 0 4 8 1 1 0 1\n\
+                acc 1 1 0 4 8 1 1 0 1\nacc 2 2 0 4 8 1 1 0 1\nacc 3 2 1 4 8 1 1 0 1\n";
+    (file(tree), file("o 0 0 4\no 0 1 2\no 0 2 1\no 0 3 1\n"))
+}
+
+#[test]
+fn waits() {
+    let (tree, trace) = nested();
+    let last = [[0, 0], [1, 1], [0, 0], [2, 2], [0, 0], [1, 1], [0, 0]];
+    let mut out = [99; 20];
+    assert_eq!(why(&tree, &trace, 3, 1, &mut out), Ok(Wait { count: 7, slot: 0, pairs: &last }));
+    assert_eq!((&out[..14], &out[14..]), (last.as_flattened(), &[99; 6][..]));
+    assert_eq!(why(&tree, &trace, 0, 2, &mut out), Ok(Wait { count: 2, slot: 0, pairs: &[[0, OWN], [1, 0]] }));
+    assert_eq!(why(&tree, &trace, 0, 1, &mut out), Ok(Wait { count: 0, slot: 0, pairs: &[] }));
+    for room in 0..=16 {
+        let mut out = vec![99; room];
+        let listed = (room / 2).min(7);
+        assert_eq!(why(&tree, &trace, 3, 1, &mut out), Ok(Wait { count: 7, slot: 0, pairs: &last[..listed] }));
+        assert!(out[2 * listed..].iter().all(|&b| b == 99));
+    }
+}
+
+/// The laser's tenth burst of an example waits for two of the camera's and for its own ninth; the camera's 65th is held until the
+/// second window, and served in the slot of its admission.
+#[test]
+fn waits_of_an_example() {
+    let (tree, trace) = (example("scanner30.tree"), example("scanner30-read.trace"));
+    let mut out = vec![99; LIMIT];
+    let laser = Wait { count: 3, slot: 128, pairs: &[[0, 0], [0, 0], [1, OWN]] };
+    assert_eq!(why(&tree, &trace, 1, 10, &mut out), Ok(laser));
+    assert_eq!(why(&tree, &trace, 0, 65, &mut out), Ok(Wait { count: 0, slot: 128, pairs: &[] }));
+    let too_many = WaitRefused::Call(Refused { cause: Cause::NotServed, line: 0 });
+    assert_eq!(why(&tree, &trace, 1, 25, &mut out), Err(too_many));
+    assert!(out[6..].iter().all(|&b| b == 99));
+}
+
+#[test]
+fn refused_waits_leave_the_buffer() {
+    let (tree, trace) = nested();
+    let mut out = [99; 20];
+    let call = |cause| Err(WaitRefused::Call(Refused { cause, line: 0 }));
+    for number in [0, 5, u32::MAX] {
+        assert_eq!(why(&tree, &trace, 0, number, &mut out), call(Cause::NotServed));
+    }
+    for accelerator in [4, 32, 255] {
+        assert_eq!(why(&tree, &trace, accelerator, 0, &mut out), call(Cause::Unknown));
+    }
+    let falling = Err(WaitRefused::Trace(Refused { cause: Cause::Falling, line: 2 }));
+    assert_eq!(why(&tree, &file("o 5 0 1\no 4 0 1\n"), 4, 0, &mut out), falling);
+    let no_tree = Err(WaitRefused::Tree(Refused { cause: Cause::Order, line: 1 }));
+    assert_eq!(why(b"", &trace, 4, 0, &mut out), no_tree);
+    assert_eq!(out, [99; 20]);
+    let mut large = vec![99; LIMIT + 1];
+    let too_large = Err(WaitRefused::Trace(Refused { cause: Cause::Range, line: 0 }));
+    assert_eq!(why(&tree, b"x", 4, 0, &mut large), too_large);
+    assert!(large.iter().all(|&b| b == 99));
+}
+
 #[test]
 fn refusals_in_words() {
     let refused = bound(&file(SMALL), 2).unwrap_err();
     assert_eq!(refused.to_string(), "refused by 7: no such accelerator");
     let of_trace = read_trace(&file(SMALL), &file("o 0 0 17\n")).unwrap_err();
     assert_eq!(of_trace.to_string(), "trace refused by 2 at line 1: a value, a total or a size outside its limits");
+    let of_wait = why(&file(SMALL), b"", 0, 1, &mut []).unwrap_err();
+    assert_eq!(of_wait.to_string(), "refused by 12: the run serves no transaction of this number");
 }
 
 /// Threads that run different files at the same time get the answers that each file gets alone.
@@ -80,7 +143,9 @@ fn threads() {
         let mut page = Box::new([0; PAGE]);
         let mut out = vec![0; LIMIT];
         let text = report(tree, &mut page).expect("a report").to_vec();
-        (text, run(tree, trace, &mut out), out, (0..=32).map(|a| bound(tree, a)).collect::<Vec<_>>())
+        let mut list = vec![0; LIMIT];
+        let waits = [1, 2].map(|number| why(tree, trace, 1, number, &mut list).map(|wait| (wait.count, wait.slot)));
+        (text, run(tree, trace, &mut out), out, waits, list, (0..=32).map(|a| bound(tree, a)).collect::<Vec<_>>())
     };
     let alone = files.each_ref().map(answers);
     std::thread::scope(|scope| {

@@ -78,6 +78,11 @@ impl Machine {
         self.records[a].held + u32::from(self.records[a].waiting)
     }
 
+    /// What waits of accelerator a.
+    pub fn waiting(&self, a: u8) -> usize {
+        self.records[a as usize].waiting.into()
+    }
+
     pub fn hold(&mut self, a: u8, count: u8) {
         self.records[a as usize].held += u32::from(count);
         self.holding |= 1 << a;

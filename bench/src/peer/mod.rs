@@ -1,7 +1,8 @@
-//! An independent implementation of document 01 in plain Rust. It shares no code with the library, and is as fast as plain
-//! Rust makes it, so that a ratio of times says something.
+//! An independent implementation of document 01, and of document 02's item 1, in plain Rust. It shares no code with the
+//! library, and is as fast as plain Rust makes it, so that a ratio of times says something.
 pub mod bounds;
 pub mod machine;
 pub mod read;
 pub mod report;
 pub mod run;
+pub mod why;

@@ -3,6 +3,18 @@ use crate::peer::machine::Machine;
 use crate::peer::read::{read_trace, read_tree, Request, Tree};
 use razhikum::{Ending, FileRefused, Refused, LIMIT};
 
+/// Holds the requests that are due in this slot, and gives those that are left.
+pub fn hold_due<'a>(machine: &mut Machine, mut left: &'a [Request], slot: u32) -> &'a [Request] {
+    while let Some((request, rest)) = left.split_first() {
+        if request.slot > slot {
+            break;
+        }
+        machine.hold(request.accelerator, request.count);
+        left = rest;
+    }
+    left
+}
+
 /// Runs the requests from the fresh state, one byte a slot.
 pub fn run_requests(tree: &Tree, requests: &[Request], out: &mut [u8]) -> Ending {
     let mut machine = Machine::fresh(tree);
@@ -11,13 +23,7 @@ pub fn run_requests(tree: &Tree, requests: &[Request], out: &mut [u8]) -> Ending
         if left.is_empty() && machine.nothing_pending() {
             return Ending::Done(slot as u32);
         }
-        while let Some((request, rest)) = left.split_first() {
-            if request.slot as usize > slot {
-                break;
-            }
-            machine.hold(request.accelerator, request.count);
-            left = rest;
-        }
+        left = hold_due(&mut machine, left, slot as u32);
         machine.offer();
         *byte = machine.serve();
     }

@@ -1,6 +1,6 @@
 //! A simulator that is plain to see to be right, and slow: queues of single transactions, and every sum taken anew in each
 //! slot.
-use razhikum::Ending;
+use razhikum::{Ending, OWN};
 use razhikum_bench::peer::read::{Port, Request, Tree};
 use std::collections::VecDeque;
 
@@ -11,9 +11,31 @@ pub enum Budget {
     OfWholeRun,
 }
 
+/// A transaction that is served, with the slots in which it was requested, admitted and served.
+#[derive(Clone, Copy)]
+pub struct Service {
+    accelerator: u8,
+    requested: usize,
+    admitted: usize,
+    served: usize,
+}
+
+/// Which slots of a transaction are listed, and with which meeting point: as document 02 has it, or by a rule that is wrong.
+#[derive(Clone, Copy, Debug, PartialEq)]
+pub enum Rule {
+    AsWritten,
+    FromRequest,
+    AfterAdmission,
+    UntilService,
+    MeetAtRoot,
+    MeetAtOwnHome,
+    OwnByInterconnect,
+}
+
 struct Machine<'a> {
     tree: &'a Tree,
-    queues: Vec<VecDeque<()>>,
+    /// Of each accelerator what waits, oldest first: the slots of request and of admission.
+    queues: Vec<VecDeque<(usize, usize)>>,
     admitted: Vec<u16>,
     last: Vec<usize>,
     allowance: Vec<usize>,
@@ -31,12 +53,12 @@ impl Machine<'_> {
         }
     }
 
-    fn offer(&mut self, a: usize) -> bool {
+    fn offer(&mut self, a: usize, requested: usize, slot: usize) -> bool {
         let limits = &self.tree.accelerators[a];
         if self.queues[a].len() == limits.phi as usize || self.admitted[a] == limits.budget {
             return false;
         }
-        self.queues[a].push_back(());
+        self.queues[a].push_back((requested, slot));
         self.admitted[a] += 1;
         true
     }
@@ -58,17 +80,18 @@ impl Machine<'_> {
         }
     }
 
-    fn slot(&mut self) -> u8 {
+    fn slot(&mut self, slot: usize) -> Option<Service> {
         if self.queues.iter().all(VecDeque::is_empty) {
-            return 255;
+            return None;
         }
         let a = self.choose(0);
-        self.queues[a].pop_front().expect("the oldest transaction");
-        a as u8
+        let (requested, admitted) = self.queues[a].pop_front().expect("the oldest transaction");
+        Some(Service { accelerator: a as u8, requested, admitted, served: slot })
     }
 }
 
-pub fn run(tree: &Tree, requests: &[Request], out: &mut [u8], budget: Budget) -> Ending {
+/// Runs the requests, one byte a slot, and gives what was served besides.
+pub fn run(tree: &Tree, requests: &[Request], out: &mut [u8], budget: Budget) -> (Ending, Vec<Service>) {
     let n = tree.accelerators.len();
     let mut machine = Machine {
         tree,
@@ -77,31 +100,69 @@ pub fn run(tree: &Tree, requests: &[Request], out: &mut [u8], budget: Budget) ->
         last: vec![7; tree.interconnects.len()],
         allowance: vec![0; tree.interconnects.len()],
     };
-    let mut held = vec![0u32; n];
+    // Of each accelerator the slots in which its held requests were made.
+    let mut held = vec![VecDeque::new(); n];
+    let mut services = Vec::new();
     let mut lines: VecDeque<Request> = requests.iter().copied().collect();
     for slot in 0.. {
-        let none_held = held.iter().all(|&h| h == 0);
+        let none_held = held.iter().all(VecDeque::is_empty);
         let none_waits = machine.queues.iter().all(VecDeque::is_empty);
         if lines.is_empty() && none_held && none_waits {
-            return Ending::Done(slot as u32);
+            return (Ending::Done(slot as u32), services);
         }
         if slot == out.len() {
             break;
         }
         while lines.front().is_some_and(|line| line.slot as usize <= slot) {
             let line = lines.pop_front().expect("a line is due");
-            held[line.accelerator as usize] += u32::from(line.count);
+            held[line.accelerator as usize].extend(vec![slot; line.count.into()]);
         }
         for (a, held) in held.iter_mut().enumerate() {
-            while *held > 0 && machine.offer(a) {
-                *held -= 1;
+            while held.front().is_some_and(|&requested| machine.offer(a, requested, slot)) {
+                held.pop_front();
             }
         }
-        out[slot] = machine.slot();
+        let service = machine.slot(slot);
+        out[slot] = service.map_or(255, |s| s.accelerator);
+        services.extend(service);
         let opens_window = (slot as u32 + 1) % tree.bus.window == 0;
         if opens_window && budget == Budget::OfWindow {
             machine.admitted.fill(0);
         }
     }
-    Ending::Stopped(out.len() as u32)
+    (Ending::Stopped(out.len() as u32), services)
+}
+
+/// The interconnects from that of an accelerator up to the root.
+fn path(tree: &Tree, a: u8) -> Vec<u8> {
+    let mut path = vec![tree.accelerators[a as usize].interconnect];
+    while let Some(&below @ 1..) = path.last() {
+        path.push(tree.interconnects[below as usize].parent);
+    }
+    path
+}
+
+fn met(tree: &Tree, a: u8, b: u8, rule: Rule) -> u8 {
+    let (of_a, of_b) = (path(tree, a), path(tree, b));
+    match rule {
+        _ if a == b && rule != Rule::OwnByInterconnect => OWN,
+        Rule::MeetAtRoot => 0,
+        Rule::MeetAtOwnHome => of_a[0],
+        _ => *of_a.iter().find(|i| of_b.contains(i)).expect("every path ends at the root"),
+    }
+}
+
+/// The slot of admission and the pairs of the transaction of this number, from 1, of an accelerator: none where it is not served.
+pub fn why(tree: &Tree, services: &[Service], a: u8, number: u32, rule: Rule) -> Option<(usize, Vec<[u8; 2]>)> {
+    let at = usize::try_from(number).ok()?.checked_sub(1)?;
+    let asked = services.iter().filter(|s| s.accelerator == a).nth(at)?;
+    let from = match rule {
+        Rule::FromRequest => asked.requested,
+        Rule::AfterAdmission => asked.admitted + 1,
+        _ => asked.admitted,
+    };
+    let until = asked.served + usize::from(rule == Rule::UntilService);
+    let listed = services.iter().filter(|s| from <= s.served && s.served < until);
+    let pairs = listed.map(|s| [s.accelerator, met(tree, a, s.accelerator, rule)]);
+    Some((from, pairs.collect()))
 }
