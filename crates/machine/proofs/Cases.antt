@@ -1,5 +1,6 @@
 -- What an offer and a slot do, by cases: the tests of their definitions, in order, read as what they test.
 use Prim.Native.Nat.{ℕ, _≤_, _<_}
+use native.Mathlib.Nat.{lt-of-lt-of-le}
 use mathlib.Core.Bool.{Bool, true, false, not}
 use mathlib.Core.Path.{_≡_, refl}
 use native.Mathlib.Decide.{decLt}
@@ -9,13 +10,14 @@ use borrow.Author.Tests.{leb-true, leb-false, eqb-true, eqb-false, eq-eqb, not-t
 use Rattle.model.specs.declared.Tree.{Tree}
 use Rattle.model.specs.declared.State.{State}
 use Rattle.folds.specs.Fold.{pick}
-use Rattle.model.specs.Tree.{limitOf, budgetOf, waitingOf, outstandingOf, admittedOf}
+use Rattle.model.specs.Tree.{limitOf, budgetOf, delayOf, waitingOf, returnsOf, outstandingOf, admittedOf}
 use Rattle.model.specs.Beneath.{inside}
 use Rattle.rules.specs.Rules.{keeps}
 use Rattle.folds.proofs.Folds.{all-at, at-all, clash}
-use Rattle.rules.proofs.Sound.{Kept, sound-of, kept-of}
+use Rattle.rules.proofs.Sound.{Kept, sound-of, kept-of, way-of}
 use Rattle.rules.proofs.Beneath.{root-zero}
 use Rattle.machine.specs.Machine.{Answer, admitted, served, idle, refused, Outcome, outcome, admit, onAdmitted, offered, noneWaits, lastSlot, tick, chosen, serve, slotted}
+use Rattle.machine.proofs.Returns.{power-most}
 
 -- a choice on a test, by its two cases
 cases : {A : Type 0} (P : A → Type 0) (c : Bool) (x y : A) → (c ≡ true → P x) → (c ≡ false → P y) → P (pick c x y)
@@ -45,6 +47,13 @@ offer-cases t s a =
     cases Q (leb (limitOf t a) (outstandingOf s a)) _ _ (λ f. refuses (outstanding la (leb-true _ _ f))) (λ f.
     cases Q (leb (budgetOf t a) (admittedOf s a)) _ _ (λ g. refuses (spent la (leb-true _ _ g))) (λ g.
     admits la (leb-false _ _ f) (leb-false _ _ g)))))
+
+-- a set of returns is a small number
+pub few-returns : (t : Tree) (s : State) → keeps t s ≡ true → (a : ℕ) → returnsOf s a < 65536
+few-returns t s e a = elim (decLt a (t .accs)) [
+  | yes l ↦ lt-of-lt-of-le (way-of t s e .recent a l) (power-most (delayOf t) (sound-of t s e .delay))
+  | no d ↦ omega (arith, kept-of t s e .no-returns a (omega arith))
+]
 
 -- why a slot is refused by its number
 pub data Stops (t : Tree) (s : State) : ℕ → Type 0 where

@@ -1,23 +1,27 @@
 -- The fresh state, an admission, a service and a tick keep the rules of a state. An admission adds one beneath the path
 -- of its accelerator and a service takes one off there, and the service takes one off each allowance of that path too.
-use Prim.Native.Nat.{ℕ, _+_, _-_, _≤_, _<_}
+use Prim.Native.Nat.{ℕ, _+_, _-_, _%_, _^_, _≤_, _<_}
 use mathlib.Core.Bool.{Bool, true, false}
-use mathlib.Core.List.{List}
+use mathlib.Core.List.{List, map}
 use mathlib.Core.Path.{_≡_, refl, sym, _∙_, ap, subst, fun-ext}
 use native.Mathlib.Decide.{decLt, ℕ-discrete}
+use native.Mathlib.Nat.{one-le-pow, add-zero}
 use native.Mathlib.Omega.{arith}
-use lib.ListN.{getD, length, set, replicate, length-set, length-append, length-replicate, getD-replicate, List·getD-append, List·getD-eq-default}
+use lib.Count.{ones}
+use lib.Dec.{lit<}
+use lib.ListN.{getD, length, set, replicate, length-set, length-append, length-replicate, length-map, getD-replicate, List·getD-append, List·getD-eq-default}
 use lib.Seq.{getD-set-same, getD-set-other, getD-append-add}
 use Rattle.model.specs.declared.Tree.{Tree}
 use Rattle.model.specs.declared.State.{State}
 use Rattle.folds.specs.Fold.{pick}
-use Rattle.model.specs.Tree.{granularityOf, limitOf, budgetOf, path, waitingOf, outstandingOf, admittedOf, lastOf, allowanceOf, portOf}
+use Rattle.model.specs.Tree.{granularityOf, limitOf, budgetOf, path, delayOf, waitingOf, returnsOf, returningOf, outstandingOf, admittedOf, lastOf, allowanceOf, portOf}
 use Rattle.model.specs.Builders.{atSlot}
 use Rattle.model.specs.Beneath.{weightUnder, waitsUnder}
-use Rattle.rules.proofs.Sound.{Sound, Kept}
+use Rattle.rules.proofs.Sound.{Sound, Kept, OnWay}
 use Rattle.rules.proofs.Beneath.{On, on?, only, only-same, only-other, under-sum, weight-on, weight-off, path-bounds}
 use Rattle.turns.specs.Turns.{turnPort}
-use Rattle.machine.specs.Machine.{freshState, admit, opens, tick, takeOne}
+use Rattle.machine.specs.Machine.{freshState, admit, opens, older, tick, takeOne}
+use Rattle.machine.proofs.Returns.{no-ones, older-at, older-even, older-recent, older-fewer, older-zero, one-more}
 use Rattle.turns.proofs.Descent.{Turned, Unturned, Choice}
 
 -- a count stored at place a: what relates it to the count before, by one there and by nothing elsewhere
@@ -61,11 +65,13 @@ module _ (t : Tree) (S : Sound t) where
     admitted-size = refl;
     last-size = simp (length-append, length-replicate) (omega (arith, S .most-ints));
     allowance-size = refl;
-    outstanding = λ a l. omega (arith, zeros 32 a);
+    returning-size = refl;
+    outstanding = λ a l. omega (arith, zeros 32 a, no-ones (getD (replicate 32 0) a 0) (zeros 32 a));
     waiting = λ a l. omega (arith, zeros 32 a);
     admitted = λ a l. omega (arith, zeros 32 a);
     no-waiting = λ a l. zeros 32 a;
     no-admitted = λ a l. zeros 32 a;
+    no-returns = λ a l. zeros 32 a;
     last = λ j l. omega (arith, fresh-last j l);
     allowance = λ j l. omega (arith, zeros 15 j);
     allowance-waits = λ j l. omega (arith, zeros 15 j);
@@ -73,20 +79,46 @@ module _ (t : Tree) (S : Sound t) where
     no-allowance = λ j l. zeros 15 j;
   }
 
+  pub fresh-way : OnWay t (freshState t)
+  fresh-way = record {
+    even = λ a l. ap (λ x. x % 2) (zeros 32 a);
+    recent = λ a l. omega (arith, zeros 32 a, one-le-pow (delayOf t + 1) 2 (lit< tt));
+  }
+
+  -- what is one slot older was served 1 to r slots ago, whatever it was before
+  pub tick-way : (s : State) → OnWay t (tick t s)
+  unfolding tick
+  tick-way s = record {
+    even = λ a l. ap (λ x. x % 2) (older-at (delayOf t) (s .returning) a) ∙ older-even (delayOf t) (returnsOf s a);
+    recent = λ a l. subst (λ x. x < 2 ^ (delayOf t + 1)) (sym (older-at (delayOf t) (s .returning) a))
+        (older-recent (delayOf t) (returnsOf s a));
+  }
+
   module _ (s : State) (K : Kept t s) where
+    abbrev aged : List ℕ
+    aged = map (older (delayOf t)) (s .returning)
+
     recount : (m : List ℕ) → length m ≡ 32 → ((a : ℕ) → a < t .accs → getD m a 0 ≤ budgetOf t a)
         → ((a : ℕ) → t .accs ≤ a → getD m a 0 ≡ 0)
-        → Kept t (atSlot s m (s .slot + 1))
+        → Kept t (atSlot s aged m (s .slot + 1))
     recount m e h z = record {
       waiting-size = K .waiting-size;
       admitted-size = e;
       last-size = K .last-size;
       allowance-size = K .allowance-size;
-      outstanding = K .outstanding;
+      returning-size = length-map (s .returning) (older (delayOf t)) ∙ K .returning-size;
+      outstanding = λ a l. omega (
+        arith,
+        K .outstanding a l,
+        ap ones (older-at (delayOf t) (s .returning) a),
+        older-fewer (delayOf t) (returnsOf s a),
+      );
       waiting = K .waiting;
       admitted = h;
       no-waiting = K .no-waiting;
       no-admitted = z;
+      no-returns = λ a l. older-at (delayOf t) (s .returning) a ∙ ap (older (delayOf t)) (K .no-returns a l)
+          ∙ older-zero (delayOf t);
       last = K .last;
       allowance = K .allowance;
       allowance-waits = K .allowance-waits;
@@ -98,7 +130,7 @@ module _ (t : Tree) (S : Sound t) where
     unfolding tick
     tick-kept = go (opens t (s .slot))
       where
-        go : (c : Bool) → Kept t (atSlot s (pick c (replicate 32 0) (s .admitted)) (s .slot + 1))
+        go : (c : Bool) → Kept t (atSlot s aged (pick c (replicate 32 0) (s .admitted)) (s .slot + 1))
         go true = recount (replicate 32 0) refl (λ a l. omega (arith, zeros 32 a)) (λ a l. zeros 32 a)
         go false = recount (s .admitted) (K .admitted-size) (K .admitted) (K .no-admitted)
 
@@ -118,17 +150,22 @@ module _ (t : Tree) (S : Sound t) where
         ap (λ w. weightUnder t w j p) (fun-ext admit-waiting),
       )
 
+      pub admit-way : OnWay t s → OnWay t (admit s a)
+      admit-way w = record { even = w .even; recent = w .recent }
+
       pub admit-kept : outstandingOf s a < limitOf t a → admittedOf s a < budgetOf t a → Kept t (admit s a)
       admit-kept h m = record {
         waiting-size = length-set (s .waiting) _ _ ∙ K .waiting-size;
         admitted-size = length-set (s .admitted) _ _ ∙ K .admitted-size;
         last-size = K .last-size;
         allowance-size = K .allowance-size;
+        returning-size = K .returning-size;
         outstanding = λ b l. omega (arith, admit-waiting b, bump (outstandingOf s) (limitOf t) a b h (K .outstanding b l));
         waiting = λ b l. omega (arith, admit-waiting b, bump (outstandingOf s) (limitOf t) a b h (K .outstanding b l));
         admitted = λ b l. omega (arith, admit-admitted b, bump (admittedOf s) (budgetOf t) a b m (K .admitted b l));
         no-waiting = λ b l. omega (arith, admit-waiting b, K .no-waiting b l, only-other a b (omega arith));
         no-admitted = λ b l. omega (arith, admit-admitted b, K .no-admitted b l, only-other a b (omega arith));
+        no-returns = K .no-returns;
         last = K .last;
         allowance = K .allowance;
         allowance-waits = λ j l. omega (arith, K .allowance-waits j l, admit-waits j (lastOf s j));
@@ -137,6 +174,9 @@ module _ (t : Tree) (S : Sound t) where
       }
 
     module _ (a : ℕ) (r : State) (C : Choice t s a r) where
+      same-returns : (b : ℕ) → returnsOf r b ≡ returnsOf s b
+      same-returns b = ap (λ l. getD l b 0) (C .frame .returning)
+
       same-waiting : (b : ℕ) → waitingOf r b ≡ waitingOf s b
       same-waiting b = ap (λ l. getD l b 0) (C .frame .waiting)
 
@@ -148,6 +188,19 @@ module _ (t : Tree) (S : Sound t) where
           ∙ stored (λ new old n. old ≡ new + n) (r .waiting) a (waitingOf r a - 1)
           (omega (arith, C .acc, S .most-accs, K .waiting-size, ap length (C .frame .waiting)))
           (omega (arith, C .waits, same-waiting a)) (λ y. omega arith) b
+
+      pub take-returns : (b : ℕ) → returnsOf (takeOne r a) b ≡ returnsOf s b + only a b
+      take-returns b = stored (λ new old n. new ≡ old + n) (r .returning) a (returnsOf r a + 1)
+          (omega (arith, C .acc, S .most-accs, K .returning-size, ap length (C .frame .returning)))
+          refl (λ y. omega arith) b
+          ∙ ap (λ x. x + only a b) (same-returns b)
+
+      -- one more returns where one was served
+      pub take-returning : OnWay t s → (b : ℕ) → returningOf (takeOne r a) b ≡ returningOf s b + only a b
+      take-returning W b = ap ones (take-returns b) ∙ elim (ℕ-discrete a b) [
+        | yes e ↦ rw (only-same a b e) (one-more (returnsOf s b) (subst (λ i. returnsOf s i % 2 ≡ 0) e (W .even a (C .acc))))
+        | no d ↦ rw (only-other a b d) (rw (add-zero (returnsOf s b)) (omega arith))
+      ]
 
       took : (j p : ℕ) → waitsUnder t s j p ≡ weightUnder t (λ b. waitingOf (takeOne r a) b + only a b) j p
       took j p = ap (λ w. weightUnder t w j p) (fun-ext take-waiting)
@@ -180,17 +233,19 @@ module _ (t : Tree) (S : Sound t) where
                 (λ o. d (subst (λ p. On j p (path t a)) (C .on j (lastOf s j) o .port) o)),
           )))
 
-      pub take-kept : Kept t (takeOne r a)
-      take-kept = record {
+      pub take-kept : OnWay t s → Kept t (takeOne r a)
+      take-kept W = record {
         waiting-size = length-set (r .waiting) _ _ ∙ ap length (C .frame .waiting) ∙ K .waiting-size;
         admitted-size = ap length (C .frame .admitted) ∙ K .admitted-size;
         last-size = C .frame .last-size ∙ K .last-size;
         allowance-size = C .frame .allowance-size ∙ K .allowance-size;
-        outstanding = λ b l. omega (arith, take-waiting b, K .outstanding b l);
+        returning-size = length-set (r .returning) _ _ ∙ ap length (C .frame .returning) ∙ K .returning-size;
+        outstanding = λ b l. omega (arith, take-waiting b, take-returning W b, K .outstanding b l);
         waiting = λ b l. omega (arith, take-waiting b, K .waiting b l);
         admitted = λ b l. omega (arith, same-admitted b, K .admitted b l);
         no-waiting = λ b l. omega (arith, take-waiting b, K .no-waiting b l);
         no-admitted = λ b l. omega (arith, same-admitted b, K .no-admitted b l);
+        no-returns = λ b l. omega (arith, take-returns b, K .no-returns b l, only-other a b (λ e. omega (arith, C .acc, e)));
         last = λ j l. by-turn (lastOf r j < 8) j (λ o u. omega (arith, u .last, u .turn .port))
             (λ d u. omega (arith, u .last, K .last j l));
         allowance = λ j l. by-turn (allowanceOf r j ≤ granularityOf t j) j

@@ -12,21 +12,22 @@ use borrow.Author.Tests.{eq-eqb, ne-eqb, le-leb, lt-leb}
 use Rattle.model.specs.declared.Tree.{Tree}
 use Rattle.model.specs.declared.State.{State}
 use Rattle.folds.specs.Fold.{pick}
-use Rattle.model.specs.Tree.{granularityOf, limitOf, budgetOf, windowOf, path, waitingOf, outstandingOf, admittedOf, lastOf, allowanceOf}
+use Rattle.model.specs.Tree.{granularityOf, limitOf, budgetOf, windowOf, path, delayOf, waitingOf, returnsOf, outstandingOf, admittedOf, lastOf, allowanceOf}
 use Rattle.model.specs.Beneath.{waitsUnder}
 use Rattle.rules.specs.Rules.{treeKeeps, keeps}
 use Rattle.folds.proofs.Folds.{joined, picked, passed, clash}
-use Rattle.rules.proofs.Sound.{Sound, sound, Kept, keeping, sound-of, kept-of, keeps-of}
+use Rattle.rules.proofs.Sound.{Sound, sound, Kept, keeping, sound-of, kept-of, way-of, keeps-of}
 use Rattle.rules.proofs.Beneath.{On, only, only-same, only-other, root-zero}
 use Rattle.turns.specs.Turns.{turnPort, after}
 use Rattle.machine.specs.Machine.{admitted, served, idle, refused, Outcome, freshState, admit, limitsAnswer, verdictOf, offered, opens, lastSlot, tick, chosen, takeOne, slotted}
 use Rattle.turns.proofs.Descent.{Turned, Unturned, Choice, choice}
 use Rattle.machine.proofs.Cases.{Offered, refuses, admits, offer-cases, Stops, stopped, Slotted, stops, idles, serves, slot-cases}
-use Rattle.machine.proofs.Keeps.{zeros, fresh-kept, tick-kept, admit-waiting, admit-admitted, admit-kept, take-waiting, take-kept}
+use Rattle.machine.proofs.Keeps.{zeros, fresh-kept, fresh-way, tick-kept, tick-way, admit-waiting, admit-admitted, admit-kept, admit-way, take-waiting, take-returns, take-kept}
+use Rattle.machine.proofs.Returns.{older-at}
 use Rattle.machine.proofs.Windows.{window-opens}
 
 pub fresh-keeps : (t : Tree) → treeKeeps t ≡ true → keeps t (freshState t) ≡ true
-fresh-keeps t e = joined (treeKeeps t) _ e (keeping t (freshState t) (fresh-kept t (sound t e)))
+fresh-keeps t e = joined (treeKeeps t) _ e (keeping t (freshState t) (fresh-kept t (sound t e)) (fresh-way t (sound t e)))
 
 pub allowance-bounded : (t : Tree) (s : State) → keeps t s ≡ true → (j : ℕ) → j < t .ints
     → allowanceOf s j ≤ min (granularityOf t j) (waitsUnder t s j (lastOf s j))
@@ -38,7 +39,10 @@ module _ (t : Tree) (s : State) (a : ℕ) where
     where
       go : (o : Outcome) → Offered t s a o → keeps t (o .state) ≡ true
       go o (refuses w) = e
-      go o (admits l h m) = keeps-of t s (admit s a) e (admit-kept t (sound-of t s e) s (kept-of t s e) a l h m)
+      go o (admits l h m) =
+          let S = sound-of t s e in
+          let K = kept-of t s e in
+          keeps-of t s (admit s a) e (admit-kept t S s K a l h m) (admit-way t S s K a l (way-of t s e))
 
   pub offer-refused : (n : ℕ) → offered t s a .answer ≡ refused n → offered t s a .state ≡ s
   offer-refused n = go (offered t s a) (offer-cases t s a)
@@ -67,6 +71,7 @@ module _ (t : Tree) (s : State) (a : ℕ) where
 pub record Others (s r : State) (a : ℕ) : Type 0 where
   pub waiting : (b : ℕ) → (b ≡ a → ⊥) → waitingOf r b ≡ waitingOf s b
   pub admitted : (b : ℕ) → (b ≡ a → ⊥) → admittedOf r b ≡ admittedOf s b
+  pub returning : r .returning ≡ s .returning
   pub last : r .last ≡ s .last
   pub allowance : r .allowance ≡ s .allowance
   pub slot : r .slot ≡ s .slot
@@ -78,6 +83,7 @@ offer-others t s a = go (offered t s a) (offer-cases t s a)
     go o (refuses w) = record {
       waiting = λ b d. refl;
       admitted = λ b d. refl;
+      returning = refl;
       last = refl;
       allowance = refl;
       slot = refl;
@@ -85,6 +91,7 @@ offer-others t s a = go (offered t s a) (offer-cases t s a)
     go o (admits l h m) = record {
       waiting = λ b d. getD-set-other (s .waiting) a b _ 0 d;
       admitted = λ b d. getD-set-other (s .admitted) a b _ 0 d;
+      returning = refl;
       last = refl;
       allowance = refl;
       slot = refl;
@@ -151,8 +158,9 @@ module _ (t : Tree) (s : State) where
 
       go : (o : Outcome) → Slotted t s o → keeps t (o .state) ≡ true
       go o (stops w) = e
-      go o (idles k d z) = keeps-of t s (tick t s) e (tick-kept t S s K)
-      go o (serves k d w) = keeps-of t s _ e (tick-kept t S _ (take-kept t S s K _ _ (choice t S s K w)))
+      go o (idles k d z) = keeps-of t s (tick t s) e (tick-kept t S s K) (tick-way t S s)
+      go o (serves k d w) =
+          keeps-of t s _ e (tick-kept t S _ (take-kept t S s K _ _ (choice t S s K w) (way-of t s e))) (tick-way t S _)
 
   pub slot-refused : (n : ℕ) → slotted t s .answer ≡ refused n → slotted t s .state ≡ s
   slot-refused n = go (slotted t s) (slot-cases t s)

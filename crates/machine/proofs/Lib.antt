@@ -1,4 +1,6 @@
+pub mod Returns
 pub mod Cases
+pub mod Home
 pub mod Keeps
 pub mod Windows
 pub mod Laws

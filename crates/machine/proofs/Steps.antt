@@ -2,7 +2,7 @@
 -- picks the case of the definition. By the laws of `set` and `pick`.
 use mathlib.Core.Path.{_≡_, refl, ap, ap₂, sym, _∙_}
 use mathlib.Core.Bool.{Bool, true, false, not}
-use mathlib.Core.List.{List, _++_}
+use mathlib.Core.List.{List, _++_, map}
 use Prim.Native.Nat.{ℕ, zero, suc, _+_, _-_, _/_, _≤_, _<_}
 use native.Mathlib.Nat.{sub-zero, zero-sub, suc-sub-suc, le-antisymm, div-zero}
 use native.Mathlib.Omega.{arith}
@@ -12,43 +12,45 @@ use lib.Dec.{leb}
 use borrow.Author.Tests.{eq-eqb, ne-eqb, le-leb, lt-leb, leb-false}
 use Rattle.model.specs.declared.Tree.{Tree}
 use Rattle.model.specs.declared.State.{State}
-use Rattle.model.specs.Tree.{windowOf, waitingOf, outstandingOf, admittedOf, limitOf, budgetOf}
-use Rattle.model.specs.Builders.{zeroState, withCounts, atSlot}
+use Rattle.model.specs.Tree.{windowOf, delayOf, waitingOf, returnsOf, outstandingOf, admittedOf, limitOf, budgetOf}
+use Rattle.model.specs.Builders.{zeroState, withCounts, withService, atSlot}
 use Rattle.rules.specs.Rules.{treeKeeps, keeps}
 use Rattle.folds.specs.Fold.{pick}
 use Rattle.folds.proofs.Folds.{picked, passed, clash}
-use Rattle.machine.specs.Machine.{Answer, outcome, admitted, served, idle, refused, started, notStarted, beginning, freshState, freshened, admit, limitsAnswer, verdictOf, onAdmitted, offeredWithin, offered, noneWaits, lastSlot, chosen, takeOne, serve, tick, opens, slottedWithin, slotted}
+use Rattle.machine.specs.Machine.{Answer, outcome, admitted, served, idle, refused, started, notStarted, beginning, freshState, freshened, admit, limitsAnswer, verdictOf, onAdmitted, offeredWithin, offered, noneWaits, lastSlot, chosen, takeOne, serve, older, tick, opens, slottedWithin, slotted}
 
 pub admit-far : (s : State) (a : ℕ) → length (s .waiting) ≡ 32 → length (s .admitted) ≡ 32 → 32 ≤ a → s ≡ admit s a
 admit-far s a w d h =
     ap₂ (withCounts s)
     (sym (set-out (s .waiting) a (waitingOf s a + 1) (omega arith))) (sym (set-out (s .admitted) a (admittedOf s a + 1) (omega arith)))
 
-pub take-far : (s : State) (a : ℕ) → length (s .waiting) ≡ 32 → 32 ≤ a → s ≡ takeOne s a
-take-far s a w h =
-    ap (λ (x : List ℕ). withCounts s x (s .admitted))
-    (sym (set-out (s .waiting) a (waitingOf s a - 1) (omega arith)))
+pub take-far : (s : State) (a : ℕ) → length (s .waiting) ≡ 32 → length (s .returning) ≡ 32 → 32 ≤ a → s ≡ takeOne s a
+take-far s a w r h =
+    ap₂ (withService s)
+    (sym (set-out (s .waiting) a (waitingOf s a - 1) (omega arith))) (sym (set-out (s .returning) a (returnsOf s a + 1) (omega arith)))
 
-pub take-near : (s : State) (a n : ℕ) → n ≡ waitingOf s a - 1 → withCounts s (set (s .waiting) a n) (s .admitted) ≡ takeOne s a
-take-near s a n e = ap (λ (k : ℕ). withCounts s (set (s .waiting) a k) (s .admitted)) e
+pub take-near : (s : State) (a n : ℕ) → n ≡ waitingOf s a - 1
+    → withService s (set (s .waiting) a n) (set (s .returning) a (returnsOf s a + 1)) ≡ takeOne s a
+take-near s a n e = ap (λ (k : ℕ). withService s (set (s .waiting) a k) (set (s .returning) a (returnsOf s a + 1))) e
 
-abbrev after-slot : State → List ℕ → State
-after-slot s x = atSlot s x (s .slot + 1)
+abbrev after-slot : State → List ℕ → List ℕ → State
+after-slot s x m = atSlot s x m (s .slot + 1)
 
-pub tick-opens : (t : Tree) (s : State) → (windowOf t (s .slot + 1) ≡ windowOf t (s .slot) → ⊥) → after-slot s (replicate 32 0) ≡ tick t s
-unfolding tick
-tick-opens t s h = ap (after-slot s) (sym (picked (opens t (s .slot)) (replicate 32 0) (s .admitted) (ap not (ne-eqb _ _ h))))
+module _ (t : Tree) (s : State) (x : List ℕ) (q : x ≡ map (older (delayOf t)) (s .returning)) where
+  pub tick-opens : (windowOf t (s .slot + 1) ≡ windowOf t (s .slot) → ⊥) → after-slot s x (replicate 32 0) ≡ tick t s
+  unfolding tick
+  tick-opens h = ap₂ (after-slot s) q (sym (picked (opens t (s .slot)) (replicate 32 0) (s .admitted) (ap not (ne-eqb _ _ h))))
 
-pub tick-stays : (t : Tree) (s : State) → windowOf t (s .slot + 1) ≡ windowOf t (s .slot) → after-slot s (s .admitted) ≡ tick t s
-unfolding tick
-tick-stays t s h = ap (after-slot s) (sym (passed (opens t (s .slot)) (replicate 32 0) (s .admitted) (ap not (eq-eqb _ _ h))))
+  pub tick-stays : windowOf t (s .slot + 1) ≡ windowOf t (s .slot) → after-slot s x (s .admitted) ≡ tick t s
+  unfolding tick
+  tick-stays h = ap₂ (after-slot s) q (sym (passed (opens t (s .slot)) (replicate 32 0) (s .admitted) (ap not (eq-eqb _ _ h))))
 
--- a window of 0 never opens
-pub tick-none : (t : Tree) (s : State) → t .bus .window ≡ 0 → after-slot s (s .admitted) ≡ tick t s
-tick-none t s e = tick-stays t s (zeroth (s .slot + 1) ∙ sym (zeroth (s .slot)))
-  where
-    zeroth : (n : ℕ) → windowOf t n ≡ 0
-    zeroth n = ap (λ (w : ℕ). n / w) e ∙ div-zero n
+  -- a window of 0 never opens
+  pub tick-none : t .bus .window ≡ 0 → after-slot s x (s .admitted) ≡ tick t s
+  tick-none e = tick-stays (zeroth (s .slot + 1) ∙ sym (zeroth (s .slot)))
+    where
+      zeroth : (n : ℕ) → windowOf t n ≡ 0
+      zeroth n = ap (λ (w : ℕ). n / w) e ∙ div-zero n
 
 -- the tests of the limits, in the definition's order
 module _ (limit outstanding budget count : ℕ) where

@@ -20,22 +20,26 @@
 -- noneWaits s          nothing waits
 -- opens t n            slot n + 1 is in another window than slot n
 -- lastSlot             the slot count at which a slot is refused
--- tick t s             "Then the slot count rises by one; where that opens a new window, all admitted counts become 0"
+-- older r x            the returns x one slot later, each bit one place higher; what then was served r + 1 slots ago is home (document
+--                      02, item 2: "A transaction served in slot s stops being outstanding at the start of slot s + 1 + r")
+-- tick t s             "Then the slot count rises by one; where that opens a new window, all admitted counts become 0"; each
+--                      return is one slot older
 -- chosen t s           the accelerator to serve: "The choice begins at the root"
--- takeOne s a          one transaction of accelerator a less waits
+-- takeOne s a          one transaction of accelerator a less waits, and one was served 0 slots ago: bit 0 of its returns, which is 0
+--                      before
 -- serve t s            the state once the chosen accelerator's oldest transaction is served, before the slot count rises
 -- slottedWithin t s    one slot once configuration and state have passed: 10, or idle, or the accelerator served
 -- slotted t s          one slot: 11, 10 in this order, or idle, or the accelerator served
-use Prim.Native.Nat.{ℕ, _+_, _-_}
+use Prim.Native.Nat.{ℕ, _+_, _-_, _*_, _%_, _^_}
 use mathlib.Core.Bool.{Bool, not}
-use mathlib.Core.List.{_++_}
+use mathlib.Core.List.{_++_, map}
 use lib.ListN.{set, replicate}
 use lib.Dec.{leb, eqb}
 use Rattle.model.specs.declared.Tree.{Tree}
 use Rattle.model.specs.declared.State.{State}
 use Rattle.folds.specs.Fold.{pick, all}
-use Rattle.model.specs.Tree.{limitOf, budgetOf, windowOf, waitingOf, outstandingOf, admittedOf}
-use Rattle.model.specs.Builders.{zeroState, withCounts, withTurns, atSlot}
+use Rattle.model.specs.Tree.{limitOf, budgetOf, windowOf, delayOf, waitingOf, returnsOf, outstandingOf, admittedOf}
+use Rattle.model.specs.Builders.{zeroState, withCounts, withService, withTurns, atSlot}
 use Rattle.rules.specs.Rules.{treeKeeps, keeps}
 use Rattle.turns.specs.Turns.{who, after}
 
@@ -98,8 +102,12 @@ noneWaits s = all 32 (λ a. eqb (waitingOf s a) 0)
 abbrev pub opens : Tree → ℕ → Bool
 opens t n = not (eqb (windowOf t (n + 1)) (windowOf t n))
 
+abbrev pub older : ℕ → ℕ → ℕ
+older r x = x * 2 % 2 ^ (r + 1)
+
 unfoldable pub tick : Tree → State → State
-tick t s = atSlot s (pick (opens t (s .slot)) (replicate 32 0) (s .admitted)) (s .slot + 1)
+tick t s =
+    atSlot s (map (older (delayOf t)) (s .returning)) (pick (opens t (s .slot)) (replicate 32 0) (s .admitted)) (s .slot + 1)
 
 abbrev pub lastSlot : ℕ
 lastSlot = 4294967295
@@ -108,7 +116,7 @@ abbrev pub chosen : Tree → State → ℕ
 chosen t s = who 4 t s 0
 
 abbrev pub takeOne : State → ℕ → State
-takeOne s a = withCounts s (set (s .waiting) a (waitingOf s a - 1)) (s .admitted)
+takeOne s a = withService s (set (s .waiting) a (waitingOf s a - 1)) (set (s .returning) a (returnsOf s a + 1))
 
 abbrev pub serve : Tree → State → State
 serve t s = takeOne (after 4 t s 0) (chosen t s)

@@ -13,10 +13,13 @@ use rules::less_one;
 use rules::tree_keeps;
 use turns::choose;
 ghost use mathlib.Core.Path.{_≡_};
+ghost use mathlib.Core.Bool.{true};
+ghost use mathlib.Core.List.{map};
 ghost use Prim.Native.Nat.{_<_, _≤_};
-ghost use Rattle.model.specs.Tree.{waitingOf, admittedOf};
+ghost use Rattle.model.specs.Tree.{delayOf, waitingOf, returnsOf, admittedOf};
 ghost use Rattle.model.specs.Builders.{zeroState};
-ghost use Rattle.machine.specs.Machine.{admitted, freshState, freshened, admit, limitsAnswer, verdictOf, offeredWithin, offered, noneWaits, tick, takeOne, lastSlot, slottedWithin, slotted};
+ghost use Rattle.rules.specs.Rules.{keeps};
+ghost use Rattle.machine.specs.Machine.{admitted, freshState, freshened, admit, limitsAnswer, verdictOf, offeredWithin, offered, noneWaits, older, tick, takeOne, lastSlot, slottedWithin, slotted};
 ghost use Rattle.machine.specs.Answers.{offerMeans, freshOutcome, offerOutcome, slotOutcome};
 
 // What the start answers.
@@ -61,6 +64,7 @@ fn zero_state() -> State
 {
     State {
         waiting: [0u8; 32],
+        returning: [0u32; 32],
         admitted: [0u16; 32],
         last: [0u8; 15],
         allowance: [0u8; 15],
@@ -192,13 +196,38 @@ fn none_waits(s: State) -> bool
     ok
 }
 
-// The slot count rises by one, and where that opens a new window the admitted counts return to 0. No window opens where a
-// configuration that breaks its rules has a window of 0.
+// The returns one slot later: what then was served more than `delay` slots ago is home.
+fn one_older(delay: u8, returns: u32) -> u32
+    requires { ⌜ delay ≤ 15 ⌝ }
+    ensures { λ r. ⌜ r ≡ older delay returns ⌝ }
+{
+    ((returns as u64 * 2) % (2 << delay)) as u32
+}
+
+// Those of every accelerator.
+fn all_older(delay: u8, returning: [u32; 32]) -> [u32; 32]
+    requires { ⌜ delay ≤ 15 ⌝ }
+    ensures { λ r. ⌜ r ≡ map (older delay) returning ⌝ }
+{
+    let mut r = returning;
+    let mut a: usize = 0;
+    while a < 32 {
+        r[a] = one_older(delay, r[a]);
+        a += 1;
+    }
+    r
+}
+
+// The slot count rises by one, those whose delay has passed come home, and where that opens a new window the admitted counts
+// return to 0. No window opens where a configuration that breaks its rules has a window of 0.
 fn ticked(t: Tree, s: State) -> State
-    requires { ⌜ s .slot < lastSlot ⌝ }
+    requires { ⌜ (s .slot < lastSlot) × (delayOf t ≤ 15) ⌝ }
     ensures { λ r. ⌜ r ≡ tick t s ⌝ }
 {
     let mut next = s;
+    let returning = s.returning;
+    let older = all_older(t.bus.delay, returning);
+    next.returning = older;
     let window = t.bus.window as u32;
     let slot = s.slot;
     next.slot = slot + 1;
@@ -211,19 +240,23 @@ fn ticked(t: Tree, s: State) -> State
     next
 }
 
+// One transaction of accelerator a is served: it waits no longer, and returns.
 fn take_one(s: State, a: u8) -> State
+    requires { ⌜ returnsOf s a < 4294967295 ⌝ }
     ensures { λ r. ⌜ r ≡ takeOne s a ⌝ }
 {
     let i = a as usize;
     let mut next = s;
     if i < 32 {
         next.waiting[i] = less_one(waiting_of(s, a) as u32) as u8;
+        next.returning[i] = s.returning[i] + 1;
     }
     next
 }
 
 // One slot, for a caller that has checked configuration and state.
 fn slot_within(t: Tree, s: State) -> SlotReply
+    requires { ⌜ keeps t s ≡ true ⌝ }
     ensures { λ r. ⌜ slotOutcome r ≡ slottedWithin t s ⌝ }
 {
     if s.slot == 4294967295 {

@@ -3,8 +3,9 @@
 --
 -- zeroState              the state with nothing in it
 -- withCounts s w m       state s with the waiting counts w and the admitted counts m
+-- withService s w x      state s with the waiting counts w and the returns x
 -- withTurns s l o        state s with the last ports l and the allowances o
--- atSlot s m n           state s with the admitted counts m and the slot count n
+-- atSlot s x m n         state s with the returns x, the admitted counts m and the slot count n
 -- withBus t b            configuration t with the bus b
 -- withInterconnects t n l  configuration t with n interconnects, those of the list l
 -- withAccelerators t n l   configuration t with n accelerators, those of the list l
@@ -24,6 +25,7 @@ abbrev pub zeroState : State
 zeroState =
     record {
       waiting = replicate 32 0;
+      returning = replicate 32 0;
       admitted = replicate 32 0;
       last = replicate 15 0;
       allowance = replicate 15 0;
@@ -32,15 +34,47 @@ zeroState =
 
 abbrev pub withCounts : State → List ℕ → List ℕ → State
 withCounts s waiting admitted =
-    record { waiting = waiting; admitted = admitted; last = s .last; allowance = s .allowance; slot = s .slot }
+    record {
+      waiting = waiting;
+      returning = s .returning;
+      admitted = admitted;
+      last = s .last;
+      allowance = s .allowance;
+      slot = s .slot;
+    }
+
+abbrev pub withService : State → List ℕ → List ℕ → State
+withService s waiting returning =
+    record {
+      waiting = waiting;
+      returning = returning;
+      admitted = s .admitted;
+      last = s .last;
+      allowance = s .allowance;
+      slot = s .slot;
+    }
 
 abbrev pub withTurns : State → List ℕ → List ℕ → State
 withTurns s last allowance =
-    record { waiting = s .waiting; admitted = s .admitted; last = last; allowance = allowance; slot = s .slot }
+    record {
+      waiting = s .waiting;
+      returning = s .returning;
+      admitted = s .admitted;
+      last = last;
+      allowance = allowance;
+      slot = s .slot;
+    }
 
-abbrev pub atSlot : State → List ℕ → ℕ → State
-atSlot s admitted slot =
-    record { waiting = s .waiting; admitted = admitted; last = s .last; allowance = s .allowance; slot = slot }
+abbrev pub atSlot : State → List ℕ → List ℕ → ℕ → State
+atSlot s returning admitted slot =
+    record {
+      waiting = s .waiting;
+      returning = returning;
+      admitted = admitted;
+      last = s .last;
+      allowance = s .allowance;
+      slot = slot;
+    }
 
 abbrev pub withBus : Tree → Bus → Tree
 withBus t bus =

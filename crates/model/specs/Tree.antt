@@ -18,17 +18,22 @@
 -- path t a              the crossings of accelerator a, from its own interconnect up to the root
 -- levelOf t j           the level of interconnect j ("A level is the count of interconnects from the root to here, the
 --                       root 1")
+-- delayOf t             the return delay r, in slots (document 02, item 2: "the return delay r, 0 to 15 slots")
 -- waitingOf s a         the transactions of accelerator a that wait
--- outstandingBy n       how many transactions of an accelerator are outstanding, where n of them wait: those that wait
---                       ("A transaction stops being outstanding in the slot that serves it")
--- outstandingOf s a     the transactions of accelerator a that are outstanding
+-- bit d x               bit d of the number x
+-- returnsOf s a         the returning transactions of accelerator a, as the bits of a number: bit d is 1 where one was served d slots
+--                       ago. "A transaction served in slot s stops being outstanding at the start of slot s + 1 + r", so that one is due
+--                       r + 1 - d slots ahead
+-- returningOf s a       how many transactions of accelerator a are returning
+-- outstandingOf s a     the transactions of accelerator a that are outstanding: "its returning transactions beside the waiting ones"
 -- admittedOf s a        the transactions of accelerator a admitted in this window
 -- lastOf s j            the last port of interconnect j
 -- allowanceOf s j       the allowance of interconnect j
-use Prim.Native.Nat.{ℕ, zero, suc, _/_}
+use Prim.Native.Nat.{ℕ, zero, suc, _+_, _/_, _%_, _^_}
 use mathlib.Core.List.{List, [], _∷_}
 use lib.ListN.{getD, length, replicate}
 use lib.Dec.{eqb}
+use lib.Count.{ones}
 use Rattle.model.specs.declared.Tree.{Tree}
 use Rattle.model.specs.declared.State.{State}
 use Rattle.model.specs.declared.Interconnect.{Interconnect}
@@ -95,14 +100,23 @@ path t a = record { interconnect = homeOf t a; port = homePortOf t a } ∷ above
 abbrev pub levelOf : Tree → ℕ → ℕ
 levelOf t j = suc (length (above 15 t j))
 
+abbrev pub delayOf : Tree → ℕ
+delayOf t = t .bus .delay
+
 abbrev pub waitingOf : State → ℕ → ℕ
 waitingOf s a = getD (s .waiting) a 0
 
-abbrev pub outstandingBy : ℕ → ℕ
-outstandingBy waiting = waiting
+abbrev pub bit : ℕ → ℕ → ℕ
+bit d x = x / 2 ^ d % 2
+
+abbrev pub returnsOf : State → ℕ → ℕ
+returnsOf s a = getD (s .returning) a 0
+
+abbrev pub returningOf : State → ℕ → ℕ
+returningOf s a = ones (returnsOf s a)
 
 abbrev pub outstandingOf : State → ℕ → ℕ
-outstandingOf s a = outstandingBy (waitingOf s a)
+outstandingOf s a = waitingOf s a + returningOf s a
 
 abbrev pub admittedOf : State → ℕ → ℕ
 admittedOf s a = getD (s .admitted) a 0

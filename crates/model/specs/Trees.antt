@@ -4,13 +4,16 @@
 -- ports x y            a port table with x at port 0, y at port 1 and the rest empty
 -- interconnect j p g c interconnect on port p of interconnect j, with granularity g and the port table c
 -- block j p phi b      accelerator on port p of interconnect j, with outstanding limit phi and budget b
--- tree P xs ys         the configuration with window P, interconnects xs and accelerators ys
+-- treeWith P r xs ys   the configuration with window P, return delay r, interconnects xs and accelerators ys
+-- tree P xs ys         the same with return delay 0
 -- chainWith b x        three interconnects, each at port 1 of the one above, with x for accelerator 1 and budget b for the
 --                      others
 -- chainOf b            the tree of case 1, each budget b; chain: with budget 8, as there
 -- timed T              the tree of case 9: accelerator 1 of case 1's tree is at level 2 and has share 4
 -- pair g P f h b       one interconnect of granularity g with two accelerators, of phi f and h, at ports 0 and 1, each of
 --                      budget b
+-- returningPair r f h  one interconnect of granularity 1, window 16 and return delay r with two accelerators, of phi f and h, at ports 0
+--                      and 1, each of budget 8
 -- worked               the tree of the report's worked listing
 -- nested               a tree whose shares tell the plain sum of capacities from nested minima
 use Prim.Native.Nat.{ℕ, _-_}
@@ -35,15 +38,18 @@ abbrev pub block : ℕ → ℕ → ℕ → ℕ → Accelerator
 block j p phi b =
     record { interconnect = j; port = p; phi = phi; budget = b; reads = 1; writes = 1; computing = 0; period = 1 }
 
-abbrev pub tree : ℕ → List Interconnect → List Accelerator → Tree
-tree P xs ys =
+abbrev pub treeWith : ℕ → ℕ → List Interconnect → List Accelerator → Tree
+treeWith P r xs ys =
     record {
-      bus = record { window = P; ta = 1; da = 4; dd = 2; db = 2; pr = 30; pw = 25; td = 1; tb = 1; burst = 16 };
+      bus = record { window = P; ta = 1; da = 4; dd = 2; db = 2; pr = 30; pw = 25; td = 1; tb = 1; burst = 16; delay = r };
       interconnects = xs ++ replicate (15 - length xs) noInterconnect;
       accelerators = ys ++ replicate (32 - length ys) noAccelerator;
       ints = length xs;
       accs = length ys;
     }
+
+abbrev pub tree : ℕ → List Interconnect → List Accelerator → Tree
+tree P xs ys = treeWith P 0 xs ys
 
 abbrev pub chainWith : ℕ → Accelerator → Tree
 chainWith b x =
@@ -66,6 +72,10 @@ timed T = chainWith 8 (withJob 10 5 1000 T (block 1 0 4 8))
 abbrev pub pair : ℕ → ℕ → ℕ → ℕ → ℕ → Tree
 pair g P f h b =
     tree P (interconnect 0 0 g (ports (Acc 0) (Acc 1)) ∷ []) (block 0 0 f b ∷ block 0 1 h b ∷ [])
+
+abbrev pub returningPair : ℕ → ℕ → ℕ → Tree
+returningPair r f h =
+    treeWith 16 r (interconnect 0 0 1 (ports (Acc 0) (Acc 1)) ∷ []) (block 0 0 f 8 ∷ block 0 1 h 8 ∷ [])
 
 abbrev pub nested : Tree
 nested =

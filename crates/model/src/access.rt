@@ -8,7 +8,7 @@ use crate::Tree;
 ghost use mathlib.Core.Path.{_≡_};
 ghost use Prim.Native.Nat.{_≤_, _*_, _^_};
 ghost use lib.ListN.{length};
-ghost use Rattle.model.specs.Tree.{interconnectOf, acceleratorOf, portOf, levelOf, above, waitingOf, outstandingBy, outstandingOf, admittedOf, lastOf, allowanceOf};
+ghost use Rattle.model.specs.Tree.{interconnectOf, acceleratorOf, portOf, levelOf, above, waitingOf, returnsOf, outstandingOf, admittedOf, lastOf, allowanceOf};
 ghost use Rattle.model.specs.Beneath.{weightIn, under, inside, weightUnder, waitsUnder};
 
 pub fn interconnect_at(t: Tree, j: u8) -> Interconnect
@@ -68,18 +68,22 @@ pub fn waiting_of(s: State, a: u8) -> u8
     0
 }
 
-// How many transactions of an accelerator are outstanding, where so many of them wait.
-pub fn outstanding_by(waiting: u32) -> u32
-    ensures { λ r. ⌜ r ≡ outstandingBy waiting ⌝ }
+// The returning transactions of accelerator a: bit d for one that was served d slots ago.
+pub fn returns_of(s: State, a: u8) -> u32
+    ensures { λ r. ⌜ r ≡ returnsOf s a ⌝ }
 {
-    waiting
+    let i = a as usize;
+    if i < 32 {
+        return s.returning[i];
+    }
+    0
 }
 
-// How many transactions of accelerator a are outstanding.
+// How many transactions of accelerator a are outstanding: those that wait and those that return.
 pub fn outstanding_of(s: State, a: u8) -> u32
     ensures { λ r. ⌜ r ≡ outstandingOf s a ⌝ }
 {
-    outstanding_by(widen(waiting_of(s, a)))
+    widen(waiting_of(s, a)) + u32::count_ones(returns_of(s, a))
 }
 
 pub fn admitted_of(s: State, a: u8) -> u16

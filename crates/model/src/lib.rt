@@ -19,7 +19,8 @@ pub struct PortCell {
     pub port: Port,
 }
 
-// The bus line: the window P in slots; the delays tA, dA, dD, dB, pR, pW, tD, tB in clock cycles; the burst length B.
+// The bus line: the window P in slots; the delays tA, dA, dD, dB, pR, pW, tD, tB in clock cycles; the burst length B; the
+// return delay r in slots, 0 where the line leaves it out.
 pub struct Bus {
     pub window: u16,
     pub ta: u8,
@@ -31,6 +32,7 @@ pub struct Bus {
     pub td: u8,
     pub tb: u8,
     pub burst: u16,
+    pub delay: u8,
 }
 
 // An interconnect: the parent and the port on it that carries this one (0 and 0 at the root, whose line has "-" there),
@@ -64,10 +66,12 @@ pub struct Tree {
     pub accs: u8,
 }
 
-// The state of one channel: for each accelerator the transactions that wait and those admitted in this window; for each
-// interconnect its last port and its allowance; and the slot count.
+// The state of one channel: for each accelerator the transactions that wait, those that return and those admitted in this
+// window; for each interconnect its last port and its allowance; and the slot count. The returning ones are the bits of a
+// number: bit d for one that was served d slots ago, and so is due r + 1 - d slots ahead.
 pub struct State {
     pub waiting: [u8; 32],
+    pub returning: [u32; 32],
     pub admitted: [u16; 32],
     pub last: [u8; 15],
     pub allowance: [u8; 15],

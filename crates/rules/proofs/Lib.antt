@@ -1,3 +1,4 @@
 pub mod Sized
 pub mod Sound
 pub mod Beneath
+pub mod Returns

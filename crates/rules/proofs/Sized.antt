@@ -33,6 +33,6 @@ sized-tree-yes t i a p =
     joined _ _ (joined _ _ (eq-eqb _ _ i) (eq-eqb _ _ a)) (at-all 15 _ (λ j l. eq-eqb _ _ (p j)))
 
 -- every state that a program holds has arrays of their lengths
-pub sized-yes : (s : State) → length (s .waiting) ≡ 32 → length (s .admitted) ≡ 32 → length (s .last) ≡ 15 → length (s .allowance) ≡ 15 → sized s ≡ true
+pub sized-yes : (s : State) → length (s .waiting) ≡ 32 → length (s .admitted) ≡ 32 → length (s .last) ≡ 15 → length (s .allowance) ≡ 15 → length (s .returning) ≡ 32 → sized s ≡ true
 unfolding sized
-sized-yes s w a l o = simp (eq-eqb _ _ w, eq-eqb _ _ a, eq-eqb _ _ l, eq-eqb _ _ o)
+sized-yes s w a l o r = simp (eq-eqb _ _ w, eq-eqb _ _ a, eq-eqb _ _ l, eq-eqb _ _ o, eq-eqb _ _ r)

@@ -1,5 +1,5 @@
 -- The rules of a tree and of a state as plain facts: each test that passes is read as what it tests.
-use Prim.Native.Nat.{ℕ, zero, suc, _≤_, _<_}
+use Prim.Native.Nat.{ℕ, zero, suc, _+_, _%_, _^_, _≤_, _<_}
 use mathlib.Core.Bool.{true}
 use mathlib.Core.List.{List, [], _∷_}
 use mathlib.Core.Path.{_≡_, refl, sym, _∙_, ap, subst}
@@ -13,7 +13,7 @@ use Rattle.model.specs.declared.State.{State}
 use Rattle.model.specs.declared.Port.{Port}
 use Rattle.model.specs.declared.Port.the-variants.{Empty, Acc, Int}
 use Rattle.folds.specs.Fold.{pick}
-use Rattle.model.specs.Tree.{noInterconnect, noAccelerator, interconnectOf, portOf, granularityOf, parentOf, parentPortOf, homeOf, homePortOf, limitOf, budgetOf, levelOf, above, waitingOf, outstandingOf, admittedOf, lastOf, allowanceOf}
+use Rattle.model.specs.Tree.{noInterconnect, noAccelerator, interconnectOf, portOf, granularityOf, parentOf, parentPortOf, homeOf, homePortOf, limitOf, budgetOf, levelOf, above, delayOf, waitingOf, returnsOf, outstandingOf, admittedOf, lastOf, allowanceOf}
 use Rattle.model.specs.Beneath.{waitsUnder}
 use Rattle.rules.specs.Rules.{busKeeps, carries, isAcc, isInt, childPlaced, usedInterconnect, usedAccelerator, unusedAccelerator, treeKeeps, sized, recordKeeps, turnKeeps, stateKeeps, keeps}
 use Rattle.folds.proofs.Folds.{both, joined, tests, picked, passed, clash}
@@ -24,6 +24,7 @@ pub record Sound (t : Tree) : Type 0 where
   pub accs-size : length (t .accelerators) ≡ 32
   pub ports-size : (j : ℕ) → length (interconnectOf t j .ports) ≡ 8
   pub window : 1 ≤ t .bus .window
+  pub delay : delayOf t ≤ 15
   pub some-ints : 1 ≤ t .ints
   pub most-ints : t .ints ≤ 15
   pub some-accs : 1 ≤ t .accs
@@ -55,7 +56,7 @@ int-carried j (Acc b) e = clash cc
 int-carried j (Int k) e = ap Int (sym (eqb-true j k e))
 
 module _ (t : Tree) (e : treeKeeps t ≡ true) where
-  counts : (1 ≤ t .ints) × (t .ints ≤ 15) × (1 ≤ t .accs) × (t .accs ≤ 32) × (1 ≤ t .bus .window)
+  counts : (1 ≤ t .ints) × (t .ints ≤ 15) × (1 ≤ t .accs) × (t .accs ≤ 32) × (1 ≤ t .bus .window) × (delayOf t ≤ 15)
   unfolding treeKeeps busKeeps
   counts = let h = simp tests at e in omega arith
 
@@ -109,6 +110,7 @@ module _ (t : Tree) (e : treeKeeps t ≡ true) where
         accs-size = sizes .1;
         ports-size = all-ports;
         window = counts .4;
+        delay = counts .5;
         some-ints = counts .0;
         most-ints = counts .1;
         some-accs = counts .2;
@@ -135,16 +137,23 @@ pub record Kept (t : Tree) (s : State) : Type 0 where
   pub admitted-size : length (s .admitted) ≡ 32
   pub last-size : length (s .last) ≡ 15
   pub allowance-size : length (s .allowance) ≡ 15
+  pub returning-size : length (s .returning) ≡ 32
   pub outstanding : (a : ℕ) → a < t .accs → outstandingOf s a ≤ limitOf t a
   pub waiting : (a : ℕ) → a < t .accs → waitingOf s a ≤ limitOf t a
   pub admitted : (a : ℕ) → a < t .accs → admittedOf s a ≤ budgetOf t a
   pub no-waiting : (a : ℕ) → t .accs ≤ a → waitingOf s a ≡ 0
   pub no-admitted : (a : ℕ) → t .accs ≤ a → admittedOf s a ≡ 0
+  pub no-returns : (a : ℕ) → t .accs ≤ a → returnsOf s a ≡ 0
   pub last : (j : ℕ) → j < t .ints → lastOf s j < 8
   pub allowance : (j : ℕ) → j < t .ints → allowanceOf s j ≤ granularityOf t j
   pub allowance-waits : (j : ℕ) → j < t .ints → allowanceOf s j ≤ waitsUnder t s j (lastOf s j)
   pub no-last : (j : ℕ) → t .ints ≤ j → lastOf s j ≡ 0
   pub no-allowance : (j : ℕ) → t .ints ≤ j → allowanceOf s j ≡ 0
+
+-- each return is due 1 to r slots ahead: it was served 1 to r slots ago. Between a service and the end of its slot this does not hold
+pub record OnWay (t : Tree) (s : State) : Type 0 where
+  pub even : (a : ℕ) → a < t .accs → returnsOf s a % 2 ≡ 0
+  pub recent : (a : ℕ) → a < t .accs → returnsOf s a < 2 ^ (delayOf t + 1)
 
 -- past the end stands zero, so what holds of the unused records before the end holds of all
 unused : (l : List ℕ) (m n : ℕ) → length l ≡ n → ((i : ℕ) → m ≤ i → i < n → getD l i 0 ≡ 0) → (i : ℕ) → m ≤ i
@@ -153,13 +162,16 @@ unused l m n e h i b = elim (decLt i n) [ yes c ↦ h i b c | no d ↦ sym (beyo
 
 module _ (t : Tree) (s : State) where
   record-used : (a : ℕ) → recordKeeps t s a ≡ true → a < t .accs
-      → (outstandingOf s a ≤ limitOf t a) × (admittedOf s a ≤ budgetOf t a)
+      → (outstandingOf s a ≤ limitOf t a) × (admittedOf s a ≤ budgetOf t a) × (returnsOf s a % 2 ≡ 0)
+      × (returnsOf s a < 2 ^ (delayOf t + 1))
   unfolding recordKeeps
-  record-used a e l = simp tests at (sym (picked _ _ _ (lt-ltb _ _ l)) ∙ e)
+  record-used a e l =
+      let h = simp tests at (sym (picked _ _ _ (lt-ltb _ _ l)) ∙ e) in (h .0 .0, h .0 .1, h .1 .0, h .1 .1)
 
-  record-unused : (a : ℕ) → recordKeeps t s a ≡ true → t .accs ≤ a → (waitingOf s a ≡ 0) × (admittedOf s a ≡ 0)
+  record-unused : (a : ℕ) → recordKeeps t s a ≡ true → t .accs ≤ a
+      → (waitingOf s a ≡ 0) × (admittedOf s a ≡ 0) × (returnsOf s a ≡ 0)
   unfolding recordKeeps
-  record-unused a e l = simp tests at (sym (passed _ _ _ (le-ltb _ _ l)) ∙ e)
+  record-unused a e l = let h = simp tests at (sym (passed _ _ _ (le-ltb _ _ l)) ∙ e) in (h .0 .0, h .0 .1, h .1)
 
   turn-used : (j : ℕ) → turnKeeps t s j ≡ true → j < t .ints
       → (lastOf s j < 8) × (allowanceOf s j ≤ granularityOf t j) × (allowanceOf s j ≤ waitsUnder t s j (lastOf s j))
@@ -177,29 +189,42 @@ module _ (t : Tree) (s : State) where
       let in-accs : (a : ℕ) → a < t .accs → a < 32 = λ a l. omega (arith, S .most-accs) in
       let in-ints : (j : ℕ) → j < t .ints → j < 15 = λ j l. omega (arith, S .most-ints) in
       record {
-        waiting-size = h .0 .0 .0 .0 .0;
-        admitted-size = h .0 .0 .0 .0 .1;
-        last-size = h .0 .0 .0 .1;
-        allowance-size = h .0 .0 .1;
+        waiting-size = h .0 .0 .0 .0 .0 .0;
+        admitted-size = h .0 .0 .0 .0 .0 .1;
+        last-size = h .0 .0 .0 .0 .1;
+        allowance-size = h .0 .0 .0 .1;
+        returning-size = h .0 .0 .1;
         outstanding = λ a l. record-used a (h .0 .1 a (in-accs a l)) l .0;
         waiting = λ a l. omega (arith, record-used a (h .0 .1 a (in-accs a l)) l .0);
         admitted = λ a l. record-used a (h .0 .1 a (in-accs a l)) l .1;
-        no-waiting = unused (s .waiting) (t .accs) 32 (h .0 .0 .0 .0 .0) (λ a l b. record-unused a (h .0 .1 a b) l .0);
-        no-admitted = unused (s .admitted) (t .accs) 32 (h .0 .0 .0 .0 .1)
+        no-waiting = unused (s .waiting) (t .accs) 32 (h .0 .0 .0 .0 .0 .0) (λ a l b. record-unused a (h .0 .1 a b) l .0);
+        no-admitted = unused (s .admitted) (t .accs) 32 (h .0 .0 .0 .0 .0 .1)
             (λ a l b. record-unused a (h .0 .1 a b) l .1);
+        no-returns = unused (s .returning) (t .accs) 32 (h .0 .0 .1) (λ a l b. record-unused a (h .0 .1 a b) l .2);
         last = λ j l. turn-used j (h .1 j (in-ints j l)) l .0;
         allowance = λ j l. turn-used j (h .1 j (in-ints j l)) l .1;
         allowance-waits = λ j l. turn-used j (h .1 j (in-ints j l)) l .2;
-        no-last = unused (s .last) (t .ints) 15 (h .0 .0 .0 .1) (λ j l b. turn-unused j (h .1 j b) l .0);
-        no-allowance = unused (s .allowance) (t .ints) 15 (h .0 .0 .1) (λ j l b. turn-unused j (h .1 j b) l .1);
+        no-last = unused (s .last) (t .ints) 15 (h .0 .0 .0 .0 .1) (λ j l b. turn-unused j (h .1 j b) l .0);
+        no-allowance = unused (s .allowance) (t .ints) 15 (h .0 .0 .0 .1) (λ j l b. turn-unused j (h .1 j b) l .1);
       }
 
-  record-keeps : Kept t s → (a : ℕ) → recordKeeps t s a ≡ true
+  pub on-way : Sound t → stateKeeps t s ≡ true → OnWay t s
+  unfolding stateKeeps
+  on-way S e =
+      let h = simp tests at e in
+      let in-accs : (a : ℕ) → a < t .accs → a < 32 = λ a l. omega (arith, S .most-accs) in
+      record {
+        even = λ a l. record-used a (h .0 .1 a (in-accs a l)) l .2;
+        recent = λ a l. record-used a (h .0 .1 a (in-accs a l)) l .3;
+      }
+
+  record-keeps : Kept t s → OnWay t s → (a : ℕ) → recordKeeps t s a ≡ true
   unfolding recordKeeps
-  record-keeps k a = elim (decLt a (t .accs)) [
-    | yes l ↦ picked _ _ _ (lt-ltb _ _ l) ∙ simp tests (k .outstanding a l, k .admitted a l)
+  record-keeps k w a = elim (decLt a (t .accs)) [
+    | yes l ↦ picked _ _ _ (lt-ltb _ _ l) ∙ simp tests
+        ((k .outstanding a l, k .admitted a l), (w .even a l, w .recent a l))
     | no d ↦ passed _ _ _ (le-ltb a (t .accs) (omega arith)) ∙ simp tests
-        (k .no-waiting a (omega arith), k .no-admitted a (omega arith))
+        ((k .no-waiting a (omega arith), k .no-admitted a (omega arith)), k .no-returns a (omega arith))
   ]
 
   turn-keeps : Kept t s → (j : ℕ) → turnKeeps t s j ≡ true
@@ -211,12 +236,12 @@ module _ (t : Tree) (s : State) where
         (k .no-last j (omega arith), k .no-allowance j (omega arith))
   ]
 
-  pub keeping : Kept t s → stateKeeps t s ≡ true
+  pub keeping : Kept t s → OnWay t s → stateKeeps t s ≡ true
   unfolding stateKeeps sized
-  keeping k = simp tests (
+  keeping k w = simp tests (
     (
-      (((k .waiting-size, k .admitted-size), k .last-size), k .allowance-size),
-      (λ a l. record-keeps k a),
+      ((((k .waiting-size, k .admitted-size), k .last-size), k .allowance-size), k .returning-size),
+      (λ a l. record-keeps k w a),
     ),
     (λ j l. turn-keeps k j),
   )
@@ -261,6 +286,9 @@ sound-of t s e = sound t (both (treeKeeps t) (stateKeeps t s) e .0)
 pub kept-of : (t : Tree) (s : State) → keeps t s ≡ true → Kept t s
 kept-of t s e = kept t s (sound-of t s e) (both (treeKeeps t) (stateKeeps t s) e .1)
 
+pub way-of : (t : Tree) (s : State) → keeps t s ≡ true → OnWay t s
+way-of t s e = on-way t s (sound-of t s e) (both (treeKeeps t) (stateKeeps t s) e .1)
+
 -- another state of the same tree keeps its rules
-pub keeps-of : (t : Tree) (s r : State) → keeps t s ≡ true → Kept t r → keeps t r ≡ true
-keeps-of t s r e k = joined (treeKeeps t) (stateKeeps t r) (both (treeKeeps t) (stateKeeps t s) e .0) (keeping t r k)
+pub keeps-of : (t : Tree) (s r : State) → keeps t s ≡ true → Kept t r → OnWay t r → keeps t r ≡ true
+keeps-of t s r e k w = joined (treeKeeps t) (stateKeeps t r) (both (treeKeeps t) (stateKeeps t s) e .0) (keeping t r k w)

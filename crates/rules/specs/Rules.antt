@@ -15,13 +15,16 @@
 -- sizedTree t            the configuration's arrays have the lengths of their type, as every value of a program has
 -- treeKeeps t            "A configuration keeps them if a tree file could have given it"
 -- sized s                the state's arrays have the lengths of their type, as every value of a program has
--- recordKeeps t s a      at most phi outstanding ("each waiting count is at most phi"), "each admitted count at most the
---                        budget", "unused records are zero"
+-- onTheWay r x           each return of x is due 1 to r slots ahead (document 02, item 2: "a return due now, earlier or more than r
+--                        slots ahead, breaks its rules"). Bit d is due r + 1 - d slots ahead: bit r + 1 now, one above it earlier, bit 0
+--                        more than r ahead. So x is even, and below 2 to the power r + 1
+-- recordKeeps t s a      at most phi outstanding ("each waiting count is at most phi", "their sum is at most phi"), its returns on
+--                        the way, "each admitted count at most the budget", "unused records are zero"
 -- turnKeeps t s j        "each last port is 0 to 7, each allowance is at most the smaller of g and what waits under the
 --                        last port", "unused records are zero"
 -- stateKeeps t s         "A state keeps its rules if .."
 -- keeps t s              both keep their rules: else the refusal is 11
-use Prim.Native.Nat.{ℕ, min}
+use Prim.Native.Nat.{ℕ, _+_, _%_, _^_, min}
 use mathlib.Core.Bool.{Bool, true, false, _&&_}
 use lib.ListN.{length}
 use lib.Dec.{leb, ltb, eqb}
@@ -31,7 +34,7 @@ use Rattle.model.specs.declared.State.{State}
 use Rattle.model.specs.declared.Port.{Port}
 use Rattle.model.specs.declared.Port.the-variants.{Empty, Acc, Int}
 use Rattle.folds.specs.Fold.{pick, all, within}
-use Rattle.model.specs.Tree.{interconnectOf, portOf, granularityOf, parentOf, parentPortOf, homeOf, homePortOf, limitOf, budgetOf, levelOf, acceleratorOf, waitingOf, outstandingOf, admittedOf, lastOf, allowanceOf}
+use Rattle.model.specs.Tree.{interconnectOf, portOf, granularityOf, parentOf, parentPortOf, homeOf, homePortOf, limitOf, budgetOf, levelOf, acceleratorOf, delayOf, waitingOf, returnsOf, outstandingOf, admittedOf, lastOf, allowanceOf}
 use Rattle.model.specs.Beneath.{waitsUnder}
 
 unfoldable pub busKeeps : Bus → Bool
@@ -46,6 +49,7 @@ busKeeps b =
     && within 1 (b .td) 255
     && within 1 (b .tb) 255
     && within 1 (b .burst) 256
+    && within 0 (b .delay) 15
 
 abbrev pub isEmpty : Port → Bool
 isEmpty Empty = true
@@ -143,12 +147,16 @@ sized s =
     && eqb (length (s .admitted)) 32
     && eqb (length (s .last)) 15
     && eqb (length (s .allowance)) 15
+    && eqb (length (s .returning)) 32
+
+abbrev pub onTheWay : ℕ → ℕ → Bool
+onTheWay r x = eqb (x % 2) 0 && ltb x (2 ^ (r + 1))
 
 unfoldable pub recordKeeps : Tree → State → ℕ → Bool
 recordKeeps t s a =
     pick (ltb a (t .accs))
-    (leb (outstandingOf s a) (limitOf t a) && leb (admittedOf s a) (budgetOf t a))
-    (eqb (waitingOf s a) 0 && eqb (admittedOf s a) 0)
+    (leb (outstandingOf s a) (limitOf t a) && leb (admittedOf s a) (budgetOf t a) && onTheWay (delayOf t) (returnsOf s a))
+    (eqb (waitingOf s a) 0 && eqb (admittedOf s a) 0 && eqb (returnsOf s a) 0)
 
 unfoldable pub turnKeeps : Tree → State → ℕ → Bool
 turnKeeps t s j =

@@ -12,13 +12,14 @@ use model::access::last_of;
 use model::access::level_of;
 use model::access::outstanding_of;
 use model::access::port_at;
+use model::access::returns_of;
 use model::access::waiting_of;
 use model::access::waits_under;
 ghost use mathlib.Core.Path.{_≡_};
 ghost use Prim.Native.Nat.{_-_, min};
 ghost use Rattle.folds.specs.Fold.{all, within};
 ghost use Rattle.model.specs.Tree.{portOf};
-ghost use Rattle.rules.specs.Rules.{busKeeps, isEmpty, isAcc, isInt, carries, rootPlaced, childPlaced, isPlaced, usedInterconnect, unusedInterconnect, interconnectKeeps, usedAccelerator, unusedAccelerator, acceleratorKeeps, treeKeeps, recordKeeps, turnKeeps, stateKeeps, keeps};
+ghost use Rattle.rules.specs.Rules.{busKeeps, isEmpty, isAcc, isInt, carries, rootPlaced, childPlaced, isPlaced, usedInterconnect, unusedInterconnect, interconnectKeeps, usedAccelerator, unusedAccelerator, acceleratorKeeps, treeKeeps, onTheWay, recordKeeps, turnKeeps, stateKeeps, keeps};
 
 fn in_limits(low: u64, x: u64, high: u64) -> bool
     ensures { λ r. ⌜ r ≡ within low x high ⌝ }
@@ -39,6 +40,7 @@ fn bus_keeps(b: Bus) -> bool
         & in_limits(1, b.td as u64, 255)
         & in_limits(1, b.tb as u64, 255)
         & in_limits(1, b.burst as u64, 256)
+        & (b.delay <= 15)
 }
 
 fn is_empty(x: Port) -> bool
@@ -233,15 +235,28 @@ pub fn tree_keeps(t: Tree) -> bool
         & accelerators_keep(t)
 }
 
+// Each return is due 1 to `delay` slots ahead: it was served 1 to `delay` slots ago.
+fn on_the_way(delay: u8, returns: u32) -> bool
+    ensures { λ r. ⌜ r ≡ onTheWay delay returns ⌝ }
+{
+    if 30 < delay {
+        return returns % 2 == 0;
+    }
+    (returns % 2 == 0) & (returns < 2 << delay)
+}
+
 fn record_keeps(t: Tree, s: State, a: u8) -> bool
     ensures { λ r. ⌜ r ≡ recordKeeps t s a ⌝ }
 {
     let admitted = admitted_of(s, a);
+    let returns = returns_of(s, a);
     if a < t.accs {
         let x = accelerator_at(t, a);
-        return (outstanding_of(s, a) <= x.phi as u32) & (admitted <= x.budget);
+        return (outstanding_of(s, a) <= x.phi as u32)
+            & (admitted <= x.budget)
+            & on_the_way(t.bus.delay, returns);
     }
-    (waiting_of(s, a) == 0) & (admitted == 0)
+    (waiting_of(s, a) == 0) & (admitted == 0) & (returns == 0)
 }
 
 fn records_keep(t: Tree, s: State) -> bool

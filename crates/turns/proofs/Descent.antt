@@ -44,6 +44,7 @@ pub record Unturned (s r : State) (i : ℕ) : Type 0 where
 -- nothing but turns differs
 pub record Frame (s r : State) : Type 0 where
   pub waiting : r .waiting ≡ s .waiting
+  pub returning : r .returning ≡ s .returning
   pub admitted : r .admitted ≡ s .admitted
   pub slot : r .slot ≡ s .slot
   pub last-size : length (r .last) ≡ length (s .last)
@@ -217,6 +218,7 @@ module _ (t : Tree) (S : Sound t) (s : State) (K : Kept t s) where
     off = λ i d. elim (g .off i) [ inl o ↦ absurd (d o) | inr u ↦ u ];
     frame = record {
       waiting = choice-same (λ x. x .waiting) (λ x j p o. refl) 4 t s 0;
+      returning = choice-same (λ x. x .returning) (λ x j p o. refl) 4 t s 0;
       admitted = choice-same (λ x. x .admitted) (λ x j p o. refl) 4 t s 0;
       slot = choice-same (λ x. x .slot) (λ x j p o. refl) 4 t s 0;
       last-size = g .last-size;

@@ -13,5 +13,8 @@ returns-2 : tie.Need-returns-2
 returns-2 c =
     c .slot-within .ensures ∙ slot-passed (c .before .before .before .args .t) (c .before .before .before .args .s) (sym (c .before .before .both-keep .ensures) ∙ not-false _ (c .before .if1 .left))
 
+slot-within-requires : tie.Need-slot-within-requires
+slot-within-requires c κs = sym (c .before .both-keep .ensures) ∙ not-false _ (c .if1 .left)
+
 pub slot-spec : {M : Type 1} → statement M
-slot-spec = tie.close (tie.spec (λ c κs. search needs) returns (λ c κs. search needs) returns-2)
+slot-spec = tie.close (tie.spec (λ c κs. search needs) returns slot-within-requires returns-2)

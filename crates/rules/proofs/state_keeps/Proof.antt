@@ -11,7 +11,7 @@ returns : tie.Need-returns
 unfolding stateKeeps
 returns c =
     let s = c .before .before .args .s in
-    and-cong (and-cong (sym (sized-yes s (search needs) (search needs) (search needs) (search needs))) (c .before .records-keep .ensures)) (c .turns-keep .ensures)
+    and-cong (and-cong (sym (sized-yes s (search needs) (search needs) (search needs) (search needs) (search needs))) (c .before .records-keep .ensures)) (c .turns-keep .ensures)
 
 pub state-keeps-spec : {M : Type 1} → statement M
 state-keeps-spec = tie.close (tie.spec (λ c κs. search needs) (λ c κs. search needs) returns)
