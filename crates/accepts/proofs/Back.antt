@@ -32,7 +32,7 @@ use Rattle.lines.specs.declared.Kind.the-variants.{NoRecord, BusLine, IntLine, 
 use Rattle.lines.specs.declared.Line.{Line}
 use Rattle.lines.specs.Lines.{formOf, nameOf, lineOf, valueAt, dashAt, inTree, shaped, limitsKept}
 use Rattle.lines.proofs.Limits.{least, most}
-use Rattle.lines.proofs.Back.{fieldAt, line-written, numbers-written, no-dash-at}
+use Rattle.lines.proofs.Back.{fieldAt, absent-zero, shape-count, shape-exact, line-written, numbers-written, no-dash-at}
 use Rattle.model.specs.Builders.{withBus}
 use Rattle.records.specs.Records.{emptyTree, busOf, withRoot, withChild, accOf, withAcc}
 use Rattle.placing.specs.declared.TreeRead.{TreeRead}
@@ -40,7 +40,8 @@ use Rattle.placing.specs.Placing.{refusedAt, given, intInOrder, busLine, childL
 use Rattle.placing.proofs.Tests.{line-record, int-root, int-child, child-given}
 use Rattle.reader.specs.TreeFile.{onward, readLines, readTree}
 use Rattle.reader.proofs.Files.{tree-size, tree-start}
-use Rattle.accepts.specs.TreeText.{busWritten, rootWritten, childWritten, accWritten, busText, intText, accText, times, Writes}
+use Rattle.accepts.specs.TreeText.{busWhole, busShort, WritesBus, with-delay, without-delay, rootWritten, childWritten, accWritten}
+use Rattle.accepts.specs.TreeText.{intText, accText, times, Writes}
 use Rattle.accepts.specs.TreeRefused.{Stands, bus-stands, root-stands, child-stands, acc-stands}
 use Rattle.accepts.proofs.Kept.{Partial, accepted-keeps, partial-empty, fine-line, never-refused, is-empty}
 use Rattle.accepts.proofs.Kept.{order-start, order-accs, order-number, order-parent, new-here, root-size}
@@ -76,14 +77,34 @@ module _ (n : ℕ) (u : Tree) (s : List ℕ) (e : treeLine n u (lineOf s) .answe
   abbrev pub Stepped : Type 0
   Stepped = (w : Tree) × (treeLine n u l ≡ given w) × Stands u s w
 
+  -- a bus line of eleven fields has the return delay, one of ten has not
+  bus-written : l .kind ≡ BusLine → WritesBus (busOf (l .values)) s
+  unfolding rows numbers
+  bus-written q = elim (ℕ-discrete (l .count) 11) [
+    | yes c ↦ with-delay (whole c)
+    | no d ↦ without-delay (omega (arith, absent-zero s 10 (ten d))) (short d)
+  ]
+    where
+      few : (10 ≤ l .count) × (l .count ≤ 11)
+      few = shape-count l BusLine q shape
+
+      ten : (l .count ≡ 11 → ⊥) → l .count ≤ 10
+      ten d = omega (arith, few .1)
+
+      whole : l .count ≡ 11 → s ≡ busWhole (busOf (l .values))
+      whole c = numbers-written s BusLine 11 q refl shape c
+
+      short : (l .count ≡ 11 → ⊥) → s ≡ busShort (busOf (l .values))
+      short d = numbers-written s BusLine 10 q refl shape (omega (arith, few .0, ten d))
+
   bus-stepped : l .kind ≡ BusLine → Stepped
-  unfolding busLine rows numbers all busKeeps
+  unfolding busLine all busKeeps
   bus-stepped q =
       let f = passed-test (ltb 0 (u .bus .window)) Order n _ (answer BusLine q) in (
         withBus u (busOf (l .values)),
         result BusLine q ∙ passed _ _ _ (f .0),
         bus-stands (busOf (l .values)) (limits BusLine q) (let z = ltb-false 0 (u .bus .window) (f .0) in omega arith)
-            (numbers-written s BusLine q refl shape),
+            (bus-written q),
       )
 
   acc-stepped : l .kind ≡ AccLine → Stepped
@@ -93,7 +114,7 @@ module _ (n : ℕ) (u : Tree) (s : List ℕ) (e : treeLine n u (lineOf s) .answe
         withAcc u (l .values),
         placing n u l q P,
         acc-stands (l .values) (P .limits) (P .known) (P .once) (P .free)
-            (numbers-written s AccLine q refl shape),
+            (numbers-written s AccLine 9 q refl shape (shape-exact l AccLine q shape refl)),
       )
 
   module _ (q : l .kind ≡ IntLine) (o : intInOrder u l ≡ true) where
@@ -108,7 +129,7 @@ module _ (n : ℕ) (u : Tree) (s : List ℕ) (e : treeLine n u (lineOf s) .answe
 
     int-line : s ≡ lineText (nameOf IntLine) (map fieldText (fieldAt l 0 ∷ fieldAt l 1 ∷ fieldAt l 2 ∷ fieldAt l 3 ∷ []))
     unfolding rows
-    int-line = line-written s IntLine q shape
+    int-line = line-written s IntLine 4 q shape (shape-exact l IntLine q shape refl)
 
     low : (i : ℕ) → i < 4 → getD (formOf IntLine .lows) i 0 ≤ valueAt l i
     low = least IntLine (l .values) (limits IntLine q)
@@ -257,21 +278,23 @@ keeps-step {u} P (acc-stands v e k o f q) =
     }
 
 -- the bus line, where it is still to come
-abbrev busPart : Tree → Tree → List (List ℕ)
-busPart u t = pick (ltb 0 (u .bus .window)) [] (busText t ∷ [])
+abbrev busPart : Tree → List ℕ → List (List ℕ)
+busPart u bus = pick (ltb 0 (u .bus .window)) [] (bus ∷ [])
 
 -- it is not, once it is read
-bus-over : (u t : Tree) (ls : List (List ℕ)) → 0 < u .bus .window → busPart u t ++ ls ≡ ls
-bus-over u t ls h = ap (λ (p : List (List ℕ)). p ++ ls) (picked _ [] (busText t ∷ []) (lt-ltb 0 (u .bus .window) h))
+bus-over : (u : Tree) (bus : List ℕ) (ls : List (List ℕ)) → 0 < u .bus .window → busPart u bus ++ ls ≡ ls
+bus-over u bus ls h = ap (λ (p : List (List ℕ)). p ++ ls) (picked _ [] (bus ∷ []) (lt-ltb 0 (u .bus .window) h))
 
 -- the lines ls carry on from u to t: they are what t has and u has not
 record Rest (u t : Tree) (ls : List (List ℕ)) : Type 0 where
   part : Partial t
   keeps : Keeps u t
+  bus : List ℕ
+  writes-bus : u .bus .window ≡ 0 → WritesBus (t .bus) bus
   order : List ℕ
   read : (a : ℕ) → 0 < limitOf u a → times a order ≡ 0
   left : (a : ℕ) → limitOf u a ≡ 0 → times a order ≡ pick (ltb 0 (limitOf t a)) 1 0
-  text : ls ≡ busPart u t ++ (rows (t .ints - u .ints) (u .ints) (intText t) ++ map (accText t) order)
+  text : ls ≡ busPart u bus ++ (rows (t .ints - u .ints) (u .ints) (intText t) ++ map (accText t) order)
 
 rows-next : (n k : ℕ) (f : ℕ → List ℕ) → k + 1 ≤ n → rows (n - k) k f ≡ f k ∷ rows (n - (k + 1)) (k + 1) f
 unfolding rows
@@ -279,17 +302,19 @@ rows-next n k f h =
     let m : n - k ≡ suc (n - (k + 1)) = omega arith in
     ap (λ (c : ℕ). rows c k f) m ∙ ap (λ (c : ℕ). f k ∷ rows (n - (k + 1)) c f) (sym (add-one k))
 
-bus-rest : (u t : Tree) (b : Bus) (l : List ℕ) (ls : List (List ℕ)) → Partial u → u .bus .window ≡ 0 → 0 < b .window → l ≡ busWritten b
+bus-rest : (u t : Tree) (b : Bus) (l : List ℕ) (ls : List (List ℕ)) → Partial u → u .bus .window ≡ 0 → 0 < b .window → WritesBus b l
     → Keeps u (withBus u b) → Rest (withBus u b) t ls → Rest u t (l ∷ ls)
 bus-rest u t b l ls P z h q K R =
     let X = rows (t .ints - u .ints) (u .ints) (intText t) ++ map (accText t) (R .order) in
     record {
       part = R .part;
       keeps = keeps-on u (withBus u b) t K (R .keeps);
+      bus = l;
+      writes-bus = λ k. subst (λ (x : Bus). WritesBus x l) (sym (R .keeps .bus h)) q;
       order = R .order;
       read = R .read;
       left = R .left;
-      text = ap₂ _∷_ (q ∙ ap busWritten (sym (R .keeps .bus h))) (R .text ∙ bus-over (withBus u b) t X h)
+      text = ap (λ (p : List (List ℕ)). l ∷ p) (R .text ∙ bus-over (withBus u b) (R .bus) X h)
           ∙ ap (λ (p : List (List ℕ)). p ++ X) (sym (passed _ _ _ (le-ltb 0 (u .bus .window) (omega arith))));
     }
 
@@ -303,12 +328,14 @@ int-rest u w t l ls h b i a K q R =
     record {
       part = R .part;
       keeps = keeps-on u w t K (R .keeps);
+      bus = R .bus;
+      writes-bus = λ z. absurd (omega arith);
       order = R .order;
       read = λ x k. R .read x (omega (arith, same x));
       left = λ x k. R .left x (same x ∙ k);
-      text = ap₂ _∷_ q (R .text ∙ bus-over w t (left (w .ints)) read ∙ ap left i)
+      text = ap₂ _∷_ q (R .text ∙ bus-over w (R .bus) (left (w .ints)) read ∙ ap left i)
           ∙ ap (λ (p : List (List ℕ)). p ++ M) (sym (rows-next (t .ints) (u .ints) (intText t) (omega (arith, R .keeps .ints))))
-          ∙ sym (bus-over u t (left (u .ints)) h);
+          ∙ sym (bus-over u (R .bus) (left (u .ints)) h);
     }
 
 -- a number counts once in a list that begins with it
@@ -365,11 +392,13 @@ module _ (u t : Tree) (v : List ℕ) (l : List ℕ) (ls : List (List ℕ)) (P : 
       let M = map (accText t) (R .order) in
       let z : t .ints - u .ints ≡ 0 = omega (arith, R .keeps .whole (omega arith)) in
       let none : rows (t .ints - u .ints) (u .ints) (intText t) ≡ [] = ap (λ (c : ℕ). rows c (u .ints) (intText t)) z in
-      let front : (N : List (List ℕ)) → busPart u t ++ (rows (t .ints - u .ints) (u .ints) (intText t) ++ N) ≡ N =
-      λ N. bus-over u t _ h ∙ ap (λ (p : List (List ℕ)). p ++ N) none in
+      let front : (N : List (List ℕ)) → busPart u (R .bus) ++ (rows (t .ints - u .ints) (u .ints) (intText t) ++ N) ≡ N =
+      λ N. bus-over u (R .bus) _ h ∙ ap (λ (p : List (List ℕ)). p ++ N) none in
       record {
         part = R .part;
         keeps = keeps-on u (withAcc u v) t K (R .keeps);
+        bus = R .bus;
+        writes-bus = λ z. absurd (omega arith);
         order = a ∷ R .order;
         read = acc-read;
         left = acc-left;
@@ -417,10 +446,12 @@ rest-end n u r t P e =
           (record {
             part = P;
             keeps = keeps-same u;
+            bus = [];
+            writes-bus = λ h. absurd (omega arith);
             order = [];
             read = λ x h. refl;
             left = λ x h. sym (passed _ _ _ (le-ltb 0 (limitOf u x) (omega arith)));
-            text = sym (bus-over u u _ w ∙ ap (λ (c : ℕ). rows c (u .ints) (intText u) ++ []) z);
+            text = sym (bus-over u [] _ w ∙ ap (λ (c : ℕ). rows c (u .ints) (intText u) ++ []) z);
           }),
     )
   where
@@ -473,9 +504,11 @@ read-written s t e =
     let none : (a : ℕ) → limitOf emptyTree a ≡ 0 = λ a. ap (λ (x : Accelerator). x .phi) (partial-empty .unused-acc a (omega arith)) in (
       k,
       record {
+        bus = R .bus;
+        writes-bus = R .writes-bus refl;
         order = R .order;
         once = λ a. R .left a (none a) ∙ ap (λ (c : Bool). pick c 1 0) (limit-below t k P a);
         text = file-back s (i .0) ∙ ap fileText (R .text)
-            ∙ ap (λ (n : ℕ). fileText (busText t ∷ (rows n 0 (intText t) ++ map (accText t) (R .order)))) z;
+            ∙ ap (λ (n : ℕ). fileText (R .bus ∷ (rows n 0 (intText t) ++ map (accText t) (R .order)))) z;
       },
     )

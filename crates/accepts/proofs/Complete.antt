@@ -9,13 +9,12 @@ use native.Mathlib.Numerals.{add-one}
 use native.Mathlib.Omega.{arith}
 use lib.Dec.{ltb, lit<, lit≤}
 use lib.ListN.{length, length-append}
-use borrow.Author.Tests.{lt-ltb, ne-eqb}
+use borrow.Author.Tests.{lt-ltb, eq-eqb, ne-eqb}
 use Rattle.text.specs.Write.{fieldsText, lineText, fileText, numbers, rows}
 use Rattle.text.proofs.Written.{Clean, clean-append, fields-clean, AllClean, all-none, all-more, lines-read, number-length}
 use Rattle.model.specs.declared.Tree.{Tree}
 use Rattle.model.specs.Tree.{granularityOf, parentOf, parentPortOf, acceleratorOf, limitOf}
-use Rattle.rules.specs.Rules.{busKeeps, treeKeeps}
-use Rattle.folds.specs.Fold.{all}
+use Rattle.rules.specs.Rules.{treeKeeps}
 use Rattle.folds.proofs.Folds.{picked, passed, joined, at-all}
 use Rattle.rules.proofs.Sound.{Sound, sound}
 use Rattle.placing.specs.declared.TreeRead.{TreeRead}
@@ -26,13 +25,13 @@ use Rattle.model.specs.Builders.{withBus}
 use Rattle.records.specs.Records.{emptyTree, withAcc}
 use Rattle.placing.specs.Placing.{given, complete, finish, treeLine}
 use Rattle.reader.specs.TreeFile.{onward, readLines, readTree}
-use Rattle.accepts.specs.TreeText.{busValues, accValues, busText, intText, accText, treeLines, treeText}
+use Rattle.accepts.specs.TreeText.{busFront, WritesBus, with-delay, without-delay, accValues, busText, intText, accText, linesAfter, treeText}
 use mathlib.Core.Logic.{_↔_}
 use Rattle.reader.proofs.Files.{tree-start}
 use Rattle.accepts.proofs.Kept.{accepted-keeps}
 use Rattle.lines.proofs.Written.{name-clean, Below, below-none, below-more, fieldsFrom, limits-below, numbers-clean}
-use Rattle.accepts.proofs.Written.{childEntry, accEntry, root-clean, bus-read, acc-read, root-read, child-read}
-use Rattle.accepts.proofs.Stage.{Agrees, bus-limits, child-limits, acc-limits, bus-step, root-step, child-step, acc-step}
+use Rattle.accepts.proofs.Written.{childEntry, accEntry, root-clean, below-front, acc-read, root-read, child-read}
+use Rattle.accepts.proofs.Stage.{Agrees, bus-limits, bus-below, child-limits, acc-limits, bus-step, root-step, child-step, acc-step}
 use Rattle.accepts.proofs.Stage.{agrees-bus, agrees-root, agrees-child, agrees-acc, agrees-all}
 
 -- one accepted line
@@ -51,7 +50,7 @@ unfolding fieldsText
 fields-length short-none = omega arith
 fields-length (short-more {l = f} {ls = fs} h S) = omega (arith, length-append f (fieldsText fs), fields-length S)
 
-file-length : {ls : List (List ℕ)} → Short 113 ls → length (fileText ls) ≤ 114 * length ls
+file-length : {ls : List (List ℕ)} → Short 124 ls → length (fileText ls) ≤ 125 * length ls
 unfolding fileText
 file-length short-none = omega arith
 file-length (short-more {l = l} {ls = ls} h S) = omega (arith, length-append l (10 ∷ fileText ls), file-length S)
@@ -69,19 +68,19 @@ numbers-count (x ∷ xs) = ap suc (numbers-count xs)
 -- a line that has no LF inside and is short
 record Fit (l : List ℕ) : Type 0 where
   clean : Clean 10 l
-  short : length l ≤ 113
+  short : length l ≤ 124
 
-fit-line : (name : List ℕ) (fs : List (List ℕ)) → Clean 10 name → length name ≤ 3 → AllClean 10 fs → Short 10 fs → length fs ≤ 10
+fit-line : (name : List ℕ) (fs : List (List ℕ)) → Clean 10 name → length name ≤ 3 → AllClean 10 fs → Short 10 fs → length fs ≤ 11
     → Fit (lineText name fs)
 fit-line name fs C h A S k =
     record { clean = clean-append C (fields-clean A); short = omega (arith, length-append name (fieldsText fs), fields-length S) }
 
-numbers-fit : (k : Kind) (xs : List ℕ) → length (nameOf k) ≤ 3 → Below xs → length xs ≤ 10 → Fit (lineText (nameOf k) (numbers xs))
+numbers-fit : (k : Kind) (xs : List ℕ) → length (nameOf k) ≤ 3 → Below xs → length xs ≤ 11 → Fit (lineText (nameOf k) (numbers xs))
 numbers-fit k xs h B l =
     fit-line _ _ (name-clean 10 (lit< tt) k) h (numbers-clean 10 (lit< tt) xs) (numbers-short B) (omega (arith, numbers-count xs))
 
 rows-clean : (c k : ℕ) (f : ℕ → List ℕ) → ((j : ℕ) → j < k + c → Fit (f j))
-    → (AllClean 10 (rows c k f)) × (Short 113 (rows c k f)) × (length (rows c k f) ≡ c)
+    → (AllClean 10 (rows c k f)) × (Short 124 (rows c k f)) × (length (rows c k f) ≡ c)
 unfolding rows
 rows-clean zero k f h = (all-none, short-none, refl)
 rows-clean (suc c) k f h =
@@ -101,10 +100,6 @@ module _ (t : Tree) (e : treeKeeps t ≡ true) where
   S : Sound t
   S = sound t e
 
-  bus-below : Below (busValues (t .bus))
-  unfolding all busKeeps fieldsFrom
-  bus-below = limits-below BusLine (busValues (t .bus)) (bus-limits t e)
-
   child-below : (j : ℕ) → 0 < j → j < t .ints → Below (j ∷ parentOf t j ∷ parentPortOf t j ∷ granularityOf t j ∷ [])
   unfolding fieldsFrom
   child-below j z h = limits-below IntLine (childEntry t j .values) (child-limits t e j z h)
@@ -117,8 +112,11 @@ module _ (t : Tree) (e : treeKeeps t ≡ true) where
   acc-below a h = limits-below AccLine (accEntry t a .values) (acc-limits t e a h)
 
   -- no line has an LF inside, and each is short
-  bus-fit : Fit (busText t)
-  bus-fit = numbers-fit BusLine _ (lit≤ tt) bus-below (lit≤ tt)
+  bus-fit : {l : List ℕ} → WritesBus (t .bus) l → Fit l
+  bus-fit (with-delay q) = subst Fit (sym q) (numbers-fit BusLine _ (lit≤ tt) (bus-below (t .bus) (bus-limits t e)) (lit≤ tt))
+  bus-fit (without-delay z q) =
+      subst Fit (sym q)
+      (numbers-fit BusLine _ (lit≤ tt) (below-front (busFront (t .bus)) _ (bus-below (t .bus) (bus-limits t e))) (lit≤ tt))
 
   acc-fit : (a : ℕ) → a < t .accs → Fit (accText t a)
   acc-fit a h = numbers-fit AccLine _ (lit≤ tt) (acc-below a h) (lit≤ tt)
@@ -177,37 +175,49 @@ module _ (t : Tree) (e : treeKeeps t ≡ true) where
   unfolding readLines finish
   end-read n = picked _ _ _ whole
 
-  lines-given : readLines 1 emptyTree (treeLines t) [] ≡ given t
-  lines-given =
-      let w = withBus emptyTree (t .bus) in
-      let g = ap (treeLine 1 emptyTree) (bus-read t bus-below) ∙ bus-step t e 1 in
-      let a = line-given 1 emptyTree w (busText t) (rows (t .ints) 0 (intText t) ++ rows (t .accs) 0 (accText t)) [] g in
-      let I = ints-read (t .ints) 0 2 w (rows (t .accs) 0 (accText t)) (omega arith) (agrees-bus t e) in
-      let R = accs-read (t .accs) 0 (I .line) (I .tree) (omega arith) (I .agrees) in
-      a ∙ I .left ∙ R .left ∙ ap (λ (u : Tree). readLines (R .line) u [] []) (agrees-all t e (R .tree) (R .agrees)) ∙ end-read (R .line)
+  -- the text that begins with a given bus line of t
+  module _ (bus : List ℕ) (W : WritesBus (t .bus) bus) where
+    abbrev pub text : List ℕ
+    text = fileText (linesAfter bus t)
 
-  pub text-clean : AllClean 10 (treeLines t)
-  text-clean =
-      let I = rows-clean (t .ints) 0 (intText t) (λ j l. int-fit j (omega arith)) in
-      let A = rows-clean (t .accs) 0 (accText t) (λ a l. acc-fit a (omega arith)) in
-      all-more (bus-fit .clean) (both-clean (I .0) (A .0))
+    lines-given : readLines 1 emptyTree (linesAfter bus t) [] ≡ given t
+    lines-given =
+        let w = withBus emptyTree (t .bus) in
+        let g = bus-step 1 emptyTree (bus-limits t e) refl W in
+        let a = line-given 1 emptyTree w bus (rows (t .ints) 0 (intText t) ++ rows (t .accs) 0 (accText t)) [] g in
+        let I = ints-read (t .ints) 0 2 w (rows (t .accs) 0 (accText t)) (omega arith) (agrees-bus t e) in
+        let R = accs-read (t .accs) 0 (I .line) (I .tree) (omega arith) (I .agrees) in
+        a ∙ I .left ∙ R .left ∙ ap (λ (u : Tree). readLines (R .line) u [] []) (agrees-all t e (R .tree) (R .agrees)) ∙ end-read (R .line)
 
-  -- every configuration that keeps its rules is read from its text
-  pub text-given : readTree (treeText t) ≡ given t
-  text-given =
-      let I = rows-clean (t .ints) 0 (intText t) (λ j l. int-fit j (omega arith)) in
-      let A = rows-clean (t .accs) 0 (accText t) (λ a l. acc-fit a (omega arith)) in
-      let n = length-append (rows (t .ints) 0 (intText t)) (rows (t .accs) 0 (accText t)) in
-      let f : length (treeText t) ≤ 114 * length (treeLines t) = file-length (short-more (bus-fit .short) (both-short (I .1) (A .1))) in
-      let r = lines-read text-clean in
-      let b : length (treeText t) ≤ 65536 = omega (arith, f, n, I .2, A .2, S .most-ints, S .most-accs) in
-      tree-start (treeText t) b
-      ∙ ap₂ (readLines 1 emptyTree) (r .0) (r .1)
-      ∙ lines-given
+    pub text-clean : AllClean 10 (linesAfter bus t)
+    text-clean =
+        let I = rows-clean (t .ints) 0 (intText t) (λ j l. int-fit j (omega arith)) in
+        let A = rows-clean (t .accs) 0 (accText t) (λ a l. acc-fit a (omega arith)) in
+        all-more (bus-fit W .clean) (both-clean (I .0) (A .0))
+
+    -- every configuration that keeps its rules is read from its text
+    pub text-given : readTree text ≡ given t
+    text-given =
+        let I = rows-clean (t .ints) 0 (intText t) (λ j l. int-fit j (omega arith)) in
+        let A = rows-clean (t .accs) 0 (accText t) (λ a l. acc-fit a (omega arith)) in
+        let n = length-append (rows (t .ints) 0 (intText t)) (rows (t .accs) 0 (accText t)) in
+        let f : length text ≤ 125 * length (linesAfter bus t) = file-length (short-more (bus-fit W .short) (both-short (I .1) (A .1))) in
+        let r = lines-read text-clean in
+        let b : length text ≤ 65536 = omega (arith, f, n, I .2, A .2, S .most-ints, S .most-accs) in
+        tree-start text b
+        ∙ ap₂ (readLines 1 emptyTree) (r .0) (r .1)
+        ∙ lines-given
+
+-- the bus line of a configuration's own text
+text-bus : (t : Tree) → WritesBus (t .bus) (busText t)
+text-bus t = elim (ℕ-discrete (t .bus .delay) 0) [
+  | yes z ↦ without-delay z (picked _ _ _ (eq-eqb _ _ z))
+  | no d ↦ with-delay (passed _ _ _ (ne-eqb _ _ d))
+]
 
 -- a configuration keeps its rules exactly if a tree file could have given it
 pub exactly-given : (t : Tree) → (treeKeeps t ≡ true) ↔ ((s : List ℕ) × (readTree s ≡ given t))
 exactly-given t = (
-  λ e. (treeText t, text-given t e),
+  λ e. (treeText t, text-given t e (busText t) (text-bus t)),
   λ r. subst (λ (x : TreeRead). treeKeeps (x .tree) ≡ true) (r .1) (accepted-keeps (r .0) (ap (λ (x : TreeRead). x .answer) (r .1))),
 )

@@ -10,7 +10,7 @@ use native.Mathlib.Omega.{arith}
 use lib.Dec.{eqb, ltb, lit<}
 use borrow.Author.Tests.{lt-ltb, le-ltb, eq-eqb, ne-eqb}
 use Rattle.text.specs.Text.{lines, unended, same}
-use Rattle.text.specs.Write.{rows, numbers, fieldsText}
+use Rattle.text.specs.Write.{rows, numbers, fieldsText, fileText}
 use Rattle.text.proofs.Written.{AllClean, all-more, lines-read, parts-part}
 use Rattle.model.specs.declared.Tree.{Tree}
 use Rattle.folds.specs.Fold.{pick}
@@ -25,7 +25,7 @@ use Rattle.lines.proofs.Back.{pushed-kind}
 use Rattle.placing.specs.declared.TreeRead.{TreeRead}
 use Rattle.placing.specs.Placing.{given}
 use Rattle.reader.specs.TreeFile.{readTree}
-use Rattle.accepts.specs.TreeText.{busText, intText, accText, treeText, treeLines, times, Writes}
+use Rattle.accepts.specs.TreeText.{busWhole, busShort, with-delay, without-delay, intText, accText, linesAfter, times, Writes}
 use Rattle.accepts.proofs.Kept.{never-refused}
 use Rattle.accepts.proofs.Order.{Reordered, unchanged, exchanged, later, also, any-order}
 use Rattle.accepts.proofs.Complete.{text-given, text-clean}
@@ -110,14 +110,14 @@ acc-kind t a = ap (λ (ps : List (List ℕ)). lineFrom ps .kind) (parts-part 9 _
 
 module _ (s : List ℕ) (t : Tree) (e : treeKeeps t ≡ true) (W : Writes s t) where
   abbrev written : List (List ℕ)
-  written = busText t ∷ (rows (t .ints) 0 (intText t) ++ map (accText t) (W .order))
+  written = W .bus ∷ (rows (t .ints) 0 (intText t) ++ map (accText t) (W .order))
 
   same-counts : (a : ℕ) → times a (upto (t .accs) 0) ≡ times a (W .order)
   same-counts a =
       let z : 0 + t .accs ≡ t .accs = omega arith in
       upto-times (t .accs) 0 a (omega arith) ∙ ap (λ (n : ℕ). pick (ltb a n) 1 0) z ∙ sym (W .once a)
 
-  reordered : Reordered (treeLines t) written
+  reordered : Reordered (linesAfter (W .bus) t) written
   reordered =
       let o = same-times (accText t) (acc-kind t) (upto (t .accs) 0) (W .order) same-counts in
       let r = sym (rows-map (t .accs) 0 (accText t)) in
@@ -125,13 +125,14 @@ module _ (s : List ℕ) (t : Tree) (e : treeKeeps t ≡ true) (W : Writes s t) w
 
   written-read : readTree s ≡ given t
   written-read =
-      let c = text-clean t e in
+      let c = text-clean t e (W .bus) (W .writes-bus) in
       let r = lines-read c in
       let q = lines-read (reordered-clean reordered c) in
       let l = ap lines (W .text) ∙ q .0 in
-      let g = text-given t e in
+      let g = text-given t e (W .bus) (W .writes-bus) in
+      let own = fileText (linesAfter (W .bus) t) in
       let o = subst (λ (ls : List (List ℕ)). Reordered ls written) (sym (r .0)) reordered in
-      any-order (treeText t) s (subst (Reordered (lines (treeText t))) (sym l) o)
+      any-order own s (subst (Reordered (lines own)) (sym l) o)
       (ap unended (W .text) ∙ q .1 ∙ sym (r .1)) (ap (λ (x : TreeRead). x .answer) g)
       ∙ g
 
@@ -148,6 +149,17 @@ accepted-written s = (
 
 pub one-tree : (s : List ℕ) (t u : Tree) → treeKeeps t ≡ true → treeKeeps u ≡ true → Writes s t → Writes s u → t ≡ u
 one-tree s t u e f A B = ap (λ (x : TreeRead). x .tree) (sym (written-read s t e A) ∙ written-read s u f B)
+
+-- "absent means 0": where the return delay is 0, a file with the field and one without it give one tree
+module _ (t : Tree) (e : treeKeeps t ≡ true) (z : t .bus .delay ≡ 0) (order : List ℕ)
+    (once : (a : ℕ) → times a order ≡ pick (ltb a (t .accs)) 1 0) where
+  abbrev after-bus : List (List ℕ)
+  after-bus = rows (t .ints) 0 (intText t) ++ map (accText t) order
+
+  pub absent-or-zero : readTree (fileText (busShort (t .bus) ∷ after-bus)) ≡ readTree (fileText (busWhole (t .bus) ∷ after-bus))
+  absent-or-zero =
+      written-read _ t e (record { bus = busShort (t .bus); writes-bus = without-delay z refl; order = order; once = once; text = refl })
+      ∙ sym (written-read _ t e (record { bus = busWhole (t .bus); writes-bus = with-delay refl; order = order; once = once; text = refl }))
 
 -- a file that is refused writes no tree
 pub refused-none : (s : List ℕ) (r : Refusal) (n : ℕ) → readTree s .answer ≡ Refused r n → (t : Tree) → treeKeeps t ≡ true → Writes s t → ⊥

@@ -9,7 +9,7 @@ use native.Mathlib.Decide.{decLt}
 use native.Mathlib.Omega.{arith}
 use lib.Dec.{ltb, leb, eqb, lit≤}
 use lib.ListN.{length, getD}
-use borrow.Author.Tests.{lt-ltb, le-ltb, eq-eqb, ne-eqb, eqb-true}
+use borrow.Author.Tests.{lt-ltb, eq-eqb, ne-eqb, eqb-true}
 use Rattle.text.specs.declared.Field.{Field}
 use Rattle.text.specs.declared.Field.the-variants.{Number}
 use Rattle.text.specs.Text.{lines, unended}
@@ -20,7 +20,7 @@ use Rattle.model.specs.declared.Refusal.the-variants.{Shape, Limit, Order, Take
 use Rattle.folds.specs.Fold.{pick, all}
 use Rattle.folds.proofs.Folds.{picked, passed, both, joined, clash}
 use Rattle.model.specs.Tree.{portOf, limitOf, levelOf}
-use Rattle.rules.specs.Rules.{isEmpty, busKeeps}
+use Rattle.rules.specs.Rules.{isEmpty}
 use Rattle.lines.specs.declared.Kind.{Kind}
 use Rattle.lines.specs.declared.Kind.the-variants.{NoRecord, BusLine, IntLine, AccLine, OfferLine}
 use Rattle.lines.specs.declared.Line.{Line}
@@ -37,12 +37,12 @@ use Rattle.placing.specs.Placing.{refusedAt, given, intInOrder, busLine, childL
 use Rattle.placing.proofs.Tests.{line-record, int-root, int-child, child-given, acc-given}
 use Rattle.reader.specs.TreeFile.{onward, readLines, readTree}
 use Rattle.reader.proofs.Files.{tree-size, tree-start}
-use Rattle.accepts.specs.TreeText.{busValues, accValues}
+use Rattle.accepts.specs.TreeText.{accValues}
 use Rattle.accepts.specs.TreeRefused.{Stands, bus-stands, root-stands, child-stands, acc-stands, Leads, leads-none, leads-more}
 use Rattle.accepts.specs.TreeRefused.{inOrder, free, low, lineRules, LineBreaks, not-ended, missing, not-shaped, breaks}
 use Rattle.accepts.specs.TreeRefused.{TreeBreaks, TreeRefused, too-long, at-line}
 use Rattle.accepts.proofs.Written.{rootEntry, root-read}
-use Rattle.accepts.proofs.Stage.{int-limits, int-order}
+use Rattle.accepts.proofs.Stage.{bus-step, int-limits, int-order}
 use Rattle.accepts.proofs.Complete.{line-given}
 use Rattle.accepts.proofs.Back.{stepped, line-first}
 
@@ -110,11 +110,8 @@ module _ (l : List ℕ) where
 
 -- a line that stands where it may is accepted
 stands-given : {u w : Tree} {l : List ℕ} → Stands u l w → (n : ℕ) → treeLine n u (lineOf l) ≡ given w
-unfolding pushed all busKeeps shaped busLine fieldsFrom
-stands-given {u} (bus-stands b h z q) n =
-    let B = limits-below BusLine (busValues b) h in
-    ap (λ (s : List ℕ). treeLine n u (lineOf s)) q ∙ ap (treeLine n u) (numbers-read BusLine B)
-    ∙ line-record n u (lineWith BusLine (map Number (busValues b))) BusLine refl refl h ∙ passed _ _ _ (le-ltb 0 (u .bus .window) (omega arith))
+unfolding pushed all shaped fieldsFrom
+stands-given {u} (bus-stands b h z q) n = bus-step n u h z q
 stands-given {u} (root-stands g b d k m z q) n =
     let t = withRoot emptyTree g in
     let E = rootEntry t in

@@ -3,7 +3,7 @@
 -- are what the rules say; at the end both are equal. By the laws of what a line stores, and by induction on what is left.
 use Prim.Native.Nat.{ℕ, _+_, _≤_, _<_}
 use mathlib.Core.Bool.{true}
-use mathlib.Core.List.{List, [], _∷_}
+use mathlib.Core.List.{List, [], _∷_, _++_}
 use mathlib.Core.Path.{_≡_, refl, sym, _∙_, ap, subst}
 use native.Mathlib.Decide.{decLt}
 use native.Mathlib.Omega.{arith}
@@ -12,6 +12,7 @@ use lib.ListN.{length, getD, getD-replicate}
 use lib.Seq.{ext-getD}
 use borrow.Author.Tests.{lt-ltb, le-ltb, le-leb, eq-eqb, ne-eqb}
 use Rattle.model.specs.declared.Tree.{Tree}
+use Rattle.model.specs.declared.Bus.{Bus}
 use Rattle.model.specs.declared.Interconnect.{Interconnect}
 use Rattle.model.specs.declared.Accelerator.{Accelerator}
 use Rattle.model.specs.declared.PortCell.{PortCell}
@@ -26,17 +27,18 @@ use Rattle.folds.proofs.Folds.{picked, passed, tests, joined, clash}
 use Rattle.rules.proofs.Sound.{Sound, sound, level-step}
 use Rattle.lines.specs.declared.Kind.the-variants.{BusLine, IntLine, AccLine}
 use Rattle.lines.specs.declared.Line.{Line}
-use Rattle.lines.specs.Lines.{valueAt, limitsKept, shaped}
+use Rattle.lines.specs.Lines.{lineOf, valueAt, limitsKept, shaped}
+use Rattle.lines.proofs.Written.{Below, fieldsFrom, limits-below}
 use Rattle.model.specs.Builders.{withBus}
 use Rattle.records.specs.Records.{emptyTree, withRoot, withChild, withAcc}
 use Rattle.placing.specs.Placing.{given, busLine, rootRule, intInOrder, treeLine}
-use Rattle.accepts.specs.TreeText.{busValues}
+use Rattle.accepts.specs.TreeText.{busValues, WritesBus, with-delay, without-delay}
 use Rattle.placing.proofs.Tests.{line-record, int-root, int-child, child-given, acc-given}
 use Rattle.accepts.proofs.Kept.{Partial, partial-empty, partial-bus, partial-root, partial-child, partial-acc}
 use Rattle.accepts.proofs.Kept.{each-number, each-port, level-same, new-here, root-size, root-ports, not-acc, not-int, is-empty}
 use Rattle.accepts.proofs.Kept.{child-new, child-parent, child-parent-port, child-granularity, child-port-new, child-port-at, child-port-other}
 use Rattle.accepts.proofs.Kept.{acc-new, acc-old, acc-at, stored-apart, stored-parent, stored-parent-port, stored-granularity, home-size}
-use Rattle.accepts.proofs.Written.{busEntry, rootEntry, childEntry, accEntry}
+use Rattle.accepts.proofs.Written.{busEntry, rootEntry, childEntry, accEntry, whole-read, short-read}
 
 -- what a port carries of the first k interconnects and m accelerators
 pub restrict : ℕ → ℕ → Port → Port
@@ -92,7 +94,7 @@ within-yes l x h a b = joined (leb l x) (leb x h) (le-leb l x a) (le-leb x h b)
 
 -- the numbers of an int line are in their limits, and the line is in order
 pub int-limits : (j p q g : ℕ) → j ≤ 14 → p ≤ 14 → q ≤ 7 → 1 ≤ g → g ≤ 16
-    → limitsKept IntLine (j ∷ p ∷ q ∷ g ∷ 0 ∷ 0 ∷ 0 ∷ 0 ∷ 0 ∷ 0 ∷ []) ≡ true
+    → limitsKept IntLine (j ∷ p ∷ q ∷ g ∷ 0 ∷ 0 ∷ 0 ∷ 0 ∷ 0 ∷ 0 ∷ 0 ∷ []) ≡ true
 unfolding all
 int-limits j p q g a b c d e =
     joined _ _ (joined _ _ (joined _ _ (within-yes 0 j 14 (omega arith) a) (within-yes 0 p 14 (omega arith) b)) (within-yes 0 q 7 (omega arith) c))
@@ -129,14 +131,28 @@ same-test c k d = elim (decLt c k) [
   | no h ↦ le-ltb c k (omega arith) ∙ sym (le-ltb c (k + 1) (omega arith))
 ]
 
+-- the numbers of a bus line are in their limits, so they have at most ten digits
+pub bus-below : (b : Bus) → busKeeps b ≡ true → Below (busValues b)
+unfolding all busKeeps fieldsFrom
+bus-below b h = limits-below BusLine (busValues b) h
+
+bus-placed : (n : ℕ) (u : Tree) (c : ℕ) (b : Bus) → busKeeps b ≡ true → u .bus .window ≡ 0 → shaped (busEntry c b) ≡ true
+    → treeLine n u (busEntry c b) ≡ given (withBus u b)
+unfolding all busKeeps busLine
+bus-placed n u c b h z s = line-record n u (busEntry c b) BusLine refl s h ∙ passed _ _ _ (le-ltb 0 (u .bus .window) (omega arith))
+
+-- a bus line is accepted where none was read, with its return delay or, where that is 0, without it
+pub bus-step : (n : ℕ) (u : Tree) {b : Bus} {l : List ℕ} → busKeeps b ≡ true → u .bus .window ≡ 0 → WritesBus b l
+    → treeLine n u (lineOf l) ≡ given (withBus u b)
+unfolding all shaped
+bus-step n u {b} h z (with-delay q) =
+    ap (λ (s : List ℕ). treeLine n u (lineOf s)) q ∙ ap (treeLine n u) (whole-read b (bus-below b h)) ∙ bus-placed n u 11 b h z refl
+bus-step n u {b} h z (without-delay d q) =
+    ap (λ (s : List ℕ). treeLine n u (lineOf s)) q ∙ ap (treeLine n u) (short-read b d (bus-below b h)) ∙ bus-placed n u 10 b h z refl
+
 module _ (t : Tree) (e : treeKeeps t ≡ true) where
   S : Sound t
   S = sound t e
-
-  -- the bus line
-  pub bus-step : (n : ℕ) → treeLine n emptyTree (busEntry t) ≡ given (withBus emptyTree (t .bus))
-  unfolding all busKeeps shaped busLine
-  bus-step n = line-record n emptyTree (busEntry t) BusLine refl refl (bus-limits t e)
 
   pub agrees-bus : Agrees t (withBus emptyTree (t .bus)) 0 0
   unfolding all busKeeps

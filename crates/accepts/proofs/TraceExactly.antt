@@ -25,7 +25,7 @@ use Rattle.lines.specs.declared.Line.{Line}
 use Rattle.lines.specs.declared.FileAnswer.the-variants.{Accepted, Refused}
 use Rattle.lines.specs.Lines.{pushed, lineOf, inTrace, shaped, limitsKept}
 use Rattle.lines.proofs.Written.{name-clean, Below, below-none, below-more, numbers-clean, numbers-read}
-use Rattle.lines.proofs.Back.{numbers-written, no-dash-at, value-small, never-dash}
+use Rattle.lines.proofs.Back.{shape-exact, numbers-written, no-dash-at, value-small, never-dash}
 use Rattle.trace.specs.declared.Request.{Request}
 use Rattle.trace.specs.declared.OfferRead.{OfferRead}
 use Rattle.trace.specs.declared.OfferRead.the-variants.{Offer}
@@ -48,10 +48,10 @@ module _ (l : List ℕ) (e : isOfferLine (lineOf l) ≡ true) where
 
   pub request-written : l ≡ requestText (requestOf (lineOf l .values))
   unfolding rows numbers
-  request-written = numbers-written l OfferLine kind refl shape
+  request-written = numbers-written l OfferLine 3 kind refl shape (shape-exact (lineOf l) OfferLine kind shape refl)
 
   small : (i : ℕ) → i < 3 → getD (lineOf l .values) i 0 < 10000000000
-  small i h = value-small l OfferLine kind shape i h (no-dash-at (lineOf l) OfferLine kind shape i h (never-dash 10 i))
+  small i h = value-small l OfferLine kind shape i h (no-dash-at (lineOf l) OfferLine kind shape i h (never-dash 11 i))
 
   pub request-digits : tenDigits (requestOf (lineOf l .values)) ≡ true
   request-digits = joined _ _ (joined _ _ (lt-ltb _ _ (small 0 (lit< tt))) (lt-ltb _ _ (small 1 (lit< tt)))) (lt-ltb _ _ (small 2 (lit< tt)))

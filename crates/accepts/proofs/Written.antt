@@ -1,8 +1,8 @@
 -- The lines that a configuration's text has are read as its fields. By the laws of written lines.
 use Prim.Native.Nat.{ℕ, zero, suc, _<_}
 use mathlib.Core.Bool.{true, false}
-use mathlib.Core.List.{[], _∷_, _++_}
-use mathlib.Core.Path.{_≡_, refl, _∙_, ap}
+use mathlib.Core.List.{List, [], _∷_, _++_}
+use mathlib.Core.Path.{_≡_, refl, sym, _∙_, ap}
 use native.Mathlib.Omega.{arith}
 use lib.Dec.{lit<}
 use lib.ListN.{getD}
@@ -11,17 +11,18 @@ use Rattle.text.specs.declared.Field.the-variants.{Dash, Number}
 use Rattle.text.specs.Write.{decimalText, dash}
 use Rattle.text.proofs.Written.{AllClean}
 use Rattle.model.specs.declared.Tree.{Tree}
+use Rattle.model.specs.declared.Bus.{Bus}
 use Rattle.model.specs.Tree.{granularityOf, parentOf, parentPortOf, acceleratorOf}
 use Rattle.folds.proofs.Folds.{passed}
 use Rattle.lines.specs.declared.Kind.the-variants.{BusLine, IntLine, AccLine}
 use Rattle.lines.specs.declared.Line.{Line}
 use Rattle.lines.specs.Lines.{formOf, pushed, lineOf, noDashes}
-use Rattle.lines.proofs.Written.{Plain, Below, texts-clean, line-read, numbers-read}
-use Rattle.accepts.specs.TreeText.{busValues, accValues, busText, intText, accText}
+use Rattle.lines.proofs.Written.{Plain, Below, below-none, below-more, texts-clean, line-read, numbers-read}
+use Rattle.accepts.specs.TreeText.{busFront, busValues, accValues, busWhole, busShort, intText, accText}
 
 -- the lines as they are read
-abbrev pub busEntry : Tree → Line
-busEntry t = record { kind = BusLine; count = 10; malformed = false; dashes = noDashes; values = busValues (t .bus) }
+abbrev pub busEntry : ℕ → Bus → Line
+busEntry n b = record { kind = BusLine; count = n; malformed = false; dashes = noDashes; values = busValues b }
 
 abbrev pub rootEntry : Tree → Line
 rootEntry t =
@@ -29,8 +30,8 @@ rootEntry t =
       kind = IntLine;
       count = 4;
       malformed = false;
-      dashes = false ∷ true ∷ true ∷ false ∷ false ∷ false ∷ false ∷ false ∷ false ∷ false ∷ [];
-      values = 0 ∷ 0 ∷ 0 ∷ granularityOf t 0 ∷ 0 ∷ 0 ∷ 0 ∷ 0 ∷ 0 ∷ 0 ∷ [];
+      dashes = false ∷ true ∷ true ∷ false ∷ false ∷ false ∷ false ∷ false ∷ false ∷ false ∷ false ∷ [];
+      values = 0 ∷ 0 ∷ 0 ∷ granularityOf t 0 ∷ 0 ∷ 0 ∷ 0 ∷ 0 ∷ 0 ∷ 0 ∷ 0 ∷ [];
     }
 
 abbrev pub childEntry : Tree → ℕ → Line
@@ -40,15 +41,27 @@ childEntry t j =
       count = 4;
       malformed = false;
       dashes = noDashes;
-      values = j ∷ parentOf t j ∷ parentPortOf t j ∷ granularityOf t j ∷ 0 ∷ 0 ∷ 0 ∷ 0 ∷ 0 ∷ 0 ∷ [];
+      values = j ∷ parentOf t j ∷ parentPortOf t j ∷ granularityOf t j ∷ 0 ∷ 0 ∷ 0 ∷ 0 ∷ 0 ∷ 0 ∷ 0 ∷ [];
     }
 
 abbrev pub accEntry : Tree → ℕ → Line
-accEntry t a = record { kind = AccLine; count = 9; malformed = false; dashes = noDashes; values = accValues a (acceleratorOf t a) ++ (0 ∷ []) }
+accEntry t a =
+    record { kind = AccLine; count = 9; malformed = false; dashes = noDashes; values = accValues a (acceleratorOf t a) ++ (0 ∷ 0 ∷ []) }
 
-pub bus-read : (t : Tree) → Below (busValues (t .bus)) → lineOf (busText t) ≡ busEntry t
+pub below-front : (xs ys : List ℕ) → Below (xs ++ ys) → Below xs
+below-front [] ys B = below-none
+below-front (x ∷ xs) ys (below-more h B) = below-more h (below-front xs ys B)
+
+pub whole-read : (b : Bus) → Below (busValues b) → lineOf (busWhole b) ≡ busEntry 11 b
 unfolding pushed
-bus-read t B = numbers-read BusLine B
+whole-read b B = numbers-read BusLine B
+
+-- a return delay that is absent is held as 0
+pub short-read : (b : Bus) → b .delay ≡ 0 → Below (busValues b) → lineOf (busShort b) ≡ busEntry 10 b
+unfolding pushed
+short-read b z B =
+    numbers-read BusLine (below-front (busFront b) (b .delay ∷ []) B)
+    ∙ ap (λ (d : ℕ). record { kind = BusLine; count = 10; malformed = false; dashes = noDashes; values = busFront b ++ (d ∷ []) }) (sym z)
 
 pub acc-read : (t : Tree) (a : ℕ) → Below (accValues a (acceleratorOf t a)) → lineOf (accText t a) ≡ accEntry t a
 unfolding pushed

@@ -36,10 +36,10 @@ use Rattle.lines.specs.LineText.{WritesLine}
 use Rattle.model.specs.Builders.{withBus}
 use Rattle.records.specs.Records.{emptyTree, withRoot, withChild, accOf, withAcc}
 use Rattle.placing.specs.Placing.{intInOrder, complete}
-use Rattle.accepts.specs.TreeText.{busWritten, rootWritten, childWritten, accWritten}
+use Rattle.accepts.specs.TreeText.{WritesBus, rootWritten, childWritten, accWritten}
 
 pub data Stands (u : Tree) (l : List ℕ) : Tree → Type 0 where
-  bus-stands : (b : Bus) → busKeeps b ≡ true → u .bus .window ≡ 0 → l ≡ busWritten b → Stands u l (withBus u b)
+  bus-stands : (b : Bus) → busKeeps b ≡ true → u .bus .window ≡ 0 → WritesBus b l → Stands u l (withBus u b)
   root-stands : (g : ℕ) → 1 ≤ g → g ≤ 16 → 0 < u .bus .window → u .accs ≡ 0 → u .ints ≡ 0 → l ≡ rootWritten g → Stands u l (withRoot u g)
   child-stands : (j p q g : ℕ) → 1 ≤ g → g ≤ 16 → 0 < u .bus .window → u .accs ≡ 0 → j ≡ u .ints → 0 < j → j < 15 → p < j → q < 8
       → portOf u p q ≡ Empty → levelOf u p < 4 → l ≡ childWritten j p q g → Stands u l (withChild u j p q g)

@@ -50,7 +50,7 @@ seven j = busy j 1 ∷ busy j 2 ∷ busy j 3 ∷ busy j 4 ∷ busy j 5 ∷ busy 
 abbrev pub widest : Tree
 widest =
     record {
-      bus = record { window = 65535; ta = 255; da = 255; dd = 255; db = 255; pr = 4095; pw = 4095; td = 255; tb = 255; burst = 256 };
+      bus = record { window = 65535; ta = 255; da = 255; dd = 255; db = 255; pr = 4095; pw = 4095; td = 255; tb = 255; burst = 256; delay = 15 };
       interconnects = wide 0 (Int 1) 0 ∷ wide 0 (Int 2) 7 ∷ wide 1 (Int 3) 14 ∷ wide 2 (Acc 0) 21 ∷ replicate 11 noInterconnect;
       accelerators = busy 3 0 ∷ (seven 0 ++ seven 1 ++ seven 2 ++ seven 3 ++ replicate 3 noAccelerator);
       ints = 4;

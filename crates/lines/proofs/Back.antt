@@ -5,13 +5,14 @@ use mathlib.Core.Bool.{Bool, true, false, _&&_, _||_, not, or-true}
 use mathlib.Core.List.{List, [], _∷_, map}
 use mathlib.Core.Logic.{_↔_}
 use mathlib.Core.Path.{_≡_, refl, sym, _∙_, ap, ap₂, subst}
+use native.Mathlib.Decide.{decLt}
 use native.Mathlib.Numerals.{add-one}
 use native.Mathlib.Omega.{arith}
-use lib.Dec.{eqb}
+use lib.Dec.{leb}
 use lib.ListN.{length, getD, replicate, length-set}
 use lib.Seq.{getD-set-same, getD-set-other}
-use borrow.Author.Tests.{eqb-true, eq-eqb, lt-ltb, ltb-true, not-true}
-use Rattle.folds.specs.Fold.{pick}
+use borrow.Author.Tests.{leb-true, le-leb, lt-ltb, ltb-true, not-true}
+use Rattle.folds.specs.Fold.{pick, within}
 use Rattle.folds.proofs.Folds.{clash, picked, passed, both, joined, all-at, at-all}
 use Rattle.text.specs.declared.Field.{Field}
 use Rattle.text.specs.declared.Field.the-variants.{Malformed, Dash, Number}
@@ -74,6 +75,9 @@ unfolding pushed
 pushed-count l [] = omega arith
 pushed-count l (f ∷ fs) = omega (arith, pushed-count (push l f) fs, push-count l f)
 
+with-count : (k : Kind) (fs : List Field) → lineWith k fs .count ≡ length fs
+with-count k fs = omega (arith, pushed-count (named k) fs)
+
 pushed-same : (fs : List Field) (l : Line) (i : ℕ) → i < l .count → (valueAt (pushed l fs) i ≡ valueAt l i) × (dashAt (pushed l fs) i ≡ dashAt l i)
 unfolding pushed
 pushed-same [] l i h = (refl, refl)
@@ -104,37 +108,62 @@ pushed-sound d (f ∷ fs) l P =
     go Dash e = refl
     go (Number x) e = refl
 
--- a line under way: the arrays have ten entries, and no "-" is held for a field to come
+-- a line under way: the arrays have eleven entries, and neither "-" nor a number is held for a field to come
 record Begun (l : Line) : Type 0 where
-  dashes : length (l .dashes) ≡ 10
-  values : length (l .values) ≡ 10
+  dashes : length (l .dashes) ≡ 11
+  values : length (l .values) ≡ 11
   none : (i : ℕ) → l .count ≤ i → dashAt l i ≡ false
+  zero : (i : ℕ) → l .count ≤ i → valueAt l i ≡ 0
 
 begun-next : (l : Line) → Begun l → (f : Field) → Begun (push l f)
-begun-next l B Malformed = record { dashes = B .dashes; values = B .values; none = λ i h. B .none i (omega arith) }
+begun-next l B Malformed =
+    record { dashes = B .dashes; values = B .values; none = λ i h. B .none i (omega arith); zero = λ i h. B .zero i (omega arith) }
 begun-next l B Dash =
     record {
       dashes = length-set (l .dashes) _ _ ∙ B .dashes;
       values = B .values;
       none = λ i h. getD-set-other (l .dashes) (l .count) i true false (λ e. omega arith) ∙ B .none i (omega arith);
+      zero = λ i h. B .zero i (omega arith);
     }
 begun-next l B (Number x) =
-    record { dashes = B .dashes; values = length-set (l .values) _ _ ∙ B .values; none = λ i h. B .none i (omega arith) }
+    record {
+      dashes = B .dashes;
+      values = length-set (l .values) _ _ ∙ B .values;
+      none = λ i h. B .none i (omega arith);
+      zero = λ i h. getD-set-other (l .values) (l .count) i x 0 (λ e. omega arith) ∙ B .zero i (omega arith);
+    }
+
+begun-fields : (fs : List Field) (l : Line) → Begun l → Begun (pushed l fs)
+unfolding pushed
+begun-fields [] l B = B
+begun-fields (f ∷ fs) l B = begun-fields fs (push l f) (begun-next l B f)
+
+repeated : {A : Type 0} (n i : ℕ) (x : A) → getD (replicate n x) i x ≡ x
+repeated zero i x = refl
+repeated (suc n) zero x = refl
+repeated (suc n) (suc i) x = repeated n i x
 
 pub never-dash : (n i : ℕ) → getD {A = Bool} (replicate n false) i false ≡ false
-never-dash zero i = refl
-never-dash (suc n) zero = refl
-never-dash (suc n) (suc i) = never-dash n i
+never-dash n i = repeated n i false
 
 begun-named : (k : Kind) → Begun (named k)
-begun-named k = record { dashes = refl; values = refl; none = λ i h. never-dash 10 i }
+begun-named k = record { dashes = refl; values = refl; none = λ i h. never-dash 11 i; zero = λ i h. repeated 11 i 0 }
+
+-- "absent means 0": a field that a line has not is held as 0
+pub absent-zero : (s : List ℕ) (i : ℕ) → lineOf s .count ≤ i → valueAt (lineOf s) i ≡ 0
+unfolding lineOf
+absent-zero s i h = go (fields s) .zero i h
+  where
+    go : (ps : List (List ℕ)) → Begun (lineFrom ps)
+    go [] = begun-named NoRecord
+    go (name ∷ gs) = begun-fields (map fieldOf gs) _ (begun-named (kindOf name))
 
 -- field i of a line as it is held
 abbrev pub fieldAt : Line → ℕ → Field
 fieldAt l i = pick (dashAt l i) Dash (Number (valueAt l i))
 
 -- the fields of a line are what it holds
-fields-held : (fs : List Field) (l : Line) → Begun l → l .count + length fs ≤ 10 → pushed l fs .malformed ≡ false
+fields-held : (fs : List Field) (l : Line) → Begun l → l .count + length fs ≤ 11 → pushed l fs .malformed ≡ false
     → fs ≡ rows (length fs) (l .count) (fieldAt (pushed l fs))
 unfolding pushed rows
 fields-held [] l B h e = refl
@@ -184,7 +213,8 @@ read-at (g ∷ gs) (suc i) h = read-at gs i (omega arith)
 -- the tests of shape, apart
 pub record ShapeTests (l : Line) : Type 0 where
   pub known : isRecord (l .kind) ≡ true
-  pub many : l .count ≡ formOf (l .kind) .count
+  pub least : formOf (l .kind) .least ≤ l .count
+  pub most : l .count ≤ formOf (l .kind) .count
   pub sound : l .malformed ≡ false
   pub dashes : (i : ℕ) → i < formOf (l .kind) .count → dashKept (formOf (l .kind)) (l .dashes) i ≡ true
 
@@ -194,16 +224,35 @@ shape-tests l = (there, back)
   where
     there : shaped l ≡ true → ShapeTests l
     there e =
+        let m = formOf (l .kind) .least in
         let n = formOf (l .kind) .count in
-        let a = both (isRecord (l .kind) && eqb (l .count) n && not (l .malformed)) (dashesKept (l .kind) (l .dashes)) e in
-        let b = both (isRecord (l .kind) && eqb (l .count) n) (not (l .malformed)) (a .0) in
-        let c = both (isRecord (l .kind)) (eqb (l .count) n) (b .0) in
-        record { known = c .0; many = eqb-true _ _ (c .1); sound = not-true _ (b .1); dashes = all-at n (dashKept (formOf (l .kind)) (l .dashes)) (a .1) }
+        let w = within m (l .count) n in
+        let a = both (isRecord (l .kind) && w && not (l .malformed)) (dashesKept (l .kind) (l .dashes)) e in
+        let b = both (isRecord (l .kind) && w) (not (l .malformed)) (a .0) in
+        let c = both (isRecord (l .kind)) w (b .0) in
+        let d = both (leb m (l .count)) (leb (l .count) n) (c .1) in
+        record {
+          known = c .0;
+          least = leb-true _ _ (d .0);
+          most = leb-true _ _ (d .1);
+          sound = not-true _ (b .1);
+          dashes = all-at n (dashKept (formOf (l .kind)) (l .dashes)) (a .1);
+        }
 
     back : ShapeTests l → shaped l ≡ true
     back S =
-        joined _ _ (joined _ _ (joined _ _ (S .known) (eq-eqb _ _ (S .many))) (ap not (S .sound)))
+        joined _ _ (joined _ _ (joined _ _ (S .known) (joined _ _ (le-leb _ _ (S .least)) (le-leb _ _ (S .most)))) (ap not (S .sound)))
         (at-all (formOf (l .kind) .count) (dashKept (formOf (l .kind)) (l .dashes)) (S .dashes))
+
+-- how many fields a line of right shape has
+pub shape-count : (l : Line) (k : Kind) → l .kind ≡ k → shaped l ≡ true → (formOf k .least ≤ l .count) × (l .count ≤ formOf k .count)
+shape-count l k q e =
+    let S = shape-tests l .0 e in
+    subst (λ (x : Kind). (formOf x .least ≤ l .count) × (l .count ≤ formOf x .count)) q (S .least, S .most)
+
+-- where the record has always as many, it has those
+pub shape-exact : (l : Line) (k : Kind) → l .kind ≡ k → shaped l ≡ true → formOf k .least ≡ formOf k .count → l .count ≡ formOf k .count
+shape-exact l k q e h = let c = shape-count l k q e in omega arith
 
 -- where the form has no "-", none stands
 pub no-dash-at : (l : Line) (k : Kind) → l .kind ≡ k → shaped l ≡ true → (i : ℕ) → i < formOf k .count → getD (formOf k .dashes) i false ≡ false
@@ -217,7 +266,8 @@ abbrev mayDash : Kind → ℕ → Bool
 mayDash k i = getD (formOf k .dashes) i false
 
 -- a line that is written has the shape that test 1 asks for
-module _ (k : Kind) (fs : List Field) (known : isRecord k ≡ true) (count : length fs ≡ formOf k .count) (plain : Plain (mayDash k) fs) where
+module _ (k : Kind) (fs : List Field) (known : isRecord k ≡ true) (least : formOf k .least ≤ length fs) (most : length fs ≤ formOf k .count)
+    (plain : Plain (mayDash k) fs) where
   abbrev l : Line
   l = lineWith k fs
 
@@ -228,19 +278,27 @@ module _ (k : Kind) (fs : List Field) (known : isRecord k ≡ true) (count : len
       ap (λ (xs : List Field). getD xs i Malformed) e ∙ rows-at (length fs) 0 (fieldAt l) Malformed i h ∙ ap (fieldAt l) (omega arith)
 
   dash-may : (i : ℕ) → i < formOf k .count → dashKept (formOf k) (l .dashes) i ≡ true
-  dash-may i h = go (dashAt l i) refl
+  dash-may i h = elim (decLt i (length fs)) [ yes u ↦ go u (dashAt l i) refl | no u ↦ past (omega arith) ]
     where
-      go : (c : Bool) → dashAt l i ≡ c → mayDash k i || not c ≡ true
-      go true q = ap (λ (c : Bool). c || false) (sym (ap (mayStand (mayDash k i)) (held i (omega arith) ∙ picked _ _ _ q)) ∙ plain i (omega arith))
-      go false q = or-true (mayDash k i)
+      go : i < length fs → (c : Bool) → dashAt l i ≡ c → mayDash k i || not c ≡ true
+      go u true q = ap (λ (c : Bool). c || false) (sym (ap (mayStand (mayDash k i)) (held i u ∙ picked _ _ _ q)) ∙ plain i u)
+      go u false q = or-true (mayDash k i)
+
+      past : length fs ≤ i → mayDash k i || not (dashAt l i) ≡ true
+      past u =
+          let n = with-count k fs in
+          let d = begun-fields fs (named k) (begun-named k) .none i (omega arith) in
+          ap (λ (c : Bool). mayDash k i || not c) d ∙ or-true (mayDash k i)
 
   written-shaped : shaped (lineWith k fs) ≡ true
   written-shaped =
       let q = pushed-kind (named k) fs in
+      let n = with-count k fs in
       shape-tests l .1
       (record {
         known = ap isRecord q ∙ known;
-        many = pushed-count (named k) fs ∙ (omega (arith, count)) ∙ ap (λ (x : Kind). formOf x .count) (sym q);
+        least = subst (λ (x : Kind). formOf x .least ≤ l .count) (sym q) (omega (arith, n));
+        most = subst (λ (x : Kind). l .count ≤ formOf x .count) (sym q) (omega (arith, n));
         sound = pushed-sound (mayDash k) fs (named k) plain;
         dashes = subst (λ (x : Kind). (i : ℕ) → i < formOf x .count → dashKept (formOf x) (l .dashes) i ≡ true) (sym q) dash-may;
       })
@@ -266,12 +324,15 @@ module _ (name : List ℕ) (gs : List (List ℕ)) (e : shaped (lineWith (kindOf 
   kind : r .kind ≡ k
   kind = pushed-kind (named k) fs
 
-  counted : length fs ≡ formOf k .count
-  counted = omega (arith, pushed-count (named k) fs, S .many, ap (λ (x : Kind). formOf x .count) kind)
+  counted : (formOf k .least ≤ length fs) × (length fs ≤ formOf k .count)
+  counted =
+      let n = with-count k fs in
+      let c = shape-count r k kind e in
+      (omega arith, omega arith)
 
   said : (i : ℕ) → i < length fs → getD fs i Malformed ≡ fieldAt r i
   said i h =
-      let e = fields-held fs (named k) (begun-named k) (omega (arith, form-count k, counted)) (S .sound) in
+      let e = fields-held fs (named k) (begun-named k) (omega (arith, form-count k, counted .1)) (S .sound) in
       ap (λ (xs : List Field). getD xs i Malformed) e ∙ rows-at (length fs) 0 (fieldAt r) Malformed i h ∙ ap (fieldAt r) (omega arith)
 
   may : (i : ℕ) → i < length fs → mayStand (mayDash k i) (getD fs i Malformed) ≡ true
@@ -283,7 +344,7 @@ module _ (name : List ℕ) (gs : List (List ℕ)) (e : shaped (lineWith (kindOf 
 
       kept : dashKept (formOf k) (r .dashes) i ≡ true
       kept =
-          subst (λ (x : Kind). (i : ℕ) → i < formOf x .count → dashKept (formOf x) (r .dashes) i ≡ true) kind (S .dashes) i (omega (arith, counted))
+          subst (λ (x : Kind). (i : ℕ) → i < formOf x .count → dashKept (formOf x) (r .dashes) i ≡ true) kind (S .dashes) i (omega (arith, counted .1))
 
       go : (c : Bool) → dashAt r i ≡ c → mayStand (mayDash k i) (getD fs i Malformed) ≡ true
       go true q =
@@ -296,7 +357,13 @@ module _ (name : List ℕ) (gs : List (List ℕ)) (e : shaped (lineWith (kindOf 
   parts-written : WritesLine (lineText name gs) k fs
   parts-written =
       let known = ap isRecord (sym kind) ∙ S .known in
-      record { name = known; count = counted; plain = may; text = ap₂ lineText (name-back name known) (fields-back gs (named k) (S .sound)) }
+      record {
+        name = known;
+        least = counted .0;
+        most = counted .1;
+        plain = may;
+        text = ap₂ lineText (name-back name known) (fields-back gs (named k) (S .sound));
+      }
 
 read-of : (s name : List ℕ) (gs : List (List ℕ)) → fields s ≡ name ∷ gs → shaped (lineOf s) ≡ true → (k : Kind) × (fs : List Field) × WritesLine s k fs
 unfolding lineOf
@@ -311,37 +378,43 @@ read-written s e = read-of s _ _ (first-part 9 s) e
 pub shaped-exactly : (s : List ℕ) → (shaped (lineOf s) ≡ true) ↔ ((k : Kind) × (fs : List Field) × WritesLine s k fs)
 shaped-exactly s = (
   read-written s,
-  λ h. let W = h .2 in ap shaped (line-said W) ∙ written-shaped (h .0) (h .1) (W .name) (W .count) (W .plain),
+  λ h. let W = h .2 in ap shaped (line-said W) ∙ written-shaped (h .0) (h .1) (W .name) (W .least) (W .most) (W .plain),
 )
 
 -- the fields that a line writes are what it is read as
-fields-of : (s : List ℕ) (k : Kind) (fs : List Field) → WritesLine s k fs → fs ≡ rows (formOf k .count) 0 (fieldAt (lineOf s))
+fields-of : (s : List ℕ) (k : Kind) (fs : List Field) → WritesLine s k fs → fs ≡ rows (lineOf s .count) 0 (fieldAt (lineOf s))
 fields-of s k fs W =
     let m = pushed-sound (mayDash k) fs (named k) (W .plain) in
-    fields-held fs (named k) (begun-named k) (omega (arith, form-count k, W .count)) m
-    ∙ ap₂ (λ (n : ℕ) (l : Line). rows n 0 (fieldAt l)) (W .count) (sym (line-said W))
+    let n = with-count k fs in
+    fields-held fs (named k) (begun-named k) (omega (arith, form-count k, W .most)) m
+    ∙ ap (λ (c : ℕ). rows c 0 (fieldAt (lineWith k fs))) (sym n)
+    ∙ ap (λ (l : Line). rows (l .count) 0 (fieldAt l)) (sym (line-said W))
 
-pub line-written : (s : List ℕ) (k : Kind) → lineOf s .kind ≡ k → shaped (lineOf s) ≡ true
-    → s ≡ lineText (nameOf k) (map fieldText (rows (formOf k .count) 0 (fieldAt (lineOf s))))
-line-written s k q e =
+pub line-written : (s : List ℕ) (k : Kind) (c : ℕ) → lineOf s .kind ≡ k → shaped (lineOf s) ≡ true → lineOf s .count ≡ c
+    → s ≡ lineText (nameOf k) (map fieldText (rows c 0 (fieldAt (lineOf s))))
+line-written s k c q e m =
     let h = read-written s e in
     let W = h .2 in
     let n = sym (pushed-kind (named (h .0)) (h .1)) ∙ sym (ap (λ (l : Line). l .kind) (line-said W)) ∙ q in
     W .text ∙ ap (λ (fs : List Field). lineText (nameOf (h .0)) (map fieldText fs)) (fields-of s (h .0) (h .1) W)
-    ∙ ap (λ (x : Kind). lineText (nameOf x) (map fieldText (rows (formOf x .count) 0 (fieldAt (lineOf s))))) n
+    ∙ ap₂ (λ (x : Kind) (d : ℕ). lineText (nameOf x) (map fieldText (rows d 0 (fieldAt (lineOf s))))) n m
 
 -- a number that a line of right shape has is one of at most ten digits
 pub value-small : (s : List ℕ) (k : Kind) → lineOf s .kind ≡ k → shaped (lineOf s) ≡ true → (i : ℕ) → i < formOf k .count
     → dashAt (lineOf s) i ≡ false → valueAt (lineOf s) i < 10000000000
-value-small s k q e i h z =
-    let r = read-written s e in
-    let W = r .2 in
-    let n = sym (pushed-kind (named (r .0)) (r .1)) ∙ sym (ap (λ (l : Line). l .kind) (line-said W)) ∙ q in
-    let m = W .count ∙ ap (λ (x : Kind). formOf x .count) n in
-    let f = ap (λ (fs : List Field). getD fs i Malformed) (fields-of s (r .0) (r .1) W)
-    ∙ rows-at (formOf (r .0) .count) 0 (fieldAt (lineOf s)) Malformed i (omega (arith, W .count)) ∙ ap (fieldAt (lineOf s)) (omega arith)
-    ∙ passed _ _ _ z in
-    ltb-true _ _ (sym (ap (mayStand (getD (formOf (r .0) .dashes) i false)) f) ∙ W .plain i (omega arith))
+value-small s k q e i h z = elim (decLt i (lineOf s .count)) [ yes u ↦ stands u | no u ↦ absent (omega arith) ]
+  where
+    absent : lineOf s .count ≤ i → valueAt (lineOf s) i < 10000000000
+    absent u = omega (arith, absent-zero s i u)
+
+    stands : i < lineOf s .count → valueAt (lineOf s) i < 10000000000
+    stands u =
+        let r = read-written s e in
+        let W = r .2 in
+        let n = ap (λ (l : Line). l .count) (line-said W) ∙ with-count (r .0) (r .1) in
+        let f = ap (λ (fs : List Field). getD fs i Malformed) (fields-of s (r .0) (r .1) W)
+        ∙ rows-at (lineOf s .count) 0 (fieldAt (lineOf s)) Malformed i u ∙ ap (fieldAt (lineOf s)) (omega arith) ∙ passed _ _ _ z in
+        ltb-true _ _ (sym (ap (mayStand (getD (formOf (r .0) .dashes) i false)) f) ∙ W .plain i (omega arith))
 
 rows-numbers : (n k : ℕ) (l : Line) → ((i : ℕ) → i < k + n → dashAt l i ≡ false)
     → map fieldText (rows n k (fieldAt l)) ≡ rows n k (λ i. decimalText (valueAt l i))
@@ -351,9 +424,10 @@ rows-numbers (suc n) k l h =
     ap₂ (λ (x : List ℕ) (xs : List (List ℕ)). x ∷ xs) (ap fieldText (passed _ _ _ (h k (omega arith)))) (rows-numbers n (suc k) l (λ i m. h i (omega arith)))
 
 -- a line of a record that has no "-"
-pub numbers-written : (s : List ℕ) (k : Kind) → lineOf s .kind ≡ k → formOf k .dashes ≡ noDashes → shaped (lineOf s) ≡ true
-    → s ≡ lineText (nameOf k) (rows (formOf k .count) 0 (λ i. decimalText (valueAt (lineOf s) i)))
-numbers-written s k q z e =
-    let none : (i : ℕ) → getD (formOf k .dashes) i false ≡ false = λ i. ap (λ (d : List Bool). getD d i false) z ∙ never-dash 10 i in
-    line-written s k q e
-    ∙ ap (lineText (nameOf k)) (rows-numbers (formOf k .count) 0 (lineOf s) (λ i m. no-dash-at (lineOf s) k q e i (omega arith) (none i)))
+pub numbers-written : (s : List ℕ) (k : Kind) (c : ℕ) → lineOf s .kind ≡ k → formOf k .dashes ≡ noDashes → shaped (lineOf s) ≡ true
+    → lineOf s .count ≡ c → s ≡ lineText (nameOf k) (rows c 0 (λ i. decimalText (valueAt (lineOf s) i)))
+numbers-written s k c q z e m =
+    let none : (i : ℕ) → getD (formOf k .dashes) i false ≡ false = λ i. ap (λ (d : List Bool). getD d i false) z ∙ never-dash 11 i in
+    let most = shape-count (lineOf s) k q e .1 in
+    line-written s k c q e m
+    ∙ ap (lineText (nameOf k)) (rows-numbers c 0 (lineOf s) (λ i h. no-dash-at (lineOf s) k q e i (omega arith) (none i)))

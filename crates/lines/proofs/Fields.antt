@@ -42,7 +42,7 @@ pub kind-bus : (name : List ℕ) → same name (98 ∷ 117 ∷ 115 ∷ []) ≡ t
 unfolding kindOf
 kind-bus name b = picked _ _ _ b
 
-pub form-count : (k : Kind) → formOf k .count ≤ 10
+pub form-count : (k : Kind) → formOf k .count ≤ 11
 form-count NoRecord = lit≤ tt
 form-count BusLine = lit≤ tt
 form-count IntLine = lit≤ tt
@@ -54,7 +54,7 @@ push-count l Malformed = refl
 push-count l Dash = refl
 push-count l (Number x) = refl
 
--- past the tenth a field is only counted
+-- past the eleventh a field is only counted
 pub dash-past : (l : Line) → length (l .dashes) ≤ l .count
     → record { kind = l .kind; count = l .count + 1; malformed = l .malformed; dashes = l .dashes; values = l .values } ≡ push l Dash
 dash-past l h =

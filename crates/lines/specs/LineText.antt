@@ -3,9 +3,9 @@
 --
 -- mayStand d f         a field: a number of "1 to 10 digits"; "-" only where d allows it ("in any other field "-" is 1"); a malformed
 --                      field never
--- WritesLine s k fs    "the bytes s write a line of record k with the fields fs": its name, and as many fields as the record has,
---                      each after a tab, numbers in plain decimal
-use Prim.Native.Nat.{ℕ, _<_}
+-- WritesLine s k fs    "the bytes s write a line of record k with the fields fs": its name, and as many fields as the record may
+--                      have, each after a tab, numbers in plain decimal
+use Prim.Native.Nat.{ℕ, _≤_, _<_}
 use mathlib.Core.Bool.{Bool, true, false}
 use mathlib.Core.List.{List, map}
 use mathlib.Core.Path.{_≡_}
@@ -24,6 +24,7 @@ mayStand d (Number x) = ltb x 10000000000
 
 pub record WritesLine (s : List ℕ) (k : Kind) (fs : List Field) : Type 0 where
   pub name : isRecord k ≡ true
-  pub count : length fs ≡ formOf k .count
+  pub least : formOf k .least ≤ length fs
+  pub most : length fs ≤ formOf k .count
   pub plain : (i : ℕ) → i < length fs → mayStand (getD (formOf k .dashes) i false) (getD fs i Malformed) ≡ true
   pub text : s ≡ lineText (nameOf k) (map fieldText fs)

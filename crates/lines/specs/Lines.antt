@@ -3,28 +3,28 @@
 -- nameOf k             "A line begins with one of the record names bus, int or acc"; in a trace it is o
 -- kindOf name          the record of that name
 -- named k              a line of record k before its fields
--- push l f             line l with one field more; past the tenth, fields are only counted
+-- push l f             line l with one field more; past the eleventh, fields are only counted
 -- pushed l fs          line l with the fields fs
 -- lineWith k fs        the line of record k with the fields fs
 -- lineFrom ps          the line of the parts ps, the record name first
 -- lineOf s             the line that the bytes s write
 -- valueAt l i          the number in field i of line l, counted from 0; 0 where the field is no number
 -- dashAt l i           field i of line l is "-"
--- formOf k             the fields of record k: how many, which may be "-" ("in any other field "-" is 1"), and their
---                      limits, in the order of the paper
+-- formOf k             the fields of record k: how many at least and at most, which may be "-" ("in any other field "-" is 1"),
+--                      and their limits, in the order of the paper; "The bus line gains an optional last field"
 -- noDashes             no field may be "-"
+-- plainForm m n x y    the form of a record that has no "-": m to n fields, with the limits x to y
 -- dashKept f d i       field i is "-" only where it may be; dashesKept k d: so are all fields of record k
 -- isRecord k           k is a record
--- shaped l             test 1: a record's name, as many fields as the record has, none malformed, "-" only where it may stand
+-- shaped l             test 1: a record's name, as many fields as the record may have, none malformed, "-" only where it may stand
 -- limitKept f v i      field i is in its limits
--- limitsKept k v       test 2: the numbers v are in the limits of record k; a "-", held as 0, is in the limits of both
---                      fields where it may stand
+-- limitsKept k v       test 2: the numbers v are in the limits of record k; a "-" and an absent field, held as 0, are in the
+--                      limits of the fields where they may stand
 -- inTree k, inTrace k  record k may stand in a tree file, in a trace file
 use Prim.Native.Nat.{ℕ, _+_}
 use mathlib.Core.Bool.{Bool, true, false, _&&_, _||_, not}
 use mathlib.Core.List.{List, [], _∷_, map}
 use lib.ListN.{getD, set, replicate}
-use lib.Dec.{eqb}
 use Rattle.text.specs.declared.Field.{Field}
 use Rattle.text.specs.declared.Field.the-variants.{Malformed, Dash, Number}
 use Rattle.text.specs.Text.{fields, same, fieldOf}
@@ -51,7 +51,7 @@ kindOf name =
     NoRecord)))
 
 abbrev pub named : Kind → Line
-named k = record { kind = k; count = 0; malformed = false; dashes = replicate 10 false; values = replicate 10 0 }
+named k = record { kind = k; count = 0; malformed = false; dashes = replicate 11 false; values = replicate 11 0 }
 
 abbrev pub push : Line → Field → Line
 push l Malformed = record { kind = l .kind; count = l .count + 1; malformed = true; dashes = l .dashes; values = l .values }
@@ -82,42 +82,37 @@ abbrev pub dashAt : Line → ℕ → Bool
 dashAt l i = getD (l .dashes) i false
 
 abbrev pub noDashes : List Bool
-noDashes = replicate 10 false
+noDashes = replicate 11 false
 
--- bus: P, tA, dA, dD, dB, pR, pW, tD, tB, B
+abbrev pub plainForm : ℕ → ℕ → List ℕ → List ℕ → Form
+plainForm least count lows highs = record { least = least; count = count; dashes = noDashes; lows = lows; highs = highs }
+
+-- bus: P, tA, dA, dD, dB, pR, pW, tD, tB, B, and the return delay r ("0 to 15 slots; absent means 0": it is then held as 0)
 -- int: number, parent, port on the parent, granularity g
 -- acc: number, interconnect, port, phi, budget, Nr, Nw, C, T
 -- o:   slot, accelerator ("no limit of its own": the greatest of ten digits), count
 abbrev pub formOf : Kind → Form
-formOf NoRecord = record { count = 0; dashes = noDashes; lows = replicate 10 0; highs = replicate 10 0 }
+formOf NoRecord = plainForm 0 0 (replicate 11 0) (replicate 11 0)
 formOf BusLine =
-    record {
-      count = 10;
-      dashes = noDashes;
-      lows = 1 ∷ 1 ∷ 0 ∷ 0 ∷ 0 ∷ 0 ∷ 0 ∷ 1 ∷ 1 ∷ 1 ∷ [];
-      highs = 65535 ∷ 255 ∷ 255 ∷ 255 ∷ 255 ∷ 4095 ∷ 4095 ∷ 255 ∷ 255 ∷ 256 ∷ [];
-    }
+    plainForm 10 11
+    (1 ∷ 1 ∷ 0 ∷ 0 ∷ 0 ∷ 0 ∷ 0 ∷ 1 ∷ 1 ∷ 1 ∷ 0 ∷ [])
+    (65535 ∷ 255 ∷ 255 ∷ 255 ∷ 255 ∷ 4095 ∷ 4095 ∷ 255 ∷ 255 ∷ 256 ∷ 15 ∷ [])
 formOf IntLine =
     record {
+      least = 4;
       count = 4;
-      dashes = false ∷ true ∷ true ∷ false ∷ false ∷ false ∷ false ∷ false ∷ false ∷ false ∷ [];
-      lows = 0 ∷ 0 ∷ 0 ∷ 1 ∷ 0 ∷ 0 ∷ 0 ∷ 0 ∷ 0 ∷ 0 ∷ [];
-      highs = 14 ∷ 14 ∷ 7 ∷ 16 ∷ 0 ∷ 0 ∷ 0 ∷ 0 ∷ 0 ∷ 0 ∷ [];
+      dashes = false ∷ true ∷ true ∷ false ∷ false ∷ false ∷ false ∷ false ∷ false ∷ false ∷ false ∷ [];
+      lows = 0 ∷ 0 ∷ 0 ∷ 1 ∷ 0 ∷ 0 ∷ 0 ∷ 0 ∷ 0 ∷ 0 ∷ 0 ∷ [];
+      highs = 14 ∷ 14 ∷ 7 ∷ 16 ∷ 0 ∷ 0 ∷ 0 ∷ 0 ∷ 0 ∷ 0 ∷ 0 ∷ [];
     }
 formOf AccLine =
-    record {
-      count = 9;
-      dashes = noDashes;
-      lows = 0 ∷ 0 ∷ 0 ∷ 1 ∷ 1 ∷ 0 ∷ 0 ∷ 0 ∷ 1 ∷ 0 ∷ [];
-      highs = 31 ∷ 14 ∷ 7 ∷ 16 ∷ 1024 ∷ 65535 ∷ 65535 ∷ 4294967295 ∷ 4294967295 ∷ 0 ∷ [];
-    }
+    plainForm 9 9
+    (0 ∷ 0 ∷ 0 ∷ 1 ∷ 1 ∷ 0 ∷ 0 ∷ 0 ∷ 1 ∷ 0 ∷ 0 ∷ [])
+    (31 ∷ 14 ∷ 7 ∷ 16 ∷ 1024 ∷ 65535 ∷ 65535 ∷ 4294967295 ∷ 4294967295 ∷ 0 ∷ 0 ∷ [])
 formOf OfferLine =
-    record {
-      count = 3;
-      dashes = noDashes;
-      lows = 0 ∷ 0 ∷ 1 ∷ 0 ∷ 0 ∷ 0 ∷ 0 ∷ 0 ∷ 0 ∷ 0 ∷ [];
-      highs = 4294967294 ∷ 9999999999 ∷ 16 ∷ 0 ∷ 0 ∷ 0 ∷ 0 ∷ 0 ∷ 0 ∷ 0 ∷ [];
-    }
+    plainForm 3 3
+    (0 ∷ 0 ∷ 1 ∷ 0 ∷ 0 ∷ 0 ∷ 0 ∷ 0 ∷ 0 ∷ 0 ∷ 0 ∷ [])
+    (4294967294 ∷ 9999999999 ∷ 16 ∷ 0 ∷ 0 ∷ 0 ∷ 0 ∷ 0 ∷ 0 ∷ 0 ∷ 0 ∷ [])
 
 abbrev pub dashKept : Form → List Bool → ℕ → Bool
 dashKept f d i = getD (f .dashes) i false || not (getD d i false)
@@ -134,7 +129,8 @@ isRecord OfferLine = true
 
 unfoldable pub shaped : Line → Bool
 shaped l =
-    isRecord (l .kind) && eqb (l .count) (formOf (l .kind) .count) && not (l .malformed) && dashesKept (l .kind) (l .dashes)
+    isRecord (l .kind) && within (formOf (l .kind) .least) (l .count) (formOf (l .kind) .count) && not (l .malformed)
+    && dashesKept (l .kind) (l .dashes)
 
 abbrev pub limitKept : Form → List ℕ → ℕ → Bool
 limitKept f v i = within (getD (f .lows) i 0) (getD v i 0) (getD (f .highs) i 0)

@@ -10,7 +10,7 @@ use text::same_bytes;
 ghost use mathlib.Core.Path.{_≡_};
 ghost use Prim.Native.Nat.{_<_};
 ghost use Rattle.lines.specs.Answer.{answerNumber, answerLine};
-ghost use Rattle.lines.specs.Lines.{kindOf, named, push, lineOf, formOf, dashesKept, limitsKept, isRecord, shaped};
+ghost use Rattle.lines.specs.Lines.{kindOf, named, push, lineOf, plainForm, formOf, dashesKept, limitsKept, isRecord, shaped};
 
 // What a line's record name says.
 pub enum Kind {
@@ -21,22 +21,23 @@ pub enum Kind {
     OfferLine,
 }
 
-// A line: its record name, how many fields follow it, whether one of them is malformed, and of the first ten which are "-"
-// and the numbers of the others. A field that is no number is held as 0.
+// A line: its record name, how many fields follow it, whether one of them is malformed, and of the first eleven which are
+// "-" and the numbers of the others. A field that is no number, or is absent, is held as 0.
 pub struct Line {
     pub kind: Kind,
     pub count: usize,
     pub malformed: bool,
-    pub dashes: [bool; 10],
-    pub values: [u64; 10],
+    pub dashes: [bool; 11],
+    pub values: [u64; 11],
 }
 
-// The fields of a record: how many, which may be "-", and the limits of each.
+// The fields of a record: how many at least and at most, which may be "-", and the limits of each.
 pub struct Form {
+    pub least: usize,
     pub count: usize,
-    pub dashes: [bool; 10],
-    pub lows: [u64; 10],
-    pub highs: [u64; 10],
+    pub dashes: [bool; 11],
+    pub lows: [u64; 11],
+    pub highs: [u64; 11],
 }
 
 fn kind_of(name: &[u8]) -> Kind
@@ -65,12 +66,12 @@ fn begun(kind: Kind) -> Line
         kind: kind,
         count: 0,
         malformed: false,
-        dashes: [false; 10],
-        values: [0; 10],
+        dashes: [false; 11],
+        values: [0; 11],
     }
 }
 
-// The line with one field more. Past the tenth, fields are only counted.
+// The line with one field more. Past the eleventh, fields are only counted.
 fn with_field(l: Line, f: Field) -> Line
     requires { ⌜ l .count < 9223372036854775808 ⌝ }
     ensures { λ r. ⌜ r ≡ push l f ⌝ }
@@ -84,13 +85,13 @@ fn with_field(l: Line, f: Field) -> Line
             r
         }
         Field::Dash => {
-            if i < 10 {
+            if i < 11 {
                 r.dashes[i] = true;
             }
             r
         }
         Field::Number(x) => {
-            if i < 10 {
+            if i < 11 {
                 r.values[i] = x;
             }
             r
@@ -113,10 +114,11 @@ pub fn read_line(s: &[u8]) -> Line
 }
 
 // Parent and port of an int line may be "-".
-const ROOT_DASHES: [bool; 10] = [
+const ROOT_DASHES: [bool; 11] = [
     false,
     true,
     true,
+    false,
     false,
     false,
     false,
@@ -126,47 +128,64 @@ const ROOT_DASHES: [bool; 10] = [
     false,
 ];
 
+const ACC_HIGHS: [u64; 11] = [
+    31,
+    14,
+    7,
+    16,
+    1024,
+    65535,
+    65535,
+    4294967295,
+    4294967295,
+    0,
+    0,
+];
+
+// The form of a record that has no "-".
+fn plain_form(least: usize, count: usize, lows: [u64; 11], highs: [u64; 11]) -> Form
+    ensures { λ r. ⌜ r ≡ plainForm least count lows highs ⌝ }
+{
+    Form {
+        least: least,
+        count: count,
+        dashes: [false; 11],
+        lows: lows,
+        highs: highs,
+    }
+}
+
 // The form of each kind of line.
 pub fn form_of(kind: Kind) -> Form
     ensures { λ r. ⌜ r ≡ formOf kind ⌝ }
 {
-    let none = [false; 10];
     match kind {
-        Kind::NoRecord => Form {
-            count: 0,
-            dashes: none,
-            lows: [0; 10],
-            highs: [0; 10],
-        },
-        Kind::BusLine => Form {
-            count: 10,
-            dashes: none,
-            lows: [1, 1, 0, 0, 0, 0, 0, 1, 1, 1],
-            highs: [65535, 255, 255, 255, 255, 4095, 4095, 255, 255, 256],
-        },
+        Kind::NoRecord => plain_form(0, 0, [0; 11], [0; 11]),
+        Kind::BusLine => plain_form(
+            10,
+            11,
+            [1, 1, 0, 0, 0, 0, 0, 1, 1, 1, 0],
+            [65535, 255, 255, 255, 255, 4095, 4095, 255, 255, 256, 15],
+        ),
         Kind::IntLine => Form {
+            least: 4,
             count: 4,
             dashes: ROOT_DASHES,
-            lows: [0, 0, 0, 1, 0, 0, 0, 0, 0, 0],
-            highs: [14, 14, 7, 16, 0, 0, 0, 0, 0, 0],
+            lows: [0, 0, 0, 1, 0, 0, 0, 0, 0, 0, 0],
+            highs: [14, 14, 7, 16, 0, 0, 0, 0, 0, 0, 0],
         },
-        Kind::AccLine => Form {
-            count: 9,
-            dashes: none,
-            lows: [0, 0, 0, 1, 1, 0, 0, 0, 1, 0],
-            highs: [31, 14, 7, 16, 1024, 65535, 65535, 4294967295, 4294967295, 0],
-        },
-        Kind::OfferLine => Form {
-            count: 3,
-            dashes: none,
-            lows: [0, 0, 1, 0, 0, 0, 0, 0, 0, 0],
-            highs: [4294967294, 9999999999, 16, 0, 0, 0, 0, 0, 0, 0],
-        },
+        Kind::AccLine => plain_form(9, 9, [0, 0, 0, 1, 1, 0, 0, 0, 1, 0, 0], ACC_HIGHS),
+        Kind::OfferLine => plain_form(
+            3,
+            3,
+            [0, 0, 1, 0, 0, 0, 0, 0, 0, 0, 0],
+            [4294967294, 9999999999, 16, 0, 0, 0, 0, 0, 0, 0, 0],
+        ),
     }
 }
 
 // Each field that is "-" may be "-".
-fn dashes_kept(kind: Kind, dashes: [bool; 10]) -> bool
+fn dashes_kept(kind: Kind, dashes: [bool; 11]) -> bool
     ensures { λ r. ⌜ r ≡ dashesKept kind dashes ⌝ }
 {
     let f = form_of(kind);
@@ -198,11 +217,12 @@ pub fn shape_kept(l: Line) -> bool
     let kind = l.kind;
     let dashes = l.dashes;
     let f = form_of(kind);
-    is_record(kind) & (l.count == f.count) & !l.malformed & dashes_kept(kind, dashes)
+    let counted = (f.least <= l.count) & (l.count <= f.count);
+    is_record(kind) & counted & !l.malformed & dashes_kept(kind, dashes)
 }
 
 // Test 2 of a line, field by field.
-pub fn limits_kept(kind: Kind, values: [u64; 10]) -> bool
+pub fn limits_kept(kind: Kind, values: [u64; 11]) -> bool
     ensures { λ r. ⌜ r ≡ limitsKept kind values ⌝ }
 {
     let f = form_of(kind);

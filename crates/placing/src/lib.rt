@@ -52,7 +52,7 @@ fn accepted(t: Tree) -> TreeRead
     }
 }
 
-fn bus_line(n: u32, t: Tree, v: [u64; 10]) -> TreeRead
+fn bus_line(n: u32, t: Tree, v: [u64; 11]) -> TreeRead
     requires { ⌜ limitsKept Kind.BusLine v ≡ true ⌝ }
     ensures { λ r. ⌜ r ≡ busLine n t v ⌝ }
 {
@@ -89,7 +89,7 @@ fn is_free(t: Tree, j: u8, p: u8) -> bool
     }
 }
 
-fn child_line(n: u32, t: Tree, v: [u64; 10]) -> TreeRead
+fn child_line(n: u32, t: Tree, v: [u64; 11]) -> TreeRead
     requires { ⌜ hasRoom t v ≡ true ⌝ }
     ensures { λ r. ⌜ r ≡ childLine n t v ⌝ }
 {
@@ -118,7 +118,7 @@ fn int_line(n: u32, t: Tree, l: Line) -> TreeRead
     child_line(n, t, v)
 }
 
-fn acc_line(n: u32, t: Tree, v: [u64; 10]) -> TreeRead
+fn acc_line(n: u32, t: Tree, v: [u64; 11]) -> TreeRead
     requires { ⌜ limitsKept Kind.AccLine v ≡ true ⌝ }
     ensures { λ r. ⌜ r ≡ accLine n t v ⌝ }
 {

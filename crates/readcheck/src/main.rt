@@ -1,11 +1,12 @@
-// Runs the readers on edge files and writes the answer to each: for a tree its interconnects and accelerators, for a trace
-// its requests and the sum of their counts, walked from the bytes; or the refusal's number and line.
+// Runs the readers on edge files and writes the answer to each: for a tree its interconnects, accelerators and return
+// delay, for a trace its requests and the sum of their counts, walked from the bytes; or the refusal's number and line.
 //
 // Standard input holds the files, each after a line of three fields: t for a tree or o for a trace, a name, and how many
 // bytes the file has. A trace is read on the first tree of document 01's report. Files near the size limit are made here.
 use libc::STDIN_FILENO;
 use libc::STDOUT_FILENO;
 use lines::FileAnswer;
+use model::Bus;
 use model::Tree;
 use reader::read_tree;
 use text::Field;
@@ -46,6 +47,10 @@ fn show(answer: FileAnswer) -> bool {
     }
 }
 
+fn figure_delay(b: Bus) {
+    figure(b.delay as u64);
+}
+
 fn try_tree(name: &[u8], s: &[u8]) {
     words(name);
     let r = read_tree(s);
@@ -54,6 +59,7 @@ fn try_tree(name: &[u8], s: &[u8]) {
     if show(answer) {
         figure(t.ints as u64);
         figure(t.accs as u64);
+        figure_delay(t.bus);
     }
     words(b"\n");
 }

@@ -23,15 +23,15 @@ use Rattle.reasons.specs.Words.{firstField, fromPart, sentence}
 use Rattle.reasons.specs.Reasons.{fieldBytes, readable, unread, unreadText, malformedText, outside, limitText, fieldText, totalText}
 use Rattle.reasons.specs.Reasons.{valueText, has, foundText, fromLine, slotBefore, causeText}
 
-pub first-field-most : (k : Kind) → firstField k ≤ 30
+pub first-field-most : (k : Kind) → firstField k ≤ 31
 first-field-most NoRecord = omega arith
 first-field-most BusLine = omega arith
 first-field-most IntLine = omega arith
 first-field-most AccLine = omega arith
 first-field-most OfferLine = omega arith
 
--- a field of a record is one of ten
-pub field-below : (i : ℕ) (k : Kind) {F : Form} → F ≡ formOf k → i < F .count → i < 10
+-- a field of a record is one of eleven
+pub field-below : (i : ℕ) (k : Kind) {F : Form} → F ≡ formOf k → i < F .count → i < 11
 field-below i k {F} e h = omega (arith, h, form-count k, ap (λ (G : Form). G .count) e)
 
 module _ (k : Kind) (v : List ℕ) (i : ℕ) (F : Form) (q : i ≡ outside k v) (r : F ≡ formOf k) where

@@ -14,6 +14,7 @@
 -- notNumber f          which sentence tells that the field f may not stand
 -- unreadText k i x     field i of record k, whose bytes are x, may not stand
 -- malformedText k b    the line b of record k has a field that may not stand
+-- countText k c        the line of record k has c fields, which is not the count that it may have
 -- faultText j k c b    sentence j of a wrong shape, of the line b, which has record k and c fields
 -- outside k v          the first of the fields v of record k that is outside its limits; the count of its fields if none is
 -- rangeText x low high x and the limits that it breaks
@@ -36,7 +37,7 @@ use mathlib.Core.Bool.{Bool, true, false, _&&_, not}
 use mathlib.Core.List.{List, [], _++_}
 use lib.Dec.{ltb, eqb}
 use lib.ListN.{length, getD, take}
-use Rattle.folds.specs.Fold.{pick}
+use Rattle.folds.specs.Fold.{pick, within}
 use Rattle.text.specs.declared.Field.{Field}
 use Rattle.text.specs.declared.Field.the-variants.{Malformed, Dash, Number}
 use Rattle.text.specs.Text.{partLength, fieldOf}
@@ -60,7 +61,7 @@ unfoldable pub recordFault : Bool → Line → ℕ
 recordFault t r =
     pick (not (isRecord (r .kind))) 18
     (pick (not (fits t (r .kind))) (pick t 20 19)
-    (pick (eqb (r .count) (formOf (r .kind) .count)) 22
+    (pick (within (formOf (r .kind) .least) (r .count) (formOf (r .kind) .count)) 22
     21))
 
 -- byte 239 begins a byte order mark
@@ -97,11 +98,16 @@ unreadText k i x = fieldName k i ++ quoted x ++ sentence (notNumber (fieldOf x))
 unfoldable pub malformedText : Kind → List ℕ → List ℕ
 malformedText k b = pick (ltb (unread k b) (formOf k .count)) (unreadText k (unread k b) (fieldBytes b (unread k b))) (sentence 1 0 0)
 
+-- a record whose last field may be left out has another sentence
+abbrev pub countText : Kind → ℕ → List ℕ
+countText k c =
+    pick (eqb (formOf k .least) (formOf k .count)) (recordSays k 21 (formOf k .count) c) (recordSays k 34 (formOf k .least) c)
+
 -- the name that no record has, both counts, or the field
 unfoldable pub faultText : ℕ → Kind → ℕ → List ℕ → List ℕ
 faultText j k c b =
     pick (eqb j 18) (quoted (partAt 9 0 b) ++ sentence 18 0 0)
-    (pick (eqb j 21) (recordSays k 21 (formOf k .count) c)
+    (pick (eqb j 21) (countText k c)
     (pick (eqb j 22) (malformedText k b)
     (sentence j 0 0)))
 

@@ -8,7 +8,7 @@
 -- sentence j x y       row j of the sentences, with x and y in it
 -- names                the field names of bus, int, acc and o in the order of the paper, and then the record names
 -- recordRow k          the row of a record's name; firstField k: the row of its first field's name
--- fieldRow k i         the row of the name of field i of record k; past the tenth field a row that is empty
+-- fieldRow k i         the row of the name of field i of record k; past the eleventh field a row that is empty
 -- recordName k         the name of record k
 -- fieldName k i        the names of record k and of its field i
 -- printable b          the byte b, or ? where it is below 32 or above 126
@@ -78,6 +78,8 @@ sentences =
     ++ bytes "the file ends too early: the bus line, int 0, an acc line, or an acc number below the highest is missing\n"
     -- 33: the number 2 without a line
     ++ bytes "above 65536, the limit of a file's bytes and of SLOTS\n"
+    -- 34: a wrong count of fields, said of a record whose last field may be left out
+    ++ bytes " has # fields, or one more for the return delay, and # were found\n"
 
 -- # is byte 35
 abbrev pub marked : ℕ → ℕ → List ℕ
@@ -92,28 +94,28 @@ sentence j x y = filled (partAt 10 j sentences) x y
 
 abbrev pub names : List ℕ
 names =
-    bytes "P\ntA\ndA\ndD\ndB\npR\npW\ntD\ntB\nB\n"
+    bytes "P\ntA\ndA\ndD\ndB\npR\npW\ntD\ntB\nB\nr\n"
     ++ bytes "number\nparent\nport\ng\n"
     ++ bytes "number\ninterconnect\nport\nphi\nbudget\nNr\nNw\nC\nT\n"
     ++ bytes "slot\naccelerator\ncount\n"
     ++ bytes "bus\nint\nacc\no\n"
 
 abbrev pub recordRow : Kind → ℕ
-recordRow NoRecord = 30
-recordRow BusLine = 26
-recordRow IntLine = 27
-recordRow AccLine = 28
-recordRow OfferLine = 29
+recordRow NoRecord = 31
+recordRow BusLine = 27
+recordRow IntLine = 28
+recordRow AccLine = 29
+recordRow OfferLine = 30
 
 abbrev pub firstField : Kind → ℕ
-firstField NoRecord = 30
+firstField NoRecord = 31
 firstField BusLine = 0
-firstField IntLine = 10
-firstField AccLine = 14
-firstField OfferLine = 23
+firstField IntLine = 11
+firstField AccLine = 15
+firstField OfferLine = 24
 
 abbrev pub fieldRow : Kind → ℕ → ℕ
-fieldRow k i = pick (ltb i 10) (firstField k + i) 30
+fieldRow k i = pick (ltb i 11) (firstField k + i) 31
 
 abbrev pub recordName : Kind → List ℕ
 recordName k = partAt 10 (recordRow k) names

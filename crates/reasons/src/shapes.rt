@@ -18,7 +18,7 @@ ghost use lib.ListN.{getD};
 ghost use Rattle.put.specs.Put.{Put};
 ghost use Rattle.lines.specs.LineText.{mayStand};
 ghost use Rattle.reasons.specs.Words.{quoted, sentence};
-ghost use Rattle.reasons.specs.Reasons.{has as hasByte, fits as fitsFile, recordFault, shapeRow, unread, notNumber, unreadText, malformedText, faultText};
+ghost use Rattle.reasons.specs.Reasons.{has as hasByte, fits as fitsFile, recordFault, shapeRow, unread, notNumber, unreadText, malformedText, countText, faultText};
 
 // Whether the byte stands in the line.
 fn has(b: u8, l: &[u8]) -> bool
@@ -64,7 +64,7 @@ fn record_fault(trace: bool, r: Line) -> usize
         }
         return 19;
     }
-    if r.count == f.count {
+    if (f.least <= r.count) & (r.count <= f.count) {
         return 22;
     }
     21
@@ -159,16 +159,26 @@ fn put_no_record(out: &mut [u8], at: usize, name: &[u8]) -> usize
     put_sentence(out, next, 18, 0, 0)
 }
 
+// A line of a record has this count of fields, which is not the count that it may have.
+fn put_count(out: &mut [u8], at: usize, kind: Kind, count: usize) -> usize
+    ensures { λ r. ⌜ Put 40134 (now (out .entry)) at (countText kind count) (now (out .exit)) r ⌝ }
+{
+    let f = form_of(kind);
+    if f.least == f.count {
+        return put_of_record(out, at, kind, 21, f.count as u64, count as u64);
+    }
+    put_of_record(out, at, kind, 34, f.least as u64, count as u64)
+}
+
 // Sentence j of a wrong shape, of the bytes l, which have this record and this count of fields.
 pub fn put_fault(out: &mut [u8], at: usize, j: usize, kind: Kind, count: usize, l: &[u8]) -> usize
     ensures { λ r. ⌜ Put 40322 (now (out .entry)) at (faultText j kind count (now (l .entry))) (now (out .exit)) r ⌝ }
 {
-    let f = form_of(kind);
     if j == 18 {
         return put_no_record(out, at, part(l, 9, 0));
     }
     if j == 21 {
-        return put_of_record(out, at, kind, 21, f.count as u64, count as u64);
+        return put_count(out, at, kind, count);
     }
     if j == 22 {
         return put_malformed(out, at, kind, l);

@@ -13,7 +13,7 @@ ghost use Rattle.put.specs.Put.{Put};
 ghost use Rattle.reasons.specs.Reasons.{outside, rangeText, limitText, totalText, valueText, onPort, isInt, orderRow, numberRow, lineSays};
 
 // The first field that is outside its limits, or the count of the fields.
-fn first_outside(kind: Kind, values: [u64; 10]) -> usize
+fn first_outside(kind: Kind, values: [u64; 11]) -> usize
     ensures { λ r. ⌜ r ≡ outside kind values ⌝ }
 {
     let f = form_of(kind);
@@ -55,7 +55,7 @@ fn put_limit(
 }
 
 // A total over its limit.
-fn put_total(out: &mut [u8], at: usize, kind: Kind, values: [u64; 10]) -> usize
+fn put_total(out: &mut [u8], at: usize, kind: Kind, values: [u64; 11]) -> usize
     ensures { λ r. ⌜ Put 40300 (now (out .entry)) at (totalText kind values) (now (out .exit)) r ⌝ }
 {
     if fits(true, kind) {
@@ -65,7 +65,7 @@ fn put_total(out: &mut [u8], at: usize, kind: Kind, values: [u64; 10]) -> usize
 }
 
 // A refusal by 2: the field that is outside its limits, or a total.
-fn put_value(out: &mut [u8], at: usize, kind: Kind, values: [u64; 10]) -> usize
+fn put_value(out: &mut [u8], at: usize, kind: Kind, values: [u64; 11]) -> usize
     ensures { λ r. ⌜ Put 40300 (now (out .entry)) at (valueText kind values) (now (out .exit)) r ⌝ }
 {
     let i = first_outside(kind, values);
@@ -131,7 +131,7 @@ pub fn put_line(
     number: u8,
     before: u64,
     kind: Kind,
-    values: [u64; 10],
+    values: [u64; 11],
 ) -> usize
     ensures { λ r. ⌜ Put 40300 (now (out .entry)) at (lineSays number before kind values) (now (out .exit)) r ⌝ }
 {

@@ -87,14 +87,15 @@ pub fn put_sentence(out: &mut [u8], at: usize, j: usize, x: u64, y: u64) -> usiz
         parent and port are \"-\" on int 0 alone, and a parent is smaller than its child\n\
         \x20#: wrong order: acc lines come after the int lines, each number once, on an interconnect that an int line names\n\
         the file ends too early: the bus line, int 0, an acc line, or an acc number below the highest is missing\n\
-        above 65536, the limit of a file's bytes and of SLOTS\n";
+        above 65536, the limit of a file's bytes and of SLOTS\n\
+        \x20has # fields, or one more for the return delay, and # were found\n";
     put_filled(out, at, part(sentences, 10, j), x, y)
 }
 
 fn put_name(out: &mut [u8], at: usize, k: usize) -> usize
-    ensures { λ r. ⌜ Put 132 (now (out .entry)) at (partAt 10 k names) (now (out .exit)) r ⌝ }
+    ensures { λ r. ⌜ Put 134 (now (out .entry)) at (partAt 10 k names) (now (out .exit)) r ⌝ }
 {
-    let names = b"P\ntA\ndA\ndD\ndB\npR\npW\ntD\ntB\nB\n\
+    let names = b"P\ntA\ndA\ndD\ndB\npR\npW\ntD\ntB\nB\nr\n\
         number\nparent\nport\ng\n\
         number\ninterconnect\nport\nphi\nbudget\nNr\nNw\nC\nT\n\
         slot\naccelerator\ncount\n\
@@ -106,11 +107,11 @@ fn record_row(kind: Kind) -> usize
     ensures { λ r. ⌜ r ≡ recordRow kind ⌝ }
 {
     match kind {
-        Kind::NoRecord => 30,
-        Kind::BusLine => 26,
-        Kind::IntLine => 27,
-        Kind::AccLine => 28,
-        Kind::OfferLine => 29,
+        Kind::NoRecord => 31,
+        Kind::BusLine => 27,
+        Kind::IntLine => 28,
+        Kind::AccLine => 29,
+        Kind::OfferLine => 30,
     }
 }
 
@@ -118,25 +119,25 @@ fn first_field(kind: Kind) -> usize
     ensures { λ r. ⌜ r ≡ firstField kind ⌝ }
 {
     match kind {
-        Kind::NoRecord => 30,
+        Kind::NoRecord => 31,
         Kind::BusLine => 0,
-        Kind::IntLine => 10,
-        Kind::AccLine => 14,
-        Kind::OfferLine => 23,
+        Kind::IntLine => 11,
+        Kind::AccLine => 15,
+        Kind::OfferLine => 24,
     }
 }
 
 fn field_row(kind: Kind, i: usize) -> usize
     ensures { λ r. ⌜ r ≡ fieldRow kind i ⌝ }
 {
-    if i < 10 {
+    if i < 11 {
         return first_field(kind) + i;
     }
-    30
+    31
 }
 
 fn put_record(out: &mut [u8], at: usize, kind: Kind) -> usize
-    ensures { λ r. ⌜ Put 132 (now (out .entry)) at (recordName kind) (now (out .exit)) r ⌝ }
+    ensures { λ r. ⌜ Put 134 (now (out .entry)) at (recordName kind) (now (out .exit)) r ⌝ }
 {
     put_name(out, at, record_row(kind))
 }
@@ -194,7 +195,7 @@ pub fn put_quoted(out: &mut [u8], at: usize, s: &[u8]) -> usize
 
 // Sentence j, said of a record.
 pub fn put_of_record(out: &mut [u8], at: usize, kind: Kind, j: usize, x: u64, y: u64) -> usize
-    ensures { λ r. ⌜ Put 40132 (now (out .entry)) at (recordSays kind j x y) (now (out .exit)) r ⌝ }
+    ensures { λ r. ⌜ Put 40134 (now (out .entry)) at (recordSays kind j x y) (now (out .exit)) r ⌝ }
 {
     let next = put_record(out, at, kind);
     put_sentence(out, next, j, x, y)

@@ -32,7 +32,7 @@ use Rattle.lines.specs.declared.Kind.the-variants.{BusLine, IntLine, AccLine}
 use Rattle.lines.specs.Lines.{limitsKept}
 
 abbrev pub noBus : Bus
-noBus = record { window = 0; ta = 0; da = 0; dd = 0; db = 0; pr = 0; pw = 0; td = 0; tb = 0; burst = 0 }
+noBus = record { window = 0; ta = 0; da = 0; dd = 0; db = 0; pr = 0; pw = 0; td = 0; tb = 0; burst = 0; delay = 0 }
 
 abbrev pub emptyTree : Tree
 emptyTree =
@@ -57,6 +57,7 @@ busOf v =
       td = getD v 7 0;
       tb = getD v 8 0;
       burst = getD v 9 0;
+      delay = getD v 10 0;
     }
 
 abbrev pub withPort : Tree → ℕ → ℕ → Port → Tree

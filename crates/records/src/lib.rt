@@ -30,6 +30,7 @@ pub fn empty_tree() -> Tree
         td: 0,
         tb: 0,
         burst: 0,
+        delay: 0,
     };
     let ports = [PortCell { port: Port::Empty }; 8];
     let interconnect = Interconnect {
@@ -57,7 +58,7 @@ pub fn empty_tree() -> Tree
     }
 }
 
-fn bus_of(v: [u64; 10]) -> Bus
+fn bus_of(v: [u64; 11]) -> Bus
     requires { ⌜ limitsKept Kind.BusLine v ≡ true ⌝ }
     ensures { λ r. ⌜ r ≡ busOf v ⌝ }
 {
@@ -72,11 +73,12 @@ fn bus_of(v: [u64; 10]) -> Bus
         td: v[7] as u8,
         tb: v[8] as u8,
         burst: v[9] as u16,
+        delay: v[10] as u8,
     }
 }
 
 // The fields v of a bus line stored.
-pub fn store_bus(t: Tree, v: [u64; 10]) -> Tree
+pub fn store_bus(t: Tree, v: [u64; 11]) -> Tree
     ensures { λ r. ⌜ r ≡ busStored t v ⌝ }
 {
     if !limits_kept(Kind::BusLine, v) {
@@ -118,14 +120,14 @@ fn with_interconnect(t: Tree, j: u8, parent: u8, port: u8, g: u8) -> Tree
     r
 }
 
-fn has_room(t: Tree, v: [u64; 10]) -> bool
+fn has_room(t: Tree, v: [u64; 11]) -> bool
     ensures { λ r. ⌜ r ≡ hasRoom t v ⌝ }
 {
     limits_kept(Kind::IntLine, v) & (t.ints < 15)
 }
 
 // The fields v of the root's int line stored: number, "-", "-", g.
-pub fn store_root(t: Tree, v: [u64; 10]) -> Tree
+pub fn store_root(t: Tree, v: [u64; 11]) -> Tree
     ensures { λ r. ⌜ r ≡ rootStored t v ⌝ }
 {
     if !has_room(t, v) {
@@ -135,7 +137,7 @@ pub fn store_root(t: Tree, v: [u64; 10]) -> Tree
 }
 
 // The fields v of another int line stored: number, parent, port, g.
-pub fn store_child(t: Tree, v: [u64; 10]) -> Tree
+pub fn store_child(t: Tree, v: [u64; 11]) -> Tree
     ensures { λ r. ⌜ r ≡ childStored t v ⌝ }
 {
     if !has_room(t, v) {
@@ -148,7 +150,7 @@ pub fn store_child(t: Tree, v: [u64; 10]) -> Tree
     with_interconnect(above, j, parent, port, v[3] as u8)
 }
 
-fn acc_of(v: [u64; 10]) -> Accelerator
+fn acc_of(v: [u64; 11]) -> Accelerator
     requires { ⌜ limitsKept Kind.AccLine v ≡ true ⌝ }
     ensures { λ r. ⌜ r ≡ accOf v ⌝ }
 {
@@ -174,7 +176,7 @@ fn larger(a: u8, b: u8) -> u8
 }
 
 // The fields v of an acc line stored.
-pub fn store_acc(t: Tree, v: [u64; 10]) -> Tree
+pub fn store_acc(t: Tree, v: [u64; 11]) -> Tree
     ensures { λ r. ⌜ r ≡ accStored t v ⌝ }
 {
     if !limits_kept(Kind::AccLine, v) {

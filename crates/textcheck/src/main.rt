@@ -304,6 +304,7 @@ fn say_shapes() {
     say(false, b"o\t0\t0\t1\n", 1, 1);
     say(true, b"int\t0\t-\t-\t1\n", 1, 1);
     say(false, b"bus\n", 1, 1);
+    say(false, b"bus\t8\t1\t4\t2\t2\t30\t25\t1\t1\t16\t2\t3\n", 1, 1);
     say(false, b"int\t0\t-\t-\n", 1, 1);
     say(false, b"\nacc\t0\t0\t0\t4\t2\t10\t5\t1000\n", 1, 2);
     say(true, b"o\t0\t0\t1\t\n", 1, 1);
@@ -314,6 +315,7 @@ fn say_shapes() {
 fn say_fields() {
     say(false, b"\nacc\t0\t0\t0\tx7\t2\t10\t5\t1000\t2000\n", 1, 2);
     say(false, b"\nacc\t0\t0\t0\t4\t2\t10\t5\t1000\t-\n", 1, 2);
+    say(false, b"bus\t8\t1\t4\t2\t2\t30\t25\t1\t1\t16\t\n", 1, 1);
     say(false, b"int\t-\t-\t-\t1\n", 1, 1);
     say(false, b"int\t0\t-\t-1\t1\n", 1, 1);
     say(true, b"o\t0\t01\t1\n", 1, 1);
@@ -334,6 +336,7 @@ fn say_bus_limits() {
     say(false, b"\nbus\t8\t1\t4\t2\t2\t30\t25\t0\t1\t16\n", 2, 2);
     say(false, b"\nbus\t8\t1\t4\t2\t2\t30\t25\t1\t0\t16\n", 2, 2);
     say(false, b"\nbus\t8\t1\t4\t2\t2\t30\t25\t1\t1\t257\n", 2, 2);
+    say(false, b"\nbus\t8\t1\t4\t2\t2\t30\t25\t1\t1\t16\t16\n", 2, 2);
 }
 
 fn say_int_limits() {

@@ -20,8 +20,8 @@ use Rattle.folds.proofs.Folds.{picked, passed, both, clash}
 use Rattle.lines.specs.declared.Kind.{Kind}
 use Rattle.lines.specs.declared.Kind.the-variants.{NoRecord, BusLine, IntLine, AccLine, OfferLine}
 use Rattle.lines.specs.declared.Line.{Line}
-use Rattle.lines.specs.Lines.{nameOf, kindOf, named, push, pushed, lineWith, lineFrom, lineOf, formOf, valueAt, shaped, limitsKept, inTrace}
-use Rattle.lines.proofs.Back.{pushed-kind, pushed-count, shape-tests, name-exactly}
+use Rattle.lines.specs.Lines.{nameOf, kindOf, named, push, pushed, lineWith, lineFrom, lineOf, valueAt, shaped, limitsKept, inTrace}
+use Rattle.lines.proofs.Back.{pushed-kind, pushed-count, shape-count, name-exactly}
 use Rattle.trace.specs.declared.NumberAt.the-variants.{NoNumber, NumberTo}
 use Rattle.trace.specs.declared.OfferText.the-variants.{Unshaped, Shaped}
 use Rattle.trace.specs.OfferText.{numberIn, numberAt, shapedText, offerText, offerOf}
@@ -270,7 +270,7 @@ offer-fields name fs e =
     let b = both (inTrace (l .kind)) (shaped l) e in
     let k = inTrace-says (l .kind) (b .0) in
     let n = sym (pushed-kind (named (kindOf name)) (map fieldOf fs)) ∙ k in
-    let c = shape-tests l .0 (b .1) .many ∙ ap (λ (x : Kind). formOf x .count) k in
+    let c = shape-count l OfferLine k (b .1) in
     three-parts name fs (omega (arith, c, pushed-count (named (kindOf name)) (map fieldOf fs), mapped fieldOf fs))
     (subst (λ (x : Kind). shaped (lineWith x (map fieldOf fs)) ≡ true) n (b .1)) (name-says name n)
 

@@ -100,7 +100,7 @@ fn offer_at(s: &[u8], at: usize) -> OfferText
     OfferText::Shaped(slot, accelerator, count, next)
 }
 
-fn request_of(v: [u64; 10]) -> Request
+fn request_of(v: [u64; 11]) -> Request
     requires { ⌜ (limitsKept Kind.OfferLine v ≡ true) × (getD v 1 0 < 256) ⌝ }
     ensures { λ r. ⌜ r ≡ requestOf v ⌝ }
 {
@@ -129,7 +129,7 @@ fn offer_line(
     requires { ⌜ accs ≤ 32 ⌝ }
     ensures { λ r. ⌜ r ≡ offerLine accs last (now (totals .entry)) (offerOf slot accelerator count) ⌝ }
 {
-    let v = [slot, accelerator, count, 0, 0, 0, 0, 0, 0, 0];
+    let v = [slot, accelerator, count, 0, 0, 0, 0, 0, 0, 0, 0];
     if !limits_kept(Kind::OfferLine, v) {
         return OfferRead::NoOffer(Refusal::Limit);
     }
@@ -202,7 +202,7 @@ pub fn request_at(s: &[u8], at: usize) -> NextRequest
     let OfferText::Shaped(slot, accelerator, count, next) = l else {
         return NextRequest::Done;
     };
-    let v = [slot, accelerator, count, 0, 0, 0, 0, 0, 0, 0];
+    let v = [slot, accelerator, count, 0, 0, 0, 0, 0, 0, 0, 0];
     if !(limits_kept(Kind::OfferLine, v) & (accelerator < 32)) {
         return NextRequest::Done;
     }

@@ -1,4 +1,4 @@
--- `with_field` meets its contract: each arm stores its own kind of field, and past the tenth a store changes nothing.
+-- `with_field` meets its contract: each arm stores its own kind of field, and past the eleventh a store changes nothing.
 use mathlib.Core.Path.{_≡_, ap, sym, _∙_}
 use native.Mathlib.Omega.{arith}
 use lib.ListN.{length}
@@ -19,7 +19,7 @@ returns-2 c =
 returns-3 : tie.Need-returns-3
 returns-3 c =
     let at-args = c .before .before .before in
-    dash-past _ (let e : length (at-args .args .l .dashes) ≡ 10 = search (needs, long) in omega arith) ∙ sym (ap (push _) (c .before .enum-told2 .given .1))
+    dash-past _ (let e : length (at-args .args .l .dashes) ≡ 11 = search (needs, long) in omega arith) ∙ sym (ap (push _) (c .before .enum-told2 .given .1))
 
 returns-4 : tie.Need-returns-4
 returns-4 c =
@@ -28,7 +28,7 @@ returns-4 c =
 returns-5 : tie.Need-returns-5
 returns-5 c =
     let at-args = c .before .before .before .before in
-    number-past _ _ (let e : length (at-args .args .l .values) ≡ 10 = search needs in omega arith) ∙ sym (ap (push _) (c .before .before .f .given .1))
+    number-past _ _ (let e : length (at-args .args .l .values) ≡ 11 = search needs in omega arith) ∙ sym (ap (push _) (c .before .before .f .given .1))
 
 pub with-field-spec : {M : Type 1} → statement M
 with-field-spec =

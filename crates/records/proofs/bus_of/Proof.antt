@@ -37,5 +37,11 @@ cast-t38 c = omega (arith, most BusLine (c .args .t1) (c .pre) 8 (lit< tt))
 cast-t42 : tie.Need-cast-t42
 cast-t42 c = omega (arith, most BusLine (c .args .t1) (c .pre) 9 (lit< tt))
 
+cast-t46 : tie.Need-cast-t46
+cast-t46 c = omega (arith, most BusLine (c .args .t1) (c .pre) 10 (lit< tt))
+
 pub bus-of-spec : {M : Type 1} → statement M
-bus-of-spec = tie.close (tie.spec (λ c. search needs) cast-t6 (λ c. search needs) cast-t10 (λ c. search needs) cast-t14 (λ c. search needs) cast-t18 (λ c. search needs) cast-t22 (λ c. search needs) cast-t26 (λ c. search needs) cast-t30 (λ c. search needs) cast-t34 (λ c. search needs) cast-t38 (λ c. search needs) cast-t42 (λ c. search needs))
+bus-of-spec =
+    tie.close (tie.spec (λ c. search needs) cast-t6 (λ c. search needs) cast-t10 (λ c. search needs) cast-t14 (λ c. search needs) cast-t18
+    (λ c. search needs) cast-t22 (λ c. search needs) cast-t26 (λ c. search needs) cast-t30 (λ c. search needs) cast-t34 (λ c. search needs) cast-t38
+    (λ c. search needs) cast-t42 (λ c. search needs) cast-t46 (λ c. search needs))

@@ -13,13 +13,13 @@ use Rattle.reasons.proofs.shapes.first_unread.Statement.{statement}
 use Rattle.reasons.proofs.shapes.first_unread.Tie as tie
 
 abbrev Inv-loop : tie.InvT-loop
-Inv-loop l f i₀ i = (f .count ≤ 10) × (i ≤ f .count) × (firstFailing 0 (f .count) (readable f l) ≡ firstFailing i (f .count - i) (readable f l))
+Inv-loop l f i₀ i = (f .count ≤ 11) × (i ≤ f .count) × (firstFailing 0 (f .count) (readable f l) ≡ firstFailing i (f .count - i) (readable f l))
 
 abbrev μ-loop : tie.MeasureT-loop
 μ-loop l f i₀ i = f .count - i
 
 loop-holds : tie.Need-loop-holds Inv-loop μ-loop
-loop-holds c = (subst (λ (f : Form). f .count ≤ 10) (sym (c .form-of .ensures)) (form-count (c .before .before .args .kind)), omega arith, failing-start _ _)
+loop-holds c = (subst (λ (f : Form). f .count ≤ 11) (sym (c .form-of .ensures)) (form-count (c .before .before .args .kind)), omega arith, failing-start _ _)
 
 returns : tie.Need-returns Inv-loop μ-loop
 returns c =

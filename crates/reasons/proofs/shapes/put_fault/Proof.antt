@@ -7,8 +7,7 @@ use borrow.Author.Tests.{eq-eqb, ne-eqb}
 use Rattle.folds.proofs.Folds.{picked, passed}
 use Rattle.put.proofs.Puts.{put-most, put-as}
 use mathlib.Core.List.{List, _++_}
-use Rattle.lines.specs.declared.Form.{Form}
-use Rattle.reasons.specs.Words.{sentence, quoted, recordSays}
+use Rattle.reasons.specs.Words.{sentence, quoted}
 use Rattle.reasons.specs.Reasons.{faultText}
 use Rattle.reasons.proofs.shapes.put_fault.Statement.{statement}
 use Rattle.reasons.proofs.shapes.put_fault.Tie as tie
@@ -25,13 +24,10 @@ returns c =
 returns-2 : tie.Need-returns-2
 unfolding faultText
 returns-2 c =
-    let args = c .before .before .before .before .before .before .before .before .before .args in
-    let form-of = c .before .before .before .before .before .before .form-of in
     let if1 = c .before .before .before .before .before .if1 in
     let if2 = c .before .before .before .before .if2 in
-    let put-of-record = c .before .before .put-of-record in
-    put-most (omega arith) (put-as (ap (λ (f : Form). recordSays (args .kind) 21 (f .count) (args .count)) (form-of .ensures)
-    ∙ sym (passed _ _ _ (ne-eqb _ _ (if1 .left)) ∙ picked _ _ _ (eq-eqb _ _ (if2 .taken)))) (put-of-record .ensures))
+    let put-count = c .before .before .put-count in
+    put-most (omega arith) (put-as (sym (passed _ _ _ (ne-eqb _ _ (if1 .left)) ∙ picked _ _ _ (eq-eqb _ _ (if2 .taken)))) (put-count .ensures))
 
 returns-3 : tie.Need-returns-3
 unfolding faultText
@@ -55,5 +51,5 @@ returns-4 c =
 
 pub put-fault-spec : {M : Type 1} → statement M
 put-fault-spec =
-    tie.close (tie.spec (λ c κs. search needs) (λ c κs. search needs) (λ c κs. search needs) (λ c. search needs) returns (λ c κs. search needs)
+    tie.close (tie.spec (λ c κs. search needs) (λ c κs. search needs) (λ c. search needs) returns (λ c κs. search needs)
     (λ c. search needs) returns-2 (λ c κs. search needs) (λ c. search needs) returns-3 (λ c κs. search needs) (λ c. search needs) returns-4)

@@ -2,7 +2,7 @@
 use borrow.Author.Needs.{needs}
 use mathlib.Core.Path.{ap, sym, _∙_}
 use mathlib.Core.Bool.{not}
-use borrow.Author.Tests.{eq-eqb, ne-eqb}
+use Rattle.folds.specs.Fold.{within}
 use Rattle.folds.proofs.Folds.{picked, passed}
 use Rattle.lines.specs.declared.Form.{Form}
 use Rattle.reasons.specs.Reasons.{recordFault}
@@ -36,25 +36,26 @@ returns-3 c =
 returns-4 : tie.Need-returns-4
 unfolding recordFault
 returns-4 c =
-    let form-of = c .before .before .before .before .before .before .before .form-of in
-    let is-record = c .before .before .before .before .before .before .is-record in
-    let if1 = c .before .before .before .before .before .if1 in
-    let fits2 = c .before .before .before .before .fits2 in
-    let if2 = c .before .before .before .if2 in
-    sym (passed _ _ _ (ap not (sym (is-record .ensures)) ∙ if1 .left)
-    ∙ passed _ _ _ (ap not (sym (fits2 .ensures)) ∙ if2 .left) ∙ picked _ _ _ (eq-eqb _ _ (c .if4 .taken ∙ ap (λ (f : Form). f .count) (form-of .ensures))))
+    let form-of = c .before .before .before .before .before .before .before .before .before .form-of in
+    let is-record = c .before .before .before .before .before .before .before .before .is-record in
+    let if1 = c .before .before .before .before .before .before .before .if1 in
+    let fits2 = c .before .before .before .before .before .before .fits2 in
+    let if2 = c .before .before .before .before .before .if2 in
+    let r = c .before .before .before .before .before .before .before .before .before .before .args .r in
+    sym (passed _ _ _ (ap not (sym (is-record .ensures)) ∙ if1 .left) ∙ passed _ _ _ (ap not (sym (fits2 .ensures)) ∙ if2 .left)
+    ∙ picked _ _ _ (ap (λ (f : Form). within (f .least) (r .count) (f .count)) (sym (form-of .ensures)) ∙ c .if4 .taken))
 
 returns-5 : tie.Need-returns-5
 unfolding recordFault
 returns-5 c =
-    let form-of = c .before .before .before .before .before .before .before .form-of in
-    let is-record = c .before .before .before .before .before .before .is-record in
-    let if1 = c .before .before .before .before .before .if1 in
-    let fits2 = c .before .before .before .before .fits2 in
-    let if2 = c .before .before .before .if2 in
-    sym (passed _ _ _ (ap not (sym (is-record .ensures)) ∙ if1 .left)
-    ∙ passed _ _ _ (ap not (sym (fits2 .ensures)) ∙ if2 .left) ∙ passed _ _ _ (ne-eqb _ _ (λ e. c .if4 .left (e
-    ∙ sym (ap (λ (f : Form). f .count) (form-of .ensures))))))
+    let form-of = c .before .before .before .before .before .before .before .before .before .form-of in
+    let is-record = c .before .before .before .before .before .before .before .before .is-record in
+    let if1 = c .before .before .before .before .before .before .before .if1 in
+    let fits2 = c .before .before .before .before .before .before .fits2 in
+    let if2 = c .before .before .before .before .before .if2 in
+    let r = c .before .before .before .before .before .before .before .before .before .before .args .r in
+    sym (passed _ _ _ (ap not (sym (is-record .ensures)) ∙ if1 .left) ∙ passed _ _ _ (ap not (sym (fits2 .ensures)) ∙ if2 .left)
+    ∙ passed _ _ _ (ap (λ (f : Form). within (f .least) (r .count) (f .count)) (sym (form-of .ensures)) ∙ c .if4 .left))
 
 pub record-fault-spec : {M : Type 1} → statement M
 record-fault-spec =

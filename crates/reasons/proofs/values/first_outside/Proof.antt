@@ -16,13 +16,13 @@ use Rattle.reasons.proofs.values.first_outside.Tie as tie
 
 abbrev Inv-loop : tie.InvT-loop
 Inv-loop values f i₀ i =
-    (f .count ≤ 10) × (i ≤ f .count) × (firstFailing 0 (f .count) (limitKept f values) ≡ firstFailing i (f .count - i) (limitKept f values))
+    (f .count ≤ 11) × (i ≤ f .count) × (firstFailing 0 (f .count) (limitKept f values) ≡ firstFailing i (f .count - i) (limitKept f values))
 
 abbrev μ-loop : tie.MeasureT-loop
 μ-loop values f i₀ i = f .count - i
 
 loop-holds : tie.Need-loop-holds Inv-loop μ-loop
-loop-holds c = (subst (λ (f : Form). f .count ≤ 10) (sym (c .form-of .ensures)) (form-count (c .before .args .kind)), omega arith, failing-start _ _)
+loop-holds c = (subst (λ (f : Form). f .count ≤ 11) (sym (c .form-of .ensures)) (form-count (c .before .args .kind)), omega arith, failing-start _ _)
 
 returns : tie.Need-returns Inv-loop μ-loop
 returns c =
