@@ -10,7 +10,6 @@ use lib.Seq.{getD-take, getD-drop, take-set-le, take-set-lt, drop-set-add, drop-
 use borrow.Author.Tests.{lt-ltb, le-ltb}
 use Rattle.folds.specs.Fold.{pick}
 use Rattle.folds.proofs.Folds.{picked, passed}
-use Rattle.model.specs.Tree.{outstandingBy}
 use Rattle.machine.specs.declared.OfferAnswer.{OfferAnswer}
 use Rattle.machine.specs.declared.OfferAnswer.the-variants.{Admitted}
 use Rattle.machine.specs.Machine.{admitted, refused, limitsAnswer, onAdmitted}
@@ -19,7 +18,7 @@ use Rattle.machine.proofs.Steps.{limits-room}
 use Rattle.counts.specs.Table.{limits, budgets, parentPorts}
 use Rattle.counts.specs.Counts.{lives, up, raised, opened}
 use Rattle.admit.proofs.Kept.{first-kept, second-kept}
-use Rattle.admit.specs.Admitting.{Arrays, arrays, waitings, admitteds, helds, arraysOf, answerOn, admitOn, offeredOn, offersFor, offersOf, offersBelow, offersBefore}
+use Rattle.admit.specs.Admitting.{Arrays, arrays, outstandings, admitteds, helds, arraysOf, answerOn, admitOn, offeredOn, offersFor, offersOf, offersBelow, offersBefore}
 
 -- one offer, by its answer
 module _ (w : List ℕ) (a : ℕ) (d : Arrays) where
@@ -68,13 +67,13 @@ module _ (w : List ℕ) (a : ℕ) (d : Arrays) where
   offers-known h = passed _ _ _ (le-ltb 31 a (omega arith))
 
 -- arrays are the same by their parts
-pub arrays-same : (d e : Arrays) → d .waiting ≡ e .waiting → d .admitted ≡ e .admitted → d .held ≡ e .held
+pub arrays-same : (d e : Arrays) → d .outstanding ≡ e .outstanding → d .admitted ≡ e .admitted → d .held ≡ e .held
     → d .under ≡ e .under → d .live ≡ e .live → d .last ≡ e .last → d .allowance ≡ e .allowance → d ≡ e
 arrays-same d e p q r u v l o =
     ap₂ (λ (x y : List ℕ). arrays x y (d .held) (d .under) (d .live) (d .last) (d .allowance)) p q
-    ∙ ap₂ (λ (x y : List ℕ). arrays (e .waiting) (e .admitted) x y (d .live) (d .last) (d .allowance)) r u
-    ∙ ap₂ (λ (x y : List ℕ). arrays (e .waiting) (e .admitted) (e .held) (e .under) x y (d .allowance)) v l
-    ∙ ap (arrays (e .waiting) (e .admitted) (e .held) (e .under) (e .live) (e .last)) o
+    ∙ ap₂ (λ (x y : List ℕ). arrays (e .outstanding) (e .admitted) x y (d .live) (d .last) (d .allowance)) r u
+    ∙ ap₂ (λ (x y : List ℕ). arrays (e .outstanding) (e .admitted) (e .held) (e .under) x y (d .allowance)) v l
+    ∙ ap (arrays (e .outstanding) (e .admitted) (e .held) (e .under) (e .live) (e .last)) o
 
 -- an admission is below both limits
 pub admits-room : (l o m n : ℕ) (x : OfferAnswer) → offerMeans x ≡ limitsAnswer l o m n → x ≡ Admitted → (o < l) × (n < m)
@@ -82,8 +81,8 @@ admits-room l o m n x e f = limits-room l o m n (sym e ∙ ap offerMeans f)
 
 -- the counts of accelerator a, by the parts of the arrays
 module _ (b : List ℕ) (a : ℕ) (h : a < 32) where
-  reads-waiting : getD b a 0 ≡ getD (waitings b) a 0
-  reads-waiting = sym (getD-take 32 b a 0 h)
+  reads-outstanding : getD b a 0 ≡ getD (outstandings b) a 0
+  reads-outstanding = sym (getD-take 32 b a 0 h)
 
   reads-admitted : getD b (32 + a) 0 ≡ getD (admitteds b) a 0
   reads-admitted = sym (getD-take 32 (drop 32 b) a 0 h ∙ getD-drop 32 b a 0)
@@ -92,19 +91,19 @@ module _ (b : List ℕ) (a : ℕ) (h : a < 32) where
   reads-held = sym (getD-drop 64 b a 0)
 
   -- the answer by what is read from the arrays
-  pub reads-answer : (w c r : List ℕ) (l o m : ℕ) → l ≡ getD w (182 + a) 0 → o ≡ outstandingBy (getD b a 0) → m ≡ getD w (214 + a) 0
-      → limitsAnswer l o m (getD b (32 + a) 0) ≡ answerOn w a (arraysOf b c r)
-  reads-answer w c r l o m e g f =
-      ap₂ (λ (x y : ℕ). limitsAnswer x o y (getD b (32 + a) 0)) (e ∙ sym (getD-drop 182 w a 0)) (f ∙ sym (getD-drop 214 w a 0))
-      ∙ ap₂ (λ (x y : ℕ). limitsAnswer (getD (limits w) a 0) x (getD (budgets w) a 0) y) (g ∙ ap outstandingBy reads-waiting) reads-admitted
+  pub reads-answer : (w c r : List ℕ) (l m : ℕ) → l ≡ getD w (182 + a) 0 → m ≡ getD w (214 + a) 0
+      → limitsAnswer l (getD b a 0) m (getD b (32 + a) 0) ≡ answerOn w a (arraysOf b c r)
+  reads-answer w c r l m e f =
+      ap₂ (λ (x y : ℕ). limitsAnswer x (getD b a 0) y (getD b (32 + a) 0)) (e ∙ sym (getD-drop 182 w a 0)) (f ∙ sym (getD-drop 214 w a 0))
+      ∙ ap₂ (λ (x y : ℕ). limitsAnswer (getD (limits w) a 0) x (getD (budgets w) a 0) y) reads-outstanding reads-admitted
 
   -- the arrays stored to, where one is admitted
   module _ (x y z : ℕ) where
     abbrev stored : List ℕ
     stored = set (set (set b (64 + a) x) a y) (32 + a) z
 
-    stored-waiting : waitings stored ≡ set (waitings b) a y
-    stored-waiting =
+    stored-outstanding : outstandings stored ≡ set (outstandings b) a y
+    stored-outstanding =
         take-set-le 32 (set (set b (64 + a) x) a y) (32 + a) z (omega arith) ∙ take-set-lt 32 (set b (64 + a) x) a y h
         ∙ ap (λ (l : List ℕ). set l a y) (take-set-le 32 b (64 + a) x (omega arith))
 
@@ -130,7 +129,7 @@ module _ (b : List ℕ) (a : ℕ) (h : a < 32) where
     stored-one w c₀ r₀ c r ex ey ez ec er k =
         let port = sym (getD-drop 150 w a 0) in
         arrays-same _ _
-        (stored-waiting ∙ ap (set (waitings b) a) (ey ∙ ap (λ (n : ℕ). n + 1) reads-waiting))
+        (stored-outstanding ∙ ap (set (outstandings b) a) (ey ∙ ap (λ (n : ℕ). n + 1) reads-outstanding))
         (stored-admitted ∙ ap (set (admitteds b) a) (ez ∙ ap (λ (n : ℕ). n + 1) reads-admitted))
         (stored-held ∙ ap (set (helds b) a) (ex ∙ ap (λ (n : ℕ). n - 1) reads-held))
         (ec ∙ ap (λ (p : ℕ). raised (up 4 (parentPorts w) p) c₀) port)

@@ -1,9 +1,9 @@
 -- The offers before a slot, on the arrays that a run keeps (document 01, "Turns", last paragraph: "accelerators in rising
 -- number offer held transactions until one is refused or none is left").
 --
--- Arrays                what waits, what is admitted and what is held for each accelerator, what waits under each port, the
+-- Arrays                what is outstanding, what is admitted and what is held for each accelerator, what waits under each port, the
 --                       live ports, the last ports and the allowances; arrays w m h c v l o: these seven
--- waitings b, admitteds b, helds b   the counts of each accelerator in the array b of these, thirty-two each
+-- outstandings b, admitteds b, helds b   the counts of each accelerator in the array b of these, thirty-two each
 -- arraysOf b c r        the seven in b, c and r, as a run holds them
 -- answerOn w a d        what an offer of accelerator a answers, by the limits and budgets in the table w: 8, 9, or admitted
 -- admitOn w a d         one held transaction of accelerator a admitted: it is counted under each port from its own up to the root
@@ -18,13 +18,12 @@ use mathlib.Core.List.{List}
 use lib.Dec.{ltb}
 use lib.ListN.{getD, set, take, drop}
 use Rattle.folds.specs.Fold.{pick}
-use Rattle.model.specs.Tree.{outstandingBy}
 use Rattle.machine.specs.Machine.{Answer, limitsAnswer, onAdmitted}
 use Rattle.counts.specs.Table.{limits, budgets}
 use Rattle.counts.specs.Counts.{lasts, allowances, lives, pathPorts, raised, opened}
 
 pub record Arrays : Type 0 where
-  pub waiting : List ℕ
+  pub outstanding : List ℕ
   pub admitted : List ℕ
   pub held : List ℕ
   pub under : List ℕ
@@ -33,10 +32,10 @@ pub record Arrays : Type 0 where
   pub allowance : List ℕ
 
 abbrev pub arrays : (w m h c v l o : List ℕ) → Arrays
-arrays w m h c v l o = record { waiting = w; admitted = m; held = h; under = c; live = v; last = l; allowance = o }
+arrays w m h c v l o = record { outstanding = w; admitted = m; held = h; under = c; live = v; last = l; allowance = o }
 
-abbrev pub waitings : List ℕ → List ℕ
-waitings b = take 32 b
+abbrev pub outstandings : List ℕ → List ℕ
+outstandings b = take 32 b
 
 abbrev pub admitteds : List ℕ → List ℕ
 admitteds b = take 32 (drop 32 b)
@@ -45,16 +44,16 @@ abbrev pub helds : List ℕ → List ℕ
 helds b = drop 64 b
 
 abbrev pub arraysOf : (b c r : List ℕ) → Arrays
-arraysOf b c r = arrays (waitings b) (admitteds b) (helds b) c (lives r) (lasts r) (allowances r)
+arraysOf b c r = arrays (outstandings b) (admitteds b) (helds b) c (lives r) (lasts r) (allowances r)
 
 abbrev pub answerOn : List ℕ → ℕ → Arrays → Answer
 answerOn w a d =
-    limitsAnswer (getD (limits w) a 0) (outstandingBy (getD (d .waiting) a 0)) (getD (budgets w) a 0) (getD (d .admitted) a 0)
+    limitsAnswer (getD (limits w) a 0) (getD (d .outstanding) a 0) (getD (budgets w) a 0) (getD (d .admitted) a 0)
 
 abbrev pub admitOn : List ℕ → ℕ → Arrays → Arrays
 admitOn w a d =
     record {
-      waiting = set (d .waiting) a (getD (d .waiting) a 0 + 1);
+      outstanding = set (d .outstanding) a (getD (d .outstanding) a 0 + 1);
       admitted = set (d .admitted) a (getD (d .admitted) a 0 + 1);
       held = set (d .held) a (getD (d .held) a 0 - 1);
       under = raised (pathPorts w a) (d .under);

@@ -5,7 +5,6 @@ use counts::OWN_PORT;
 use counts::along::add_along;
 use machine::OfferAnswer;
 use machine::limits_answer;
-use model::access::outstanding_by;
 use rules::less_one;
 ghost use mathlib.Core.Path.{_≡_};
 ghost use Prim.Native.Nat.{_+_, _<_, min};
@@ -13,7 +12,7 @@ ghost use Rattle.folds.specs.Fold.{pick};
 ghost use Rattle.machine.specs.Answers.{offerMeans};
 ghost use Rattle.admit.specs.Admitting.{arraysOf, answerOn, offeredOn, offersOf, offersBefore};
 
-// In the array of the counts of each accelerator, after the waiting counts: the admitted counts.
+// In the array of the counts of each accelerator, after the outstanding counts: the admitted counts.
 pub const ADMITTED: usize = 32;
 // The held counts.
 pub const HELD: usize = 64;
@@ -39,14 +38,14 @@ fn offer_one(
         ≡ offeredOn (now (table .entry)) a (arraysOf (now (blocks .entry)) (now (under .entry)) (now (turns .entry))) ⌝ }
 {
     let i = a as usize;
-    let waiting = blocks[i];
+    let outstanding = blocks[i];
     let admitted = blocks[ADMITTED + i];
     let limit = wide(table[LIMIT + i]);
     let budget = wide(table[BUDGET + i]);
-    match limits_answer(limit, outstanding_by(waiting), budget, admitted) {
+    match limits_answer(limit, outstanding, budget, admitted) {
         OfferAnswer::Admitted => {
             blocks[HELD + i] = less_one(blocks[HELD + i]);
-            blocks[i] = waiting + 1;
+            blocks[i] = outstanding + 1;
             blocks[ADMITTED + i] = admitted + 1;
             add_along(table, table[OWN_PORT + i], under, turns);
             OfferAnswer::Admitted
@@ -78,33 +77,33 @@ fn offer_held(
 }
 
 // The first accelerator that offers.
-fn first_of(every: bool, served: u8) -> u8
-    ensures { λ r. ⌜ r ≡ pick every 0 served ⌝ }
+fn first_of(every: bool, home: u8) -> u8
+    ensures { λ r. ⌜ r ≡ pick every 0 home ⌝ }
 {
     if every {
         return 0;
     }
-    served
+    home
 }
 
 // The number after the last accelerator that offers.
-fn end_of(every: bool, served: u8, accs: u8) -> u8
-    ensures { λ r. ⌜ r ≡ pick every accs (min 255 (served + 1)) ⌝ }
+fn end_of(every: bool, home: u8, accs: u8) -> u8
+    ensures { λ r. ⌜ r ≡ pick every accs (min 255 (home + 1)) ⌝ }
 {
     if every {
         return accs;
     }
-    if served == 255 {
-        return served;
+    if home == 255 {
+        return home;
     }
-    served + 1
+    home + 1
 }
 
-// The offers before a slot, in rising number: of every accelerator, or only of the one served last, where no other may have
-// more admitted.
+// The offers before a slot, in rising number: of every accelerator, or only of the one whose answer has come home, where no other
+// may have more admitted; of none, where that is 255.
 pub fn offer_before_slot(
     every: bool,
-    served: u8,
+    home: u8,
     accs: u8,
     table: &[u16; 246],
     blocks: &mut [u32; 96],
@@ -112,10 +111,10 @@ pub fn offer_before_slot(
     turns: &mut [u8; 45],
 )
     ensures offers { λ _. ⌜ arraysOf (now (blocks .exit)) (now (under .exit)) (now (turns .exit))
-        ≡ offersBefore (now (table .entry)) every served accs (arraysOf (now (blocks .entry)) (now (under .entry)) (now (turns .entry))) ⌝ }
+        ≡ offersBefore (now (table .entry)) every home accs (arraysOf (now (blocks .entry)) (now (under .entry)) (now (turns .entry))) ⌝ }
 {
-    let mut a = first_of(every, served);
-    let end = end_of(every, served, accs);
+    let mut a = first_of(every, home);
+    let end = end_of(every, home, accs);
     while a < end {
         offer_held(a, table, blocks, under, turns);
         a += 1;

@@ -9,5 +9,6 @@ pub mod Asked
 pub mod Parts
 pub mod Settled
 pub mod Service
+pub mod Returns
 pub mod Stored
 pub mod Walk

@@ -6,16 +6,16 @@ use mathlib.Core.Path.{_≡_, refl, sym, _∙_, ap, ap₂}
 use native.Mathlib.Numerals.{add-one}
 use native.Mathlib.Omega.{arith}
 use lib.ListN.{length, getD, take, drop, set, replicate, length-drop}
-use lib.Seq.{getD-take, getD-drop, take-set-le, take-set-lt, drop-set-lt, drop-set-add, take-suc-set, take-suc}
+use lib.Seq.{getD-take, getD-drop, take-set-le, take-set-lt, drop-set-lt, drop-set-add, take-suc-set, take-suc, drop-drop}
 use Rattle.trace.specs.declared.Request.{Request}
 use Rattle.folds.specs.Fold.{pick}
 use Rattle.counts.specs.Table.{parentPorts}
 use Rattle.counts.specs.Counts.{lasts, allowances, lives, up, lowered, closed}
 use Rattle.counts.specs.Choice.{Choice, choice}
-use Rattle.admit.specs.Admitting.{arraysOf, waitings, admitteds, helds}
+use Rattle.admit.specs.Admitting.{arraysOf, outstandings, admitteds, helds}
 use Rattle.admit.proofs.Kept.{first-kept, second-kept}
 use Rattle.admit.proofs.Offers.{arrays-same}
-use Rattle.runner.specs.Arrays.{turnedOn, takeOn, openOn, withHeld}
+use Rattle.runner.specs.Arrays.{turnedOn, takeOn, openOn, homeOn, withHeld}
 use Rattle.runner.specs.Due.{holdOn}
 
 -- a list of equal numbers with one more at its end
@@ -25,8 +25,8 @@ one-more (suc n) x = ap (λ (l : List ℕ). x ∷ l) (one-more n x)
 
 -- the count admitted of accelerator a is stored as 0
 module _ (r : List ℕ) (a : ℕ) where
-  pub zero-waiting : waitings (set r (32 + a) 0) ≡ waitings r
-  zero-waiting = take-set-le 32 r (32 + a) 0 (omega arith)
+  pub zero-outstanding : outstandings (set r (32 + a) 0) ≡ outstandings r
+  zero-outstanding = take-set-le 32 r (32 + a) 0 (omega arith)
 
   pub zero-held : a < 32 → helds (set r (32 + a) 0) ≡ helds r
   zero-held h = drop-set-lt 64 r (32 + a) 0 (omega arith)
@@ -57,20 +57,25 @@ module _ (b : List ℕ) (r : Request) (n : ℕ) (e : n ≡ min 4294967295 (getD 
   pub add-rest : take 64 (set b (64 + r .accelerator) n) ≡ take 64 b
   add-rest = take-set-le 64 b (64 + r .accelerator) n (omega arith)
 
--- one transaction of accelerator a is served
+-- one transaction of accelerator a stops being outstanding
 module _ (b : List ℕ) (a n : ℕ) (h : a < 32) (e : n ≡ getD b a 0 - 1) where
-  served-waiting : waitings (set b a n) ≡ set (waitings b) a (getD (waitings b) a 0 - 1)
-  served-waiting = take-set-lt 32 b a n h ∙ ap (set (waitings b) a) (e ∙ ap (λ (i : ℕ). i - 1) (sym (getD-take 32 b a 0 h)))
+  pub home-outstanding : outstandings (set b a n) ≡ set (outstandings b) a (getD (outstandings b) a 0 - 1)
+  home-outstanding = take-set-lt 32 b a n h ∙ ap (set (outstandings b) a) (e ∙ ap (λ (i : ℕ). i - 1) (sym (getD-take 32 b a 0 h)))
 
-  served-rest : drop 32 (set b a n) ≡ drop 32 b
-  served-rest = drop-set-lt 32 b a n h
+  pub home-rest : drop 32 (set b a n) ≡ drop 32 b
+  home-rest = drop-set-lt 32 b a n h
+
+pub home-arrays : (b b₁ c r : List ℕ) (h : ℕ) → outstandings b₁ ≡ set (outstandings b) h (getD (outstandings b) h 0 - 1)
+    → drop 32 b₁ ≡ drop 32 b → arraysOf b₁ c r ≡ homeOn h (arraysOf b c r)
+home-arrays b b₁ c r h e k =
+    arrays-same _ _ e (ap (take 32) k) (sym (drop-drop 32 32 b₁) ∙ ap (drop 32) k ∙ drop-drop 32 32 b) refl refl refl refl
 
 -- the lines due are held
 pub due-arrays : (b b₁ c r h : List ℕ) → helds b₁ ≡ h → take 64 b₁ ≡ take 64 b → arraysOf b₁ c r ≡ withHeld h (arraysOf b c r)
 due-arrays b b₁ c r h e k = arrays-same _ _ (first-kept 32 32 b₁ b k) (second-kept 32 32 b₁ b k) e refl refl refl refl
 
 -- a window opens, or goes on
-pub opened-arrays : (b b₁ c r : List ℕ) (q : Bool) → waitings b₁ ≡ waitings b
+pub opened-arrays : (b b₁ c r : List ℕ) (q : Bool) → outstandings b₁ ≡ outstandings b
     → admitteds b₁ ≡ pick q (replicate 32 0) (admitteds b) → helds b₁ ≡ helds b → arraysOf b₁ c r ≡ openOn q (arraysOf b c r)
 opened-arrays b b₁ c r q e f g = arrays-same _ _ e f g refl refl refl refl
 
@@ -81,12 +86,12 @@ turned-arrays b c r r₁ a x e f =
     arrays-same _ _ refl refl refl refl f (ap (λ (y : Choice). y .last) e) (ap (λ (y : Choice). y .allowance) e)
 
 -- one transaction of accelerator a is served, and its path brought up to date
-pub taken-arrays : (w b c c₁ r r₁ : List ℕ) (a n : ℕ) → a < 32 → n ≡ getD b a 0 - 1
+pub taken-arrays : (w b c c₁ r r₁ : List ℕ) (a : ℕ)
     → c₁ ≡ lowered (up 4 (parentPorts w) (getD w (150 + a) 0)) c
     → lives r₁ ≡ closed (up 4 (parentPorts w) (getD w (150 + a) 0)) c (lives r) → take 30 r₁ ≡ take 30 r
-    → arraysOf (set b a n) c₁ r₁ ≡ takeOn w a (arraysOf b c r)
-taken-arrays w b c c₁ r r₁ a n h e f g k =
+    → arraysOf b c₁ r₁ ≡ takeOn w a (arraysOf b c r)
+taken-arrays w b c c₁ r r₁ a f g k =
     let port = sym (getD-drop 150 w a 0) in
-    arrays-same _ _ (served-waiting b a n h e) (ap (take 32) (served-rest b a n h e)) (drop-set-lt 64 b a n (omega arith))
+    arrays-same _ _ refl refl refl
     (f ∙ ap (λ (i : ℕ). lowered (up 4 (parentPorts w) i) c) port) (g ∙ ap (λ (i : ℕ). closed (up 4 (parentPorts w) i) c (lives r)) port)
     (first-kept 15 15 r₁ r k) (second-kept 15 15 r₁ r k)

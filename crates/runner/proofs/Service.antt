@@ -13,15 +13,15 @@ use Rattle.model.specs.declared.Tree.{Tree}
 use Rattle.model.specs.declared.State.{State}
 use Rattle.folds.specs.Fold.{pick}
 use Rattle.folds.proofs.Folds.{picked, passed}
-use Rattle.model.specs.Tree.{outstandingOf}
+use Rattle.model.specs.Tree.{waitingOf, returnsOf}
 use Rattle.rules.specs.Rules.{keeps}
 use Rattle.rules.proofs.Sound.{sound-of, kept-of}
-use Rattle.rules.proofs.Beneath.{only-other}
+use Rattle.rules.proofs.Beneath.{only, only-other}
 use Rattle.turns.specs.Turns.{who, after}
 use Rattle.turns.proofs.Descent.{Choice, choice}
 use Rattle.machine.specs.Machine.{Answer, idle, served, outcome, noneWaits, chosen, serve, opens, tick, lastSlot, slottedWithin}
 use Rattle.machine.proofs.Cases.{some-waits}
-use Rattle.machine.proofs.Keeps.{take-waiting}
+use Rattle.machine.proofs.Keeps.{take-waiting, take-returns}
 use Rattle.machine.proofs.Steps.{idle-within, serves-within}
 use Rattle.machine.proofs.Windows.{mod-last, mod-next, window-opens}
 use Rattle.runner.specs.Run.{byteOf}
@@ -60,14 +60,14 @@ module _ (t : Tree) (s : State) (k : keeps t s ≡ true) where
   pub served-outcome : (s .slot ≡ lastSlot → ⊥) → outcome slotAnswer (tick t (servedFrom t s)) ≡ slottedWithin t s
   served-outcome d = by-waiting (λ r _ a. outcome a (tick t r) ≡ slottedWithin t s) (idle-within t s d) (serves-within t s d)
 
-  -- only the accelerator served has less outstanding
-  pub served-others : (a : ℕ) → (a ≡ byteFrom t s → ⊥) → outstandingOf (servedFrom t s) a ≡ outstandingOf s a
-  served-others a = by-waiting (λ r b _. (a ≡ b → ⊥) → outstandingOf r a ≡ outstandingOf s a) (λ _ _. refl)
-      (λ e d. omega (
-        arith,
-        take-waiting t (sound-of t s k) s (kept-of t s k) (who 4 t s 0) (after 4 t s 0) (turn e) a,
-        only-other (who 4 t s 0) a (λ q. d (sym q)),
-      ))
+  -- one of the accelerator served waits no longer, and was served 0 slots ago
+  pub served-waiting : (a : ℕ) → (255 ≡ a → ⊥) → waitingOf s a ≡ waitingOf (servedFrom t s) a + only (byteFrom t s) a
+  served-waiting a d = by-waiting (λ r b _. waitingOf s a ≡ waitingOf r a + only b a) (λ _. omega (arith, only-other 255 a d))
+      (λ e. take-waiting t (sound-of t s k) s (kept-of t s k) (who 4 t s 0) (after 4 t s 0) (turn e) a)
+
+  pub served-returns : (a : ℕ) → (255 ≡ a → ⊥) → returnsOf (servedFrom t s) a ≡ returnsOf s a + only (byteFrom t s) a
+  served-returns a d = by-waiting (λ r b _. returnsOf r a ≡ returnsOf s a + only b a) (λ _. omega (arith, only-other 255 a d))
+      (λ e. take-returns t (sound-of t s k) s (kept-of t s k) (who 4 t s 0) (after 4 t s 0) (turn e) a)
 
   pub served-known : (byteFrom t s ≡ 255 → ⊥) → byteFrom t s < t .accs
   served-known = by-waiting (λ _ b _. (b ≡ 255 → ⊥) → b < t .accs) (λ _ d. absurd (d refl)) (λ e _. turn e .acc)

@@ -1,16 +1,17 @@
 -- Which accelerators would have a held transaction admitted. Each offers until one is refused, and an offer's answer depends
 -- on its own accelerator's record alone: so one that idles goes on idling while others offer, and offers nothing.
-use Prim.Native.Nat.{ℕ, zero, suc, _-_, _≤_, _<_}
+use Prim.Native.Nat.{ℕ, zero, suc, _+_, _-_, _≤_, _<_}
 use mathlib.Core.Bool.{true}
 use mathlib.Core.List.{List}
-use mathlib.Core.Path.{_≡_, refl, sym, _∙_, ap, subst}
+use mathlib.Core.Path.{_≡_, refl, sym, _∙_, ap, ap₂, subst}
 use native.Mathlib.Decide.{decLt, ℕ-discrete}
 use native.Mathlib.Omega.{arith}
 use lib.ListN.{getD, length, List·getD-eq-default}
 use lib.Seq.{getD-set-other}
 use Rattle.model.specs.declared.Tree.{Tree}
 use Rattle.model.specs.declared.State.{State}
-use Rattle.model.specs.Tree.{outstandingBy, outstandingOf, admittedOf}
+use lib.Count.{ones}
+use Rattle.model.specs.Tree.{outstandingOf, admittedOf}
 use Rattle.rules.specs.Rules.{keeps}
 use Rattle.machine.specs.Machine.{admitted, offered}
 use Rattle.machine.proofs.Laws.{offer-own, offer-others}
@@ -51,7 +52,7 @@ module _ (t : Tree) where
       let N = offer-others t (o .state) a in
       either (λ p. Leaves o p b) (x .answer) _ o
       (record {
-        outstanding = L .outstanding ∙ ap outstandingBy (N .waiting b d);
+        outstanding = L .outstanding ∙ ap₂ (λ w (x : List ℕ). w + ones (getD x b 0)) (N .waiting b d) (N .returning);
         admitted = L .admitted ∙ N .admitted b d;
         held = L .held ∙ getD-set-other (o .held) a b _ 0 d;
       })
@@ -117,15 +118,20 @@ pub settled-one : (t : Tree) (s : State) (h : List ℕ) (x : ℕ) → keeps t s 
     → offerEach (t .accs) t (offering s h) ≡ offerAll t (offering s h) x
 settled-one t s h x k S l = each-past t s h k x S (t .accs) (omega arith) l
 
+-- and where x is no accelerator, there are none
+pub settled-none : (t : Tree) (s : State) (h : List ℕ) (x : ℕ) → keeps t s ≡ true → Settled t s h x → t .accs ≤ x
+    → offerEach (t .accs) t (offering s h) ≡ offering s h
+settled-none t s h x k S l = each-before t s h k x S (t .accs) (omega arith) l
+
 -- once each has offered, no held transaction would be admitted
 pub settled-each : (t : Tree) (s : State) (h : List ℕ) → keeps t s ≡ true → (a : ℕ) → a < t .accs
     → Idles t (offerEach (t .accs) t (offering s h) .state) (offerEach (t .accs) t (offering s h) .held) a
 settled-each t s h k = each-idles t s h k (t .accs) (omega arith)
 
--- a service lets only the accelerator served offer more, and a slot count that rises none, unless it opens a window
-pub settled-served : (t : Tree) (s r : State) (h : List ℕ) (x : ℕ) → keeps t s ≡ true → keeps t r ≡ true
+-- a slot lets only the accelerator whose answer comes home offer more, unless a window opens
+pub settled-home : (t : Tree) (s r : State) (h : List ℕ) (x : ℕ) → keeps t s ≡ true → keeps t r ≡ true
     → ((a : ℕ) → a < t .accs → Idles t s h a)
-    → ((a : ℕ) → (a ≡ x → ⊥) → outstandingOf r a ≡ outstandingOf s a) → ((a : ℕ) → admittedOf r a ≡ admittedOf s a)
+    → ((a : ℕ) → a < t .accs → (a ≡ x → ⊥) → outstandingOf r a ≡ outstandingOf s a) → ((a : ℕ) → admittedOf r a ≡ admittedOf s a)
     → Settled t r h x
-settled-served t s r h x k kr I w m a l d =
-    idles-still t (offering s h) (offering r h) a k kr (record { outstanding = w a d; admitted = m a; held = refl }) (I a l)
+settled-home t s r h x k kr I w m a l d =
+    idles-still t (offering s h) (offering r h) a k kr (record { outstanding = w a l d; admitted = m a; held = refl }) (I a l)

@@ -7,11 +7,11 @@ use mathlib.Core.Path.{_≡_, refl, sym, _∙_, ap, ap₂, subst, subst₂}
 use native.Mathlib.Decide.{decLt, ℕ-discrete}
 use native.Mathlib.Omega.{arith}
 use lib.Dec.{eqb}
-use lib.ListN.{getD, set}
+use lib.ListN.{getD, length, set, length-set}
 use borrow.Author.Tests.{eq-eqb, ne-eqb, eqb-true, lt-ltb, le-ltb}
 use Rattle.model.specs.declared.Tree.{Tree}
 use Rattle.model.specs.declared.State.{State}
-use Rattle.model.specs.Tree.{limitOf, budgetOf, waitingOf, outstandingBy, admittedOf}
+use Rattle.model.specs.Tree.{limitOf, budgetOf, waitingOf, outstandingOf, admittedOf}
 use Rattle.model.specs.Beneath.{inside}
 use Rattle.rules.specs.Rules.{keeps}
 use Rattle.folds.proofs.Folds.{picked, passed, at-all, all-at, clash}
@@ -23,7 +23,7 @@ use Rattle.machine.proofs.Cases.{zero-all, Offered, refuses, admits, offer-case
 use Rattle.machine.proofs.Laws.{offer-keeps, offer-verdict}
 use Rattle.machine.proofs.Steps.{verdict-known}
 use Rattle.turns.proofs.Descent.{Choice as Choice-of, choice}
-use Rattle.machine.proofs.Keeps.{admit-waiting, take-waiting}
+use Rattle.machine.proofs.Keeps.{stored, admit-waiting, take-waiting}
 use Rattle.counts.specs.Counts.{pathPorts, lowered, closed}
 use Rattle.counts.specs.Choice.{Choice}
 use Rattle.counts.proofs.Table.{TableOf}
@@ -31,15 +31,16 @@ use Rattle.counts.proofs.Choosing.{Chosen, chooses}
 use Rattle.counts.proofs.Counted.{Counted, counted-more, counted-less, none-live, weight-small}
 use Rattle.runner.specs.Offers.{Offering, heldOf, release, offering, offerHeld, offerAll, offerEach}
 use Rattle.admit.specs.Admitting.{Arrays, answerOn, offeredOn, offersFor, offersOf, offersBelow, offersBefore}
-use Rattle.admit.proofs.Offers.{on-admitted, offers-known}
+use Rattle.admit.proofs.Offers.{on-admitted, offers-known, offers-unknown}
 use Rattle.runner.specs.Arrays.{Slot, slotOn, chosenOn, turnedOn, takeOn, serveOn}
-use Rattle.runner.proofs.Settled.{Settled, settled-one}
+use Rattle.runner.proofs.Settled.{Settled, settled-one, settled-none}
 use Rattle.runner.proofs.Service.{servedFrom, byteFrom}
 
 -- d are the arrays of state s, which keeps its rules, and has what waits under each port there and the live ports
 pub record Stored (t : Tree) (s : State) (d : Arrays) : Type 0 where
   pub rules : keeps t s ≡ true
-  pub waiting : d .waiting ≡ s .waiting
+  pub size : length (d .outstanding) ≡ 32
+  pub outstanding : (a : ℕ) → a < t .accs → getD (d .outstanding) a 0 ≡ outstandingOf s a
   pub admitted : d .admitted ≡ s .admitted
   pub last : d .last ≡ s .last
   pub allowance : d .allowance ≡ s .allowance
@@ -71,16 +72,13 @@ module _ (t : Tree) (g : List ℕ) (W : TableOf t g) where
       known : a < 32
       known = omega (arith, S .most-accs)
 
-      waits : getD (d .waiting) a 0 ≡ waitingOf (x .state) a
-      waits = ap (λ (l : List ℕ). getD l a 0) (O .stored .waiting)
-
       counts : getD (d .admitted) a 0 ≡ admittedOf (x .state) a
       counts = ap (λ (l : List ℕ). getD l a 0) (O .stored .admitted)
 
       same-answer : answerOn g a d ≡ offered t (x .state) a .answer
       same-answer =
-          ap₂ (λ (l m : ℕ). limitsAnswer l (outstandingBy (getD (d .waiting) a 0)) m (getD (d .admitted) a 0)) (W .limit a known) (W .budget a known)
-          ∙ ap₂ (λ (w m : ℕ). limitsAnswer (limitOf t a) (outstandingBy w) (budgetOf t a) m) waits counts
+          ap₂ (λ (l m : ℕ). limitsAnswer l (getD (d .outstanding) a 0) m (getD (d .admitted) a 0)) (W .limit a known) (W .budget a known)
+          ∙ ap₂ (λ (o m : ℕ). limitsAnswer (limitOf t a) o (budgetOf t a) m) (O .stored .outstanding a la) counts
           ∙ verdict-known t (x .state) a la ∙ sym (offer-verdict t (x .state) a (O .stored .rules))
 
       admits-one : offered t (x .state) a .answer ≡ admitted → offered t (x .state) a .state ≡ admit (x .state) a
@@ -98,7 +96,14 @@ module _ (t : Tree) (g : List ℕ) (W : TableOf t g) where
           (record {
             stored = record {
               rules = k;
-              waiting = ap (λ (l : List ℕ). set l a (getD l a 0 + 1)) (O .stored .waiting);
+              size = length-set (d .outstanding) a _ ∙ O .stored .size;
+              outstanding = λ b lb. omega (
+                arith,
+                stored (λ new old n. new ≡ old + n) (d .outstanding) a (getD (d .outstanding) a 0 + 1)
+                    (omega (arith, O .stored .size, known)) refl (λ y. omega arith) b,
+                O .stored .outstanding b lb,
+                admit-waiting t S (x .state) K a la b,
+              );
               admitted = ap (λ (l : List ℕ). set l a (getD l a 0 + 1)) (O .stored .admitted);
               last = O .stored .last;
               allowance = O .stored .allowance;
@@ -130,13 +135,23 @@ module _ (t : Tree) (g : List ℕ) (W : TableOf t g) where
     below-offered zero z = O
     below-offered (suc n) z = one-offered n (omega arith) (offerEach n t x) (offersBelow g n d) (below-offered n (omega arith))
 
-    -- the offers before a slot: where only accelerator y may have more admitted, its offers are all offers
-    pub before-offered : (e : Bool) (y : ℕ) → (e ≡ false → (y < t .accs) × Settled t (x .state) (x .held) y)
+    -- where only accelerator y may have more admitted, its offers are all offers; where y is 255, there are none
+    one-or-none : (y : ℕ) → ((y ≡ 255 → ⊥) → y < t .accs) → Settled t (x .state) (x .held) y
+        → StoredOffering t (offerEach (t .accs) t x) (offersOf g y d)
+    one-or-none y k S = elim (ℕ-discrete y 255) [
+      | yes e ↦
+          let l : t .accs ≤ y = omega (arith, sound-of t (x .state) (O .stored .rules) .most-accs) in
+          subst₂ (StoredOffering t) (sym (settled-none t (x .state) (x .held) y (O .stored .rules) S l)) (sym (offers-unknown g y d (omega arith))) O
+      | no n ↦
+          subst (λ (o : Offering). StoredOffering t o (offersOf g y d)) (sym (settled-one t (x .state) (x .held) y (O .stored .rules) S (k n)))
+          (one-offered y (k n) x d O)
+    ]
+
+    -- the offers before a slot
+    pub before-offered : (e : Bool) (y : ℕ) → ((y ≡ 255 → ⊥) → y < t .accs) → (e ≡ false → Settled t (x .state) (x .held) y)
         → StoredOffering t (offerEach (t .accs) t x) (offersBefore g e y (t .accs) d)
-    before-offered true y f = below-offered (t .accs) (omega arith)
-    before-offered false y f =
-        subst (λ (o : Offering). StoredOffering t o (offersOf g y d)) (sym (settled-one t (x .state) (x .held) y (O .stored .rules) (f refl .1) (f refl .0)))
-        (one-offered y (f refl .0) x d O)
+    before-offered true y k f = below-offered (t .accs) (omega arith)
+    before-offered false y k f = one-or-none y k (f refl)
 
 -- nothing waits exactly if no port of the root is live
 module _ (t : Tree) (s : State) (k : keeps t s ≡ true) (c v : List ℕ) (C : Counted t (waitingOf s) c v) where
@@ -193,7 +208,7 @@ module _ (n w : List ℕ) (d : Arrays) where
 -- x is what the slot comes to from state s and its arrays d
 pub record StoredSlot (t : Tree) (s : State) (d : Arrays) (x : Slot) : Type 0 where
   pub byte : x .byte ≡ byteFrom t s
-  pub waiting : x .arrays .waiting ≡ servedFrom t s .waiting
+  pub outstanding : x .arrays .outstanding ≡ d .outstanding
   pub admitted : x .arrays .admitted ≡ d .admitted
   pub held : x .arrays .held ≡ d .held
   pub last : x .arrays .last ≡ servedFrom t s .last
@@ -207,7 +222,7 @@ module _ (t : Tree) (g n : List ℕ) (W : TableOf t g) (N : NextPorts n) (s : St
       let same : servedFrom t s ≡ s = picked _ _ _ z in
       record {
         byte = sym (picked _ _ _ z);
-        waiting = R .waiting ∙ sym (ap (λ (x : State). x .waiting) same);
+        outstanding = refl;
         admitted = refl;
         held = refl;
         last = R .last ∙ sym (ap (λ (x : State). x .last) same);
@@ -235,8 +250,7 @@ module _ (t : Tree) (g n : List ℕ) (W : TableOf t g) (N : NextPorts n) (s : St
         let same : servedFrom t s ≡ serve t s = passed _ _ _ z in
         record {
           byte = chosen .served ∙ sym (passed _ _ _ z);
-          waiting = ap₂ (λ (x : List ℕ) (a : ℕ). set x a (getD x a 0 - 1)) (R .waiting ∙ sym (turn .frame .waiting)) (chosen .served)
-              ∙ sym (ap (λ (x : State). x .waiting) same);
+          outstanding = refl;
           admitted = refl;
           held = refl;
           last = chosen .last ∙ sym (ap (λ (x : State). x .last) same);

@@ -1,25 +1,32 @@
 -- A loop over the two calls of a slot: its arrays are those of the run of the definition, the counts beside them are kept, and
 -- but for the accelerator served last none would have a held transaction admitted. Each call's contract gives one step.
-use Prim.Native.Nat.{ℕ, _+_, _-_, _≤_, _<_}
+use Prim.Native.Nat.{ℕ, _+_, _-_, _%_, _^_, _≤_, _<_}
 use mathlib.Core.Bool.{Bool, true, false, _&&_, _||_}
-use mathlib.Core.List.{List}
+use mathlib.Core.List.{List, [], _∷_, _++_}
 use mathlib.Core.Path.{_≡_, refl, sym, _∙_, ap, ap₂, subst, subst₂}
+use native.Mathlib.Decide.{ℕ-discrete}
+use native.Mathlib.Nat.{zero-div, mod-eq-of-lt}
 use native.Mathlib.Omega.{arith}
-use lib.Dec.{leb, eqb}
+use lib.Dec.{leb, eqb, lit<}
 use lib.ListN.{getD, length, set, replicate, length-set}
-use borrow.Author.Tests.{leb-false, eqb-false}
+use lib.Seq.{set-out, getD-set-same, getD-set-other}
+use borrow.Author.Tests.{leb-false}
 use Rattle.model.specs.declared.Tree.{Tree}
 use Rattle.model.specs.declared.State.{State}
 use Rattle.folds.specs.Fold.{pick}
-use Rattle.model.specs.Tree.{outstandingBy}
+use Rattle.model.specs.Tree.{delayOf, bit, waitingOf, outstandingOf, homeOf, homePortOf}
 use Rattle.rules.specs.Rules.{treeKeeps, keeps}
 use Rattle.folds.proofs.Folds.{passed, clash}
 use Rattle.rules.proofs.Sound.{sound, sound-of}
+use Rattle.rules.proofs.Beneath.{only, only-same, only-other}
+use Rattle.model.specs.Beneath.{under, inside}
 use Rattle.turns.specs.Turns.{NextPorts}
 use Rattle.machine.specs.Machine.{Outcome, outcome, freshState, opens, tick, lastSlot, slotted}
 use Rattle.machine.proofs.Keeps.{zeros}
+use Rattle.machine.proofs.Returns.{no-ones}
 use Rattle.machine.proofs.Laws.{offer-others, slot-keeps, fresh-keeps}
 use Rattle.machine.proofs.Steps.{slot-passed}
+use Rattle.counts.specs.Table.{portNumber, ownPorts}
 use Rattle.counts.proofs.Table.{TableOf}
 use Rattle.counts.proofs.Counted.{Counted, counted-none}
 use Rattle.trace.specs.declared.Request.{Request}
@@ -30,39 +37,57 @@ use Rattle.runner.specs.Offers.{heldOf, offering, offerEach}
 use Rattle.runner.specs.Run.{Run, heldWith, leftAfter, withDue, beforeSlot, byteOf, lastByte, next, noneHeld, isDone, start}
 use Rattle.runner.specs.Places.{leftAt, Accepts}
 use Rattle.runner.specs.Due.{dueOn}
-use Rattle.runner.specs.Arrays.{serveOn, opensOn, leftOn, endOn, slotEndOn, afterOn, everyOn, withHeld, beforeOn}
+use Rattle.runner.specs.Arrays.{serveOn, opensOn, leftOn, endOn, slotEndOn, afterOn, homeIn, homeOn, everyOn, withHeld, beforeOn}
 use Rattle.runner.proofs.Held.{each-same, each-less}
 use Rattle.runner.proofs.Trace.{Room, AtLine, NextOf, left-ends, not-due, due-taken}
-use Rattle.runner.proofs.Settled.{Idles, Settled, settled-each, settled-served}
-use Rattle.runner.proofs.Service.{servedFrom, slotAnswer, served-frame, served-answer, served-outcome, served-others, served-known, leftIn, left-first, left-next, left-opens}
+use Rattle.runner.proofs.Settled.{Idles, Settled, settled-each, settled-home}
+use Rattle.runner.proofs.Service.{servedFrom, slotAnswer, served-frame, served-answer, served-outcome, served-known, leftIn, left-first, left-next, left-opens}
+use Rattle.runner.proofs.Returns.{ago-none, Past, past-none, past-same, home-one, past-next}
 use Rattle.runner.proofs.Stored.{Stored, StoredOffering, StoredSlot, live-none, before-offered, serves}
 
 -- from a later place on, a byte written, less of the buffer is left
 pub fewer : (d : List ℕ) (n b m : ℕ) → n < length d → n < m → length (set d n b) - m < length d - n
 fewer d n b m h l = omega (arith, length-set d n b)
 
--- neither of three tests holds
-none-of : (x y z : Bool) → (x || y || z) ≡ false → (x ≡ false) × (y ≡ false) × (z ≡ false)
-none-of false false false e = (refl, refl, refl)
-none-of true y z e = clash cc
-none-of false true z e = clash cc
-none-of false false true e = clash cc
+-- neither of two tests holds
+none-of : (x y : Bool) → (x || y) ≡ false → (x ≡ false) × (y ≡ false)
+none-of false false e = (refl, refl)
+none-of true y e = clash cc
+none-of false true e = clash cc
 
--- no window has opened, no line is due and somebody was served
-quiet : (q : Bool) (d n r : ℕ) → (q || leb d n || eqb r 255) ≡ false → (q ≡ false) × (d ≤ n → ⊥) × (r ≡ 255 → ⊥)
-quiet q d n r e =
-    let x = none-of q (leb d n) (eqb r 255) e in
-    (x .0, λ h. omega (arith, leb-false d n (x .1)), eqb-false r 255 (x .2))
+-- no window has opened and no line is due
+quiet : (q : Bool) (d n : ℕ) → (q || leb d n) ≡ false → (q ≡ false) × (d ≤ n → ⊥)
+quiet q d n e =
+    let x = none-of q (leb d n) e in
+    (x .0, λ h. omega (arith, leb-false d n (x .1)))
 
 -- where a run of trace s stands whose state is z, whose arrays are d and whose next line is x
 abbrev pub runOf : List ℕ → State → Arrays → NextLine → Run
 runOf s z d x = record { state = z; held = d .held; left = leftAt s (x .at) }
 
--- the arrays d, the next line x and the end e of the slot before are those of a run of trace s on t that stands at state z
-pub record Shows (t : Tree) (s : List ℕ) (z : State) (d : Arrays) (x : NextLine) (e : SlotEnd) : Type 0 where
-  pub stored : Stored t z d
+no-bits : (d : ℕ) → bit d 0 ≡ 0
+no-bits d = ap (λ y. y % 2) (zero-div (2 ^ d))
+
+-- what waits of an accelerator is what waits under its own port
+own-waiting : (t : Tree) (w : List ℕ) → treeKeeps t ≡ true → TableOf t w → (s : State) (c v : List ℕ) → Counted t (waitingOf s) c v
+    → (a : ℕ) → a < t .accs → getD c (getD (ownPorts w) (a % 32) 0 % 120) 0 ≡ waitingOf s a
+own-waiting t w k T s c v C a l =
+    let S = sound t k in
+    let i : a % 32 ≡ a = omega (arith, S .most-accs) in
+    let port : portNumber (homeOf t a) (homePortOf t a) < 120 = omega (arith, S .home a l, S .home-port a l, S .most-ints) in
+    ap (λ (b : ℕ). getD c (getD (ownPorts w) b 0 % 120) 0) i
+    ∙ ap (λ (p : ℕ). getD c (p % 120) 0) (T .own a (omega (arith, S .most-accs)))
+    ∙ ap (λ (p : ℕ). getD c p 0) (mod-eq-of-lt port)
+    ∙ C .count (homeOf t a) (homePortOf t a) (S .home a l) (S .home-port a l)
+    ∙ ap (under (waitingOf s) (inside 3 t (waitingOf s))) (S .home-carries a l)
+
+-- the arrays d, the next line x and the end e of the slot before are those of a run of trace s on t that stands at state z and has
+-- written the bytes bs; in the arrays the answer that comes home before the next slot is still outstanding
+pub record Shows (t : Tree) (s : List ℕ) (z : State) (bs : List ℕ) (d : Arrays) (x : NextLine) (e : SlotEnd) : Type 0 where
+  pub stored : Stored t z (homeOn (homeIn (delayOf t) bs) d)
   pub line : AtLine s (d .held) x
-  pub settled : e .opened ≡ false → (e .served ≡ 255 → ⊥) → (e .served < t .accs) × Settled t z (d .held) (e .served)
+  pub past : Past t z bs
+  pub settled : e .opened ≡ false → Settled t z (d .held) (homeIn (delayOf t) bs)
 
 -- what a run does not change: w is the table of t, and k that of next ports
 pub record Fixed (t : Tree) (w k : List ℕ) : Type 0 where
@@ -70,10 +95,10 @@ pub record Fixed (t : Tree) (w k : List ℕ) : Type 0 where
   pub table : TableOf t w
   pub next : NextPorts k
 
--- after n slots the arrays d, the next line x and the end e of the slot before are those of a run of which Q holds
-pub record Walk (t : Tree) (s : List ℕ) (Q : Run → Type 0) (d : Arrays) (x : NextLine) (e : SlotEnd) (n : ℕ) : Type 0 where
+-- after n slots, whose bytes are bs, the arrays d, the next line x and the end e of the slot before are those of a run of which Q holds
+pub record Walk (t : Tree) (s : List ℕ) (Q : Run → Type 0) (bs : List ℕ) (d : Arrays) (x : NextLine) (e : SlotEnd) (n : ℕ) : Type 0 where
   pub state : State
-  pub shows : Shows t s state d x e
+  pub shows : Shows t s state bs d x e
   pub slot : state .slot ≡ n
   pub left : e .left ≡ leftIn (t .bus .window) n
   pub holds : Q (runOf s state d x)
@@ -81,27 +106,36 @@ pub record Walk (t : Tree) (s : List ℕ) (Q : Run → Type 0) (d : Arrays) (x :
 -- a run begins with nothing waiting, admitted or held, the first line next, as if a window had just opened
 pub walk-start : (t : Tree) (s l o v : List ℕ) (f : State) (Q : Run → Type 0) → treeKeeps t ≡ true → f ≡ freshState t → Accepts s 0
     → l ≡ f .last → o ≡ replicate 15 0 → v ≡ replicate 15 0 → Q (start t (leftAt s 0))
-    → Walk t s Q (arrays (replicate 32 0) (replicate 32 0) (replicate 32 0) (replicate 120 0) v l o) (record { at = 0; due = 0 }) (endOn 255 true (t .bus .window)) 0
+    → Walk t s Q [] (arrays (replicate 32 0) (replicate 32 0) (replicate 32 0) (replicate 120 0) v l o) (record { at = 0; due = 0 }) (endOn 255 true (t .bus .window)) 0
 walk-start t s l o v f Q k e A el eo ev q = record {
   state = freshState t;
   shows = record {
     stored = record {
       rules = fresh-keeps t k;
-      waiting = refl;
+      size = length-set zero-counts (homeIn (delayOf t) []) _;
+      outstanding = λ a _. ap (λ (h : ℕ). getD (set zero-counts h (getD zero-counts h 0 - 1)) a 0) (ago-none (delayOf t + 1))
+          ∙ ap (λ (l : List ℕ). getD l a 0) (set-out zero-counts 255 0 (lit< tt)) ∙ zeros 32 a ∙ sym (none a);
       admitted = refl;
       last = el ∙ ap (λ (x : State). x .last) e;
       allowance = eo;
       counts = subst (Counted t _ (replicate 120 0)) (sym ev) (counted-none t (sound t k) _ (λ a _. zeros 32 a));
     };
     line = record { accepts = A; room = λ a. omega (arith, zeros 32 a); due = omega arith };
+    past = past-none t (freshState t) (λ a d. ap (bit d) (zeros 32 a) ∙ no-bits d) (omega (arith, sound t k .most-accs));
     settled = λ z. clash cc;
   };
   slot = refl;
   left = left-first (t .bus .window) (sound t k .window);
   holds = q;
 }
+  where
+    zero-counts : List ℕ
+    zero-counts = replicate 32 0
 
-module _ (t : Tree) (s : List ℕ) (z : State) (d : Arrays) (x : NextLine) (e : SlotEnd) (H : Shows t s z d x e) where
+    none : (a : ℕ) → outstandingOf (freshState t) a ≡ 0
+    none a = omega (arith, zeros 32 a, no-ones (getD (replicate 32 0) a 0) (zeros 32 a))
+
+module _ (t : Tree) (s : List ℕ) (z : State) (bs : List ℕ) (d : Arrays) (x : NextLine) (e : SlotEnd) (H : Shows t s z bs d x e) where
   abbrev run : Run
   run = runOf s z d x
 
@@ -121,26 +155,29 @@ module _ (t : Tree) (s : List ℕ) (z : State) (d : Arrays) (x : NextLine) (e : 
     T : NextOf n s (d .held) (x .at) (dueOn n s x (d .held))
     T = due-taken n s (d .held) x (H .line)
 
-    abbrev before : Arrays
-    before = beforeOn s n x e (t .accs) w d
+    abbrev home : ℕ
+    home = homeIn (delayOf t) bs
 
-    -- where no window has opened, no line is due and somebody was served, only that one may have more admitted
-    only-last : everyOn e x n ≡ false → (e .served < t .accs) × Settled t z due (e .served)
-    only-last f =
-        let q = quiet (e .opened) (x .due) n (e .served) f in
-        let y = H .settled (q .0) (q .2) in
+    abbrev before : Arrays
+    before = beforeOn s n x (e .opened) home (t .accs) w d
+
+    -- where no window has opened and no line is due, only the one whose answer comes home may have more admitted
+    only-home : everyOn (e .opened) x n ≡ false → Settled t z due home
+    only-home f =
+        let q = quiet (e .opened) (x .due) n f in
         let none = not-due n (d .held) (leftAt s (x .at)) (omega (arith, H .line .due, q .1)) .0 in
-        (y .0, subst (λ (h : List ℕ). Settled t z h (e .served)) (sym (T .held ∙ none)) (y .1))
+        subst (λ (h : List ℕ). Settled t z h home) (sym (T .held ∙ none)) (H .settled (q .0))
 
     same-before : offerEach (t .accs) t (offering z due) ≡ beforeSlot t run
     same-before =
         ap (λ (h : List ℕ). offerEach (t .accs) t (offering z h)) (T .held ∙ ap (λ (i : ℕ). heldWith i (d .held) (leftAt s (x .at))) (sym N))
 
-    due-stored : Stored t z (withHeld due d)
+    due-stored : Stored t z (withHeld due (homeOn home d))
     due-stored =
         let R = H .stored in record {
           rules = R .rules;
-          waiting = R .waiting;
+          size = R .size;
+          outstanding = R .outstanding;
           admitted = R .admitted;
           last = R .last;
           allowance = R .allowance;
@@ -151,8 +188,8 @@ module _ (t : Tree) (s : List ℕ) (z : State) (d : Arrays) (x : NextLine) (e : 
     before-shown : StoredOffering t (beforeSlot t run) before
     before-shown =
         subst (λ (o : _). StoredOffering t o before) same-before
-        (before-offered t w (F .table) (offering z due) (withHeld due d) (record { stored = due-stored; held = refl })
-        (everyOn e x n) (e .served) only-last)
+        (before-offered t w (F .table) (offering z due) (withHeld due (homeOn home d)) (record { stored = due-stored; held = refl })
+        (everyOn (e .opened) x n) home (H .past .known (delayOf t + 1)) only-home)
 
     abbrev mid : State
     mid = beforeSlot t run .state
@@ -162,6 +199,9 @@ module _ (t : Tree) (s : List ℕ) (z : State) (d : Arrays) (x : NextLine) (e : 
 
     mid-slot : mid .slot ≡ n
     mid-slot = each-same (λ (y : State). y .slot) t (λ y a. offer-others t y a .slot) (t .accs) (withDue run) ∙ N
+
+    mid-past : Past t mid bs
+    mid-past = past-same t z mid bs (each-same (λ (y : State). y .returning) t (λ y a. offer-others t y a .returning) (t .accs) (withDue run)) (H .past)
 
     module _ (g : n < lastSlot) (L : e .left ≡ leftIn (t .bus .window) n) where
       abbrev window : Bool
@@ -204,11 +244,42 @@ module _ (t : Tree) (s : List ℕ) (z : State) (d : Arrays) (x : NextLine) (e : 
       admitted-same : before .admitted ≡ service .admitted
       admitted-same = before-shown .stored .admitted ∙ sym (served-frame t mid mid-rules .0)
 
-      ticked : Stored t (tick t service) after
+      abbrev bytes : List ℕ
+      bytes = bs ++ byte ∷ []
+
+      byte-known : (byte ≡ 255 → ⊥) → byte < t .accs
+      byte-known f = subst (λ (b : ℕ). b < t .accs) (sym (Y .byte)) (served-known t mid mid-rules (λ q. f (Y .byte ∙ q)))
+
+      -- in the arrays all is outstanding that was so before the slot; then one comes home
+      went-home : (a : ℕ) → a < t .accs → outstandingOf mid a ≡ outstandingOf (tick t service) a + only (homeIn (delayOf t) bytes) a
+      went-home a l = home-one t mid mid-rules bs mid-past byte (Y .byte) byte-known a l
+
+      abbrev outstanding : List ℕ
+      outstanding = after .outstanding
+
+      home-size : length outstanding ≡ 32
+      home-size = ap length (Y .outstanding) ∙ before-shown .stored .size
+
+      home-stored : (a : ℕ) → a < t .accs
+          → getD (set outstanding (homeIn (delayOf t) bytes) (getD outstanding (homeIn (delayOf t) bytes) 0 - 1)) a 0 ≡ outstandingOf (tick t service) a
+      home-stored a l =
+          let h = homeIn (delayOf t) bytes in
+          let x = getD outstanding h 0 - 1 in
+          let held = ap (λ (o : List ℕ). getD o a 0) (Y .outstanding) ∙ before-shown .stored .outstanding a l in
+          elim (ℕ-discrete h a) [
+            | yes q ↦
+                subst (λ (i : ℕ). getD (set outstanding i x) a 0 ≡ outstandingOf (tick t service) a) (sym q)
+                (getD-set-same outstanding a x 0 (omega (arith, home-size, l, sound-of t mid mid-rules .most-accs))
+                ∙ omega (arith, held, went-home a l, only-same h a q, ap (λ (i : ℕ). getD outstanding i 0) q))
+            | no f ↦ getD-set-other outstanding h a x 0 (λ q. f (sym q)) ∙ omega (arith, held, went-home a l, only-other h a f)
+          ]
+
+      ticked : Stored t (tick t service) (homeOn (homeIn (delayOf t) bytes) after)
       unfolding tick
       ticked = record {
         rules = subst (λ (y : State). keeps t y ≡ true) (sym then-is) then-rules;
-        waiting = Y .waiting;
+        size = length-set outstanding _ _ ∙ home-size;
+        outstanding = home-stored;
         admitted = ap₂ (λ (b : Bool) (m : List ℕ). pick b (replicate 32 0) m) opened (Y .admitted ∙ admitted-same);
         last = Y .last;
         allowance = Y .allowance;
@@ -220,23 +291,28 @@ module _ (t : Tree) (s : List ℕ) (z : State) (d : Arrays) (x : NextLine) (e : 
       ticked-slot = ap (λ (i : ℕ). i + 1) same-slot
 
       -- after a slot: the arrays are those of the definition
-      after-stored : Stored t then after
-      after-stored = subst (λ (y : State). Stored t y after) then-is ticked
+      after-stored : Stored t then (homeOn (homeIn (delayOf t) bytes) after)
+      after-stored = subst (λ (y : State). Stored t y (homeOn (homeIn (delayOf t) bytes) after)) then-is ticked
+
+      after-past : Past t then bytes
+      after-past = subst (λ (y : State). Past t y bytes) then-is (past-next t mid mid-rules bs mid-past byte (Y .byte) byte-known)
 
       after-held : after .held ≡ beforeSlot t run .held
       after-held = Y .held ∙ before-shown .held
 
-      -- where no window opens, only the accelerator served may have more admitted
-      after-settled : window ≡ false → (byte ≡ 255 → ⊥) → (byte < t .accs) × Settled t then (after .held) byte
-      after-settled a f = (
-        subst (λ (b : ℕ). b < t .accs) (sym (Y .byte)) (served-known t mid mid-rules (λ q. f (Y .byte ∙ q))),
-        settled-served t mid then (after .held) byte mid-rules then-rules
-            (λ b lb. subst (λ (h : List ℕ). Idles t mid h b) (sym after-held) (settled-each t z _ (H .stored .rules) b lb))
-            (λ b q. ap (λ (l : List ℕ). outstandingBy (getD l b 0)) (sym (after-stored .waiting) ∙ Y .waiting)
-            ∙ served-others t mid mid-rules b (λ j. q (j ∙ sym (Y .byte))))
-            (λ b. ap (λ (l : List ℕ). getD l b 0)
-            (sym (after-stored .admitted) ∙ passed _ _ _ a ∙ Y .admitted ∙ before-shown .stored .admitted)),
-      )
+      -- where no window opens, only the accelerator whose answer comes home may have more admitted
+      after-settled : window ≡ false → Settled t then (after .held) (homeIn (delayOf t) bytes)
+      after-settled a =
+          settled-home t mid then (after .held) (homeIn (delayOf t) bytes) mid-rules then-rules
+          (λ b lb. subst (λ (h : List ℕ). Idles t mid h b) (sym after-held) (settled-each t z _ (H .stored .rules) b lb))
+          (λ b lb q. omega (
+            arith,
+            went-home b lb,
+            only-other (homeIn (delayOf t) bytes) b (λ i. q (sym i)),
+            ap (λ (y : State). outstandingOf y b) then-is,
+          ))
+          (λ b. ap (λ (l : List ℕ). getD l b 0)
+          (sym (after-stored .admitted) ∙ passed _ _ _ a ∙ Y .admitted ∙ before-shown .stored .admitted))
 
       after-room : Room (after .held) (line .at)
       after-room a =
@@ -250,11 +326,12 @@ module _ (t : Tree) (s : List ℕ) (z : State) (d : Arrays) (x : NextLine) (e : 
           )
 
       -- the run one slot on, its byte, and what holds of its arrays
-      shows-next : Shows t s (next t run .state) after line (endOn byte window left)
+      shows-next : Shows t s (next t run .state) bytes after line (endOn byte window left)
       unfolding next
       shows-next = record {
         stored = after-stored;
         line = record { accepts = T .line .accepts; room = after-room; due = T .line .due };
+        past = after-past;
         settled = after-settled;
       }
 
@@ -271,7 +348,7 @@ module _ (t : Tree) (s : List ℕ) (z : State) (d : Arrays) (x : NextLine) (e : 
       unfolding next
       slot-next = ap (λ (y : State). y .slot) (sym then-is) ∙ ticked-slot
 
-      walked : (P : Run → Type 0) → (byte ≡ lastByte t run → P (next t run)) → Walk t s P after line (endOn byte window left) (n + 1)
+      walked : (P : Run → Type 0) → (byte ≡ lastByte t run → P (next t run)) → Walk t s P bytes after line (endOn byte window left) (n + 1)
       walked P f = record {
         state = next t run .state;
         shows = shows-next;
@@ -281,28 +358,40 @@ module _ (t : Tree) (s : List ℕ) (z : State) (d : Arrays) (x : NextLine) (e : 
       }
 
 -- the test before each slot, and one slot, for any loop over a run
-module _ (t : Tree) (w k s : List ℕ) (F : Fixed t w k) (Q : Run → Type 0) (d : Arrays) (x : NextLine) (e : SlotEnd) (n : ℕ)
-    (G : Walk t s Q d x e n) where
+module _ (t : Tree) (w k s : List ℕ) (F : Fixed t w k) (Q : Run → Type 0) (bs : List ℕ) (d : Arrays) (x : NextLine) (e : SlotEnd)
+    (n : ℕ) (G : Walk t s Q bs d x e n) where
   abbrev pub here : Run
   here = runOf s (G .state) d x
 
   pub walk-done : (b : Bool) → b ≡ (eqb (x .at) (length s) && noneHeld (d .held) && eqb (getD (d .live) 0 0) 0) → b ≡ isDone here
-  walk-done = shows-done t s (G .state) d x e (G .shows)
+  walk-done = shows-done t s (G .state) bs d x e (G .shows)
 
-  pub walk-next : (x₁ : NextLine) → x₁ ≡ dueOn n s x (d .held) .line → (d₁ : Arrays) → d₁ ≡ beforeOn s n x e (t .accs) w d
-      → (p : ℕ) → p ≡ t .bus .window → (e₂ : SlotEnd) → e₂ ≡ slotEndOn k w p (e .left) d₁
-      → (d₂ : Arrays) → d₂ ≡ afterOn k w (e .left) d₁
-      → n < lastSlot → (P : Run → Type 0) → (e₂ .served ≡ lastByte t here → P (next t here)) → Walk t s P d₂ x₁ e₂ (n + 1)
-  walk-next x₁ T d₁ E p h e₂ q d₂ E₂ g P f =
-      let end = q ∙ ap₂ (λ (i : ℕ) (y : Arrays). slotEndOn k w i (e .left) y) h E in
-      subst (λ (l : NextLine). Walk t s P d₂ l e₂ (n + 1)) (sym T)
-      (subst₂ (λ (y : Arrays) (i : SlotEnd). Walk t s P y (dueOn n s x (d .held) .line) i (n + 1)) (sym (E₂ ∙ ap (afterOn k w (e .left)) E)) (sym end)
-      (walked t s (G .state) d x e (G .shows) w k F n (G .slot) g (G .left) P (λ b. f (ap (λ (i : SlotEnd). i .served) end ∙ b))))
+  -- the line, the arrays and the slot's end are those of the two calls
+  pub record Step (x₁ : NextLine) (e₂ : SlotEnd) (d₂ : Arrays) : Type 0 where
+    pub home : ℕ
+    pub home-is : home ≡ homeIn (delayOf t) bs
+    pub line : x₁ ≡ dueOn n s x (d .held) .line
+    pub mid : Arrays
+    pub before : mid ≡ beforeOn s n x (e .opened) home (t .accs) w d
+    pub window : ℕ
+    pub window-is : window ≡ t .bus .window
+    pub ends : e₂ ≡ slotEndOn k w window (e .left) mid
+    pub after : d₂ ≡ afterOn k w (e .left) mid
 
-  -- after it the waiting counts are those of the definition
-  pub walk-waiting : (x₁ : NextLine) → x₁ ≡ dueOn n s x (d .held) .line → (d₁ : Arrays) → d₁ ≡ beforeOn s n x e (t .accs) w d
-      → (p : ℕ) → p ≡ t .bus .window → (e₂ : SlotEnd) → e₂ ≡ slotEndOn k w p (e .left) d₁
-      → (d₂ : Arrays) → d₂ ≡ afterOn k w (e .left) d₁ → n < lastSlot → d₂ .waiting ≡ next t here .state .waiting
-  walk-waiting x₁ T d₁ E p h e₂ q d₂ E₂ g =
-      let W = walk-next x₁ T d₁ E p h e₂ q d₂ E₂ g (λ (r : Run). r ≡ next t here) (λ _. refl) in
-      W .shows .stored .waiting ∙ ap (λ (r : Run). r .state .waiting) (W .holds)
+  pub walk-next : (x₁ : NextLine) (e₂ : SlotEnd) (d₂ : Arrays) → Step x₁ e₂ d₂ → n < lastSlot → (bs₂ : List ℕ) → bs₂ ≡ bs ++ e₂ .served ∷ []
+      → (P : Run → Type 0) → (e₂ .served ≡ lastByte t here → P (next t here)) → Walk t s P bs₂ d₂ x₁ e₂ (n + 1)
+  walk-next x₁ e₂ d₂ S g bs₂ B P f =
+      let first = S .before ∙ ap (λ (h : ℕ). beforeOn s n x (e .opened) h (t .accs) w d) (S .home-is) in
+      let end = S .ends ∙ ap₂ (λ (i : ℕ) (y : Arrays). slotEndOn k w i (e .left) y) (S .window-is) first in
+      let byte = ap (λ (i : SlotEnd). i .served) end in
+      let W = walked t s (G .state) bs d x e (G .shows) w k F n (G .slot) g (G .left) P (λ b. f (byte ∙ b)) in
+      subst₂ (λ (l : NextLine) (b : List ℕ). Walk t s P b d₂ l e₂ (n + 1)) (sym (S .line)) (sym B)
+      (subst₂ (λ (y : Arrays) (i : SlotEnd). Walk t s P (bs ++ i .served ∷ []) y (dueOn n s x (d .held) .line) i (n + 1))
+      (sym (S .after ∙ ap (afterOn k w (e .left)) first)) (sym end) W)
+
+  -- after it what waits of an accelerator stands under its own port
+  pub walk-waiting : (x₁ : NextLine) (e₂ : SlotEnd) (d₂ : Arrays) → Step x₁ e₂ d₂ → n < lastSlot → (a : ℕ) → a < t .accs
+      → getD (d₂ .under) (getD (ownPorts w) (a % 32) 0 % 120) 0 ≡ waitingOf (next t here .state) a
+  walk-waiting x₁ e₂ d₂ S g a l =
+      let W = walk-next x₁ e₂ d₂ S g _ refl (λ (r : Run). r ≡ next t here) (λ _. refl) in
+      own-waiting t w (F .rules) (F .table) (W .state) (d₂ .under) (d₂ .live) (W .shows .stored .counts) a l ∙ ap (λ (r : Run). waitingOf (r .state) a) (W .holds)

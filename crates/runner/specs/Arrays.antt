@@ -3,7 +3,8 @@
 -- Slot                  a slot's byte and the arrays after it; slotOn b d: these two
 -- chosenOn n w d        the choice from the root, by the table n of next ports and the table w of the configuration
 -- turnedOn x d          the arrays d with the last ports and the allowances of the choice x
--- takeOn w a d          one transaction of accelerator a is served: it counts no longer under each port from its own up to the root
+-- takeOn w a d          one transaction of accelerator a is served: it counts no longer under each port from its own up to the root, and
+--                       it is outstanding as before
 -- serveOn n w d         the slot serves, or is idle
 -- openOn b d            the arrays d where a window opens if b: the admitted counts return to 0
 -- opensOn m             the next slot begins a window where m slots of this one are left, this slot counted
@@ -11,15 +12,21 @@
 -- endOn x b m           how a slot ends: its byte x, whether a window opens then, and the slots m left of the window
 -- slotEndOn n w p m d   how a slot ends that is run on d, where m slots are left of a window of p, this slot counted
 -- afterOn n w m d       that slot is run: service, and the end of the window
--- everyOn e x n         every accelerator may have a transaction admitted in slot n, and not only the one served last
+-- agoIn d bs            the byte of the slot d slots before the one that comes after the bytes bs; 255 where there is no such slot
+-- homeIn r bs           the accelerator whose transaction stops being outstanding at the start of the slot after the bytes bs, where r is
+--                       the return delay: the one served in the slot r + 1 slots before (document 02, item 2: "A transaction served in
+--                       slot s stops being outstanding at the start of slot s + 1 + r"); 255 for none
+-- homeOn h d            one transaction of accelerator h stops being outstanding
+-- everyOn b x n         every accelerator may have a transaction admitted in slot n, which opens a window if b, and not only the one whose
+--                       transaction stops being outstanding
 -- withHeld h d          the arrays d with the held counts h
--- beforeOn s n x e k w d  what comes before slot n: the lines due from the place of x in the trace s are held, and the k
---                       accelerators offer, by the end e of the slot before
-use Prim.Native.Nat.{ℕ, _-_}
+-- beforeOn s n x b h k w d  what comes before slot n, which opens a window if b: a transaction of accelerator h stops being outstanding,
+--                       the lines due from the place of x in the trace s are held, and the k accelerators offer
+use Prim.Native.Nat.{ℕ, _+_, _-_}
 use mathlib.Core.Bool.{Bool, _||_}
 use mathlib.Core.List.{List}
 use lib.Dec.{eqb, ltb, leb}
-use lib.ListN.{getD, set, replicate}
+use lib.ListN.{getD, length, set, replicate}
 use Rattle.folds.specs.Fold.{pick}
 use Rattle.counts.specs.Counts.{pathPorts, lowered, closed}
 use Rattle.counts.specs.Choice.{Choice, chooseOn}
@@ -41,7 +48,7 @@ chosenOn n w d = chooseOn 4 n w (d .under) (d .live) 0 (d .last) (d .allowance)
 abbrev pub turnedOn : Choice → Arrays → Arrays
 turnedOn x d =
     record {
-      waiting = d .waiting;
+      outstanding = d .outstanding;
       admitted = d .admitted;
       held = d .held;
       under = d .under;
@@ -53,7 +60,7 @@ turnedOn x d =
 abbrev pub takeOn : List ℕ → ℕ → Arrays → Arrays
 takeOn w a d =
     record {
-      waiting = set (d .waiting) a (getD (d .waiting) a 0 - 1);
+      outstanding = d .outstanding;
       admitted = d .admitted;
       held = d .held;
       under = lowered (pathPorts w a) (d .under);
@@ -71,7 +78,7 @@ serveOn n w d =
 abbrev pub openOn : Bool → Arrays → Arrays
 openOn b d =
     record {
-      waiting = d .waiting;
+      outstanding = d .outstanding;
       admitted = pick b (replicate 32 0) (d .admitted);
       held = d .held;
       under = d .under;
@@ -95,13 +102,31 @@ slotEndOn n w p m d = endOn (serveOn n w d .byte) (opensOn m) (leftOn p m)
 abbrev pub afterOn : (n w : List ℕ) → ℕ → Arrays → Arrays
 afterOn n w m d = openOn (opensOn m) (serveOn n w d .arrays)
 
-abbrev pub everyOn : SlotEnd → NextLine → ℕ → Bool
-everyOn e x n = e .opened || leb (x .due) n || eqb (e .served) 255
+abbrev pub agoIn : ℕ → List ℕ → ℕ
+agoIn d bs = pick (ltb (length bs) d) 255 (getD bs (length bs - d) 255)
+
+abbrev pub homeIn : ℕ → List ℕ → ℕ
+homeIn r bs = agoIn (r + 1) bs
+
+abbrev pub homeOn : ℕ → Arrays → Arrays
+homeOn h d =
+    record {
+      outstanding = set (d .outstanding) h (getD (d .outstanding) h 0 - 1);
+      admitted = d .admitted;
+      held = d .held;
+      under = d .under;
+      live = d .live;
+      last = d .last;
+      allowance = d .allowance;
+    }
+
+abbrev pub everyOn : Bool → NextLine → ℕ → Bool
+everyOn b x n = b || leb (x .due) n
 
 abbrev pub withHeld : List ℕ → Arrays → Arrays
 withHeld h d =
     record {
-      waiting = d .waiting;
+      outstanding = d .outstanding;
       admitted = d .admitted;
       held = h;
       under = d .under;
@@ -110,5 +135,5 @@ withHeld h d =
       allowance = d .allowance;
     }
 
-abbrev pub beforeOn : (s : List ℕ) (n : ℕ) → NextLine → SlotEnd → ℕ → List ℕ → Arrays → Arrays
-beforeOn s n x e k w d = offersBefore w (everyOn e x n) (e .served) k (withHeld (dueOn n s x (d .held) .held) d)
+abbrev pub beforeOn : (s : List ℕ) (n : ℕ) → NextLine → Bool → ℕ → ℕ → List ℕ → Arrays → Arrays
+beforeOn s n x b h k w d = offersBefore w (everyOn b x n) h k (withHeld (dueOn n s x (d .held) .held) (homeOn h d))

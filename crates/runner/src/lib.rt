@@ -12,6 +12,7 @@ use model::State;
 use model::Tree;
 use steps::after_slot;
 use steps::before_slot;
+use steps::home_of;
 use steps::is_done;
 use steps::turns_of;
 use trace::read_requests;
@@ -93,8 +94,9 @@ fn ended(done: bool, used: u32) -> RunAnswer
 }
 
 // The run of an accepted trace, one byte a slot, until nothing is left or the buffer is full, and what it tells of transaction k of
-// accelerator a, of none if k is 0. Beside the state's arrays it keeps what waits under each port and the live ports, and the next
-// line's slot. The slot count is the number of bytes used.
+// accelerator a, of none if k is 0. In place of a state it keeps what is outstanding, admitted and held of each accelerator, what
+// waits under each port, the turns and the live ports, and the next line's slot. The slot count is the number of bytes used, and these
+// bytes say whose answer comes home.
 fn run_slots(t: Tree, fresh: State, trace: &[u8], a: u8, k: u32, out: &mut [u8]) -> RunWait
     requires { ⌜ (treeKeeps t ≡ true) × (fresh ≡ freshState t) × (length (now out) ≤ 65536) × Accepts (now trace) 0 × ((k ≡ 0 → ⊥) → a < t .accs) ⌝ }
     ensures answer { λ r. ⌜ runMeans (r .answer) ≡ endOf (runFor t (leftAt (now (trace .entry)) 0) (length (now (out .entry)))) ⌝ }
@@ -125,7 +127,8 @@ fn run_slots(t: Tree, fresh: State, trace: &[u8], a: u8, k: u32, out: &mut [u8])
             trace,
             used as u32,
             line,
-            past,
+            past.opened,
+            home_of(&out[0..used], t.bus.delay),
             t.accs,
             &table,
             &mut blocks,
@@ -142,7 +145,7 @@ fn run_slots(t: Tree, fresh: State, trace: &[u8], a: u8, k: u32, out: &mut [u8])
             &mut turns,
         );
         out[used] = past.served;
-        told = tell(told, k, a, used as u32, &blocks, past.served);
+        told = tell(told, k, a, used as u32, &table, &under, past.served);
         used += 1;
     }
     RunWait {

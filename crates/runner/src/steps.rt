@@ -1,4 +1,4 @@
-// What a run does in one slot beside the offers: the lines due, the service, and the window's end.
+// What a run does in one slot beside the offers: who comes home, the lines due, the service, and the window's end.
 use crate::IDLE;
 use crate::NextLine;
 use crate::SlotEnd;
@@ -14,15 +14,16 @@ use trace::NextRequest;
 use trace::request_at;
 ghost use mathlib.Core.Path.{_≡_};
 ghost use mathlib.Core.Bool.{_&&_};
-ghost use Prim.Native.Nat.{_<_, _+_, _-_, min};
+ghost use Prim.Native.Nat.{ℕ, _<_, _+_, _-_, min};
 ghost use lib.Dec.{eqb};
-ghost use lib.ListN.{length, getD, take, replicate};
+ghost use lib.ListN.{length, getD, set, take, drop, replicate};
+ghost use mathlib.Core.List.{List};
 ghost use Rattle.counts.specs.Counts.{lasts, allowances, lives};
-ghost use Rattle.admit.specs.Admitting.{waitings, admitteds, helds, arraysOf};
+ghost use Rattle.admit.specs.Admitting.{outstandings, admitteds, helds, arraysOf};
 ghost use Rattle.folds.specs.Fold.{pick};
 ghost use Rattle.runner.specs.Run.{noneHeld};
 ghost use Rattle.runner.specs.Due.{taken, dueOn};
-ghost use Rattle.runner.specs.Arrays.{slotOn, serveOn, leftOn, slotEndOn, afterOn, beforeOn};
+ghost use Rattle.runner.specs.Arrays.{slotOn, serveOn, leftOn, slotEndOn, afterOn, homeIn, beforeOn};
 
 // What an accelerator holds with a line's count added: no more than the type has.
 fn more_held(held: u32, count: u8) -> u32
@@ -89,16 +90,10 @@ pub fn is_done(trace: &[u8], at: usize, blocks: &[u32; 96], turns: &[u8; 45]) ->
     (at == trace.len()) & none_held(blocks)
 }
 
-// Serves the transaction whose turn it is, and answers its accelerator, or that the slot is idle.
-fn serve(
-    next: &[u8; 2048],
-    table: &[u16; 246],
-    blocks: &mut [u32; 96],
-    under: &mut [u16; 120],
-    turns: &mut [u8; 45],
-) -> u8
-    ensures { λ r. ⌜ slotOn r (arraysOf (now (blocks .exit)) (now (under .exit)) (now (turns .exit)))
-        ≡ serveOn (now (next .entry)) (now (table .entry)) (arraysOf (now (blocks .entry)) (now (under .entry)) (now (turns .entry))) ⌝ }
+// Serves the transaction whose turn it is, and answers its accelerator, or that the slot is idle. It is outstanding as before.
+fn serve(next: &[u8; 2048], table: &[u16; 246], under: &mut [u16; 120], turns: &mut [u8; 45]) -> u8
+    ensures { λ r. ⌜ ((b : List ℕ) → slotOn r (arraysOf b (now (under .exit)) (now (turns .exit)))
+        ≡ serveOn (now (next .entry)) (now (table .entry)) (arraysOf b (now (under .entry)) (now (turns .entry)))) ⌝ }
 {
     if turns[LIVE] == 0 {
         return IDLE;
@@ -108,14 +103,13 @@ fn serve(
     if 31 < i {
         return IDLE;
     }
-    blocks[i] = less_one(blocks[i]);
     take_along(table, table[OWN_PORT + i], under, turns);
     a
 }
 
 // The counts with no transaction admitted.
 fn without_admitted(b: [u32; 96]) -> [u32; 96]
-    ensures waiting { λ r. ⌜ waitings r ≡ waitings b ⌝ }
+    ensures outstanding { λ r. ⌜ outstandings r ≡ outstandings b ⌝ }
     ensures admitted { λ r. ⌜ admitteds r ≡ replicate 32 0 ⌝ }
     ensures held { λ r. ⌜ helds r ≡ helds b ⌝ }
 {
@@ -130,7 +124,7 @@ fn without_admitted(b: [u32; 96]) -> [u32; 96]
 
 // Where a window opens the admitted counts return to 0.
 fn open_window(opens: bool, blocks: &mut [u32; 96])
-    ensures waiting { λ _. ⌜ waitings (now (blocks .exit)) ≡ waitings (now (blocks .entry)) ⌝ }
+    ensures outstanding { λ _. ⌜ outstandings (now (blocks .exit)) ≡ outstandings (now (blocks .entry)) ⌝ }
     ensures admitted { λ _. ⌜ admitteds (now (blocks .exit)) ≡ pick opens (replicate 32 0) (admitteds (now (blocks .entry))) ⌝ }
     ensures held { λ _. ⌜ helds (now (blocks .exit)) ≡ helds (now (blocks .entry)) ⌝ }
 {
@@ -149,13 +143,38 @@ fn left_after(window: u32, left: u32) -> u32
     less_one(left)
 }
 
-// What comes before a slot: the lines due are held, and the accelerators offer. After a slot that served, opened no window and
-// had no line due, only the accelerator served may have more admitted.
+// The accelerator whose answer comes home before the slot that follows these bytes, one a slot: the one served `delay` + 1 slots
+// before it. IDLE where there is none.
+pub fn home_of(bytes: &[u8], delay: u8) -> u8
+    ensures { λ r. ⌜ r ≡ homeIn delay (now (bytes .entry)) ⌝ }
+{
+    let back = delay as usize + 1;
+    if bytes.len() < back {
+        return IDLE;
+    }
+    bytes[bytes.len() - back]
+}
+
+// One transaction of this accelerator stops being outstanding.
+fn come_home(home: u8, blocks: &mut [u32; 96])
+    ensures outstanding { λ _. ⌜ outstandings (now (blocks .exit))
+        ≡ set (outstandings (now (blocks .entry))) home (getD (outstandings (now (blocks .entry))) home 0 - 1) ⌝ }
+    ensures rest { λ _. ⌜ drop 32 (now (blocks .exit)) ≡ drop 32 (now (blocks .entry)) ⌝ }
+{
+    let i = home as usize;
+    if i < 32 {
+        blocks[i] = less_one(blocks[i]);
+    }
+}
+
+// What comes before a slot: an answer comes home, the lines due are held, and the accelerators offer. Where no window opens and no
+// line is due, only the accelerator whose answer came home may have more admitted.
 pub fn before_slot(
     trace: &[u8],
     slot: u32,
     line: NextLine,
-    past: SlotEnd,
+    opened: bool,
+    home: u8,
     accs: u8,
     table: &[u16; 246],
     blocks: &mut [u32; 96],
@@ -163,12 +182,13 @@ pub fn before_slot(
     turns: &mut [u8; 45],
 ) -> NextLine
     ensures arrays { λ r. ⌜ arraysOf (now (blocks .exit)) (now (under .exit)) (now (turns .exit))
-        ≡ beforeOn (now (trace .entry)) slot line past accs (now (table .entry)) (arraysOf (now (blocks .entry)) (now (under .entry)) (now (turns .entry))) ⌝ }
+        ≡ beforeOn (now (trace .entry)) slot line opened home accs (now (table .entry)) (arraysOf (now (blocks .entry)) (now (under .entry)) (now (turns .entry))) ⌝ }
     ensures line { λ r. ⌜ r ≡ dueOn slot (now (trace .entry)) line (helds (now (blocks .entry))) .line ⌝ }
 {
-    let every = past.opened | (line.due <= slot) | (past.served == IDLE);
+    come_home(home, blocks);
+    let every = opened | (line.due <= slot);
     let next = take_due(trace, slot, line, blocks);
-    offer_before_slot(every, past.served, accs, table, blocks, under, turns);
+    offer_before_slot(every, home, accs, table, blocks, under, turns);
     next
 }
 
@@ -187,7 +207,7 @@ pub fn after_slot(
     ensures arrays { λ r. ⌜ arraysOf (now (blocks .exit)) (now (under .exit)) (now (turns .exit))
         ≡ afterOn (now (next .entry)) (now (table .entry)) left (arraysOf (now (blocks .entry)) (now (under .entry)) (now (turns .entry))) ⌝ }
 {
-    let served = serve(next, table, blocks, under, turns);
+    let served = serve(next, table, under, turns);
     let opened = left == 1;
     open_window(opened, blocks);
     SlotEnd {

@@ -1,9 +1,11 @@
 // What a run tells of one transaction, slot by slot.
 use crate::Wait;
+use counts::OWN_PORT;
 ghost use mathlib.Core.Path.{_≡_};
 ghost use Prim.Native.Nat.{_≤_, _<_, _+_, _%_};
 ghost use lib.Dec.{eqb, leb, ltb};
 ghost use lib.ListN.{getD};
+ghost use Rattle.counts.specs.Table.{ownPorts};
 ghost use Rattle.folds.specs.Fold.{pick};
 ghost use Rattle.runner.specs.Wait.{leastOf, tellOn};
 ghost use Rattle.runner.specs.Answers.{waitOf};
@@ -43,16 +45,32 @@ fn counted(count: u32, served: u8, a: u8) -> u32
     count
 }
 
-// What a run tells of transaction k of accelerator a after one slot more, in which this one was served; `blocks` has the counts then.
-// Nothing is looked at where no number is asked.
-pub fn tell(w: Wait, k: u32, a: u8, slot: u32, blocks: &[u32; 96], served: u8) -> Wait
+// How many transactions of accelerator a wait: what waits under its own port.
+fn waiting_at(table: &[u16; 246], under: &[u16; 120], a: u8) -> u16
+    ensures { λ r. ⌜ r ≡ getD (now (under .entry)) (getD (ownPorts (now (table .entry))) (a % 32) 0 % 120) 0 ⌝ }
+{
+    let port = table[OWN_PORT + (a % 32) as usize];
+    under[(port % 120) as usize]
+}
+
+// What a run tells of transaction k of accelerator a after one slot more, in which this one was served; `under` has what waits under
+// each port then. Nothing is looked at where no number is asked.
+pub fn tell(
+    w: Wait,
+    k: u32,
+    a: u8,
+    slot: u32,
+    table: &[u16; 246],
+    under: &[u16; 120],
+    served: u8,
+) -> Wait
     requires { ⌜ (slot < 65536) × (w .count ≤ slot) ⌝ }
-    ensures { λ r. ⌜ waitOf r ≡ tellOn (waitOf w) k a slot (getD (now (blocks .entry)) (a % 32) 0) served ⌝ }
+    ensures { λ r. ⌜ waitOf r ≡ tellOn (waitOf w) k a slot (getD (now (under .entry)) (getD (ownPorts (now (table .entry))) (a % 32) 0 % 120) 0) served ⌝ }
 {
     if k == 0 {
         return w;
     }
-    let waiting = blocks[(a % 32) as usize];
+    let waiting = waiting_at(table, under, a) as u32;
     let count = counted(w.count, served, a);
     Wait {
         admission: least(w.admission, slot, reached(k, count, waiting)),

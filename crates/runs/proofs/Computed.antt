@@ -4,6 +4,7 @@ use Prim.Native.Nat.{ℕ}
 use mathlib.Core.List.{[], _∷_}
 use mathlib.Core.Path.{_≡_, refl}
 use Rattle.model.specs.declared.Tree.{Tree}
+use lib.Count.{ones}
 use Rattle.folds.specs.Fold.{sum, all}
 use Rattle.model.specs.Tree.{above}
 use Rattle.model.specs.Beneath.{inside}
@@ -28,7 +29,7 @@ tree = pair 1 4 4 4 2
 -- the budget is 2: of four transactions the third is offered and refused, the fourth is not offered
 pub calls-of-slot : slotCalls tree (start tree (line 0 0 4 ∷ line 0 1 1 ∷ []))
     ≡ offer 0 ∷ offer 0 ∷ offer 0 ∷ offer 1 ∷ slot ∷ []
-unfolding offersHeld offersEach offerHeld offerEach heldWith offered treeKeeps stateKeeps sized recordKeeps turnKeeps busKeeps carries rootPlaced childPlaced usedInterconnect unusedInterconnect usedAccelerator unusedAccelerator inside above sum all
+unfolding offersHeld offersEach offerHeld offerEach heldWith offered treeKeeps stateKeeps sized recordKeeps turnKeeps busKeeps carries rootPlaced childPlaced usedInterconnect unusedInterconnect usedAccelerator unusedAccelerator inside above sum all ones
 calls-of-slot = refl
 
 pub byte-of-slot : bytesIn (event (offer 0) admitted ∷ event slot (served 0) ∷ []) ≡ 0 ∷ []

@@ -1,5 +1,6 @@
 -- Computed from the definitions.
 use mathlib.Core.Path.{refl}
+use lib.Count.{ones}
 use Rattle.folds.specs.Fold.{sum, all}
 use Rattle.model.specs.Tree.{above}
 use Rattle.model.specs.Beneath.{inside}
@@ -15,5 +16,5 @@ use Rattle.waits.specs.Why.{entries, whyFrom}
 use Rattle.runs.specs.Figures.{Figures}
 
 pub figures : Figures
-unfolding entries countIn first crosses meeting standing bytesBefore offerHeld offerEach heldWith leftAfter next offered slotted tick who after turnPort turnAllowance seek bitsBelow treeKeeps stateKeeps sized recordKeeps turnKeeps busKeeps carries rootPlaced childPlaced usedInterconnect unusedInterconnect usedAccelerator unusedAccelerator inside above sum all whyFrom trail
+unfolding entries countIn first crosses meeting standing bytesBefore offerHeld offerEach heldWith leftAfter next offered slotted tick who after turnPort turnAllowance seek bitsBelow treeKeeps stateKeeps sized recordKeeps turnKeeps busKeeps carries rootPlaced childPlaced usedInterconnect unusedInterconnect usedAccelerator unusedAccelerator inside above sum all ones whyFrom trail
 figures = record { last = refl; last-list = refl; own = refl; own-list = refl; at-once = refl; fifth = refl; none = refl; unknown = refl }

@@ -10,13 +10,13 @@ use Rattle.admit.proofs.end_of.Tie as tie
 returns-2 : tie.Need-returns-2
 returns-2 c =
     let x = c .before .before .args in
-    let e : x .served ≡ min 255 (x .served + 1) = omega (arith, c .if2 .taken) in
+    let e : x .home ≡ min 255 (x .home + 1) = omega (arith, c .if2 .taken) in
     e ∙ sym (passed _ _ _ (c .before .if1 .left))
 
 returns-3 : tie.Need-returns-3
 returns-3 c =
     let x = c .before .before .args in
-    let e : x .served + 1 ≡ min 255 (x .served + 1) = omega (arith, c .if2 .left) in
+    let e : x .home + 1 ≡ min 255 (x .home + 1) = omega (arith, c .if2 .left) in
     e ∙ sym (passed _ _ _ (c .before .if1 .left))
 
 pub end-of-spec : {M : Type 1} → statement M

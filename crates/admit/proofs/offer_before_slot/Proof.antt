@@ -9,19 +9,19 @@ use Rattle.admit.proofs.offer_before_slot.Statement.{statement}
 use Rattle.admit.proofs.offer_before_slot.Tie as tie
 
 abbrev Inv-loop : tie.InvT-loop
-Inv-loop every served accs table blocks₀ under₀ turns₀ a₀ end blocks under turns a =
+Inv-loop every home accs table blocks₀ under₀ turns₀ a₀ end blocks under turns a =
     offersFrom table (end - a) a (arraysOf blocks under turns)
-    ≡ offersBefore table every served accs (arraysOf blocks₀ under₀ turns₀)
+    ≡ offersBefore table every home accs (arraysOf blocks₀ under₀ turns₀)
 
 abbrev μ-loop : tie.MeasureT-loop
-μ-loop every served accs table blocks₀ under₀ turns₀ a₀ end blocks under turns a = end - a
+μ-loop every home accs table blocks₀ under₀ turns₀ a₀ end blocks under turns a = end - a
 
 loop-holds : tie.Need-loop-holds Inv-loop μ-loop
 loop-holds c =
     let x = c .before .before .args in
     let d = arraysOf (x .blocks .now) (x .under .now) (x .turns .now) in
     ap₂ (λ m n. offersFrom (x .table .now) (m - n) n d) (c .end-of .ensures) (c .before .first-of .ensures)
-    ∙ from-first (x .table .now) (x .every) (x .served) (x .accs) d
+    ∙ from-first (x .table .now) (x .every) (x .home) (x .accs) d
 
 loop-less : tie.Need-loop-less Inv-loop μ-loop
 loop-less c = omega arith

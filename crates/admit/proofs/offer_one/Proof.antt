@@ -12,32 +12,28 @@ use Rattle.admit.proofs.offer_one.Tie as tie
 add-blocks-2 : tie.Need-add-blocks-2
 add-blocks-2 c =
     let k = c .before .before .before .before in
-    let limit = k .before .before .before .before .wide in
-    let out = k .before .outstanding-by in
-    let room = admits-room (limit .result) (out .result) (k .before .before .wide2 .result) _ _ (k .limits-answer .ensures)
-    (c .before .before .enum-told .given .1) in
-    omega (arith, room .0, out .ensures, limit .ensures .1)
+    let limit = k .before .before .before .wide in
+    let room = admits-room (limit .result) _ (k .before .wide2 .result) _ _ (k .limits-answer .ensures) (c .before .before .enum-told .given .1) in
+    omega (arith, room .0, limit .ensures .1)
 
 add-blocks-3 : tie.Need-add-blocks-3
 add-blocks-3 c =
     let k = c .before .before .before .before in
-    let budget = k .before .before .wide2 in
-    let room = admits-room (k .before .before .before .before .wide .result) (k .before .outstanding-by .result) (budget .result) _ _ (k .limits-answer .ensures)
-    (c .before .before .enum-told .given .1) in
+    let budget = k .before .wide2 in
+    let room = admits-room (k .before .before .before .wide .result) _ (budget .result) _ _ (k .limits-answer .ensures) (c .before .before .enum-told .given .1) in
     omega (arith, room .1, budget .ensures .1)
 
 returns : tie.Need-returns
 returns c =
     let k = c .before .before .before .before .before .before .before .before in
-    let x = k .before .before .before .before .before .before .before .before .args in
-    let p = k .before .before .before .before .before .before .before .before .pre in
+    let x = k .before .before .before .before .before .before .before .args in
+    let p = k .before .before .before .before .before .before .before .pre in
     let b = x .blocks .now in
     let w = x .table .now in
     let along = c .add-along in
     let means = ap offerMeans (c .before .before .before .before .before .before .enum-told .given .1) in
     let same = k .limits-answer .ensures
-    ∙ reads-answer b (x .a) p w (x .under .now) (x .turns .now) _ _ _ (k .before .before .before .before .wide .ensures .0)
-    (k .before .outstanding-by .ensures) (k .before .before .wide2 .ensures .0) in (
+    ∙ reads-answer b (x .a) p w (x .under .now) (x .turns .now) _ _ (k .before .before .before .wide .ensures .0) (k .before .wide2 .ensures .0) in (
       sym means ∙ same,
       stored-one b (x .a) p _ _ _ w (x .under .now) (x .turns .now) (along .last .1 .1 .0) (along .last .1 .1 .1 .0)
           (c .before .before .before .before .less-one .ensures) refl refl (along .ensures .0) (along .ensures .1 .0) (along .ensures .1 .1)
@@ -47,13 +43,13 @@ returns c =
 returns-2 : tie.Need-returns-2
 returns-2 c =
     let k = c .before .before .before in
-    let x = k .before .before .before .before .before .before .before .before .args in
+    let x = k .before .before .before .before .before .before .before .args in
+    let p = k .before .before .before .before .before .before .before .pre in
     let b = x .blocks .now in
     let w = x .table .now in
     let means = ap offerMeans (c .before .refusal .given .1) in
     let same = k .limits-answer .ensures
-    ∙ reads-answer b (x .a) (k .before .before .before .before .before .before .before .before .pre) w (x .under .now) (x .turns .now) _ _ _ (k .before .before .before .before .wide .ensures .0)
-    (k .before .outstanding-by .ensures) (k .before .before .wide2 .ensures .0) in
+    ∙ reads-answer b (x .a) p w (x .under .now) (x .turns .now) _ _ (k .before .before .before .wide .ensures .0) (k .before .wide2 .ensures .0) in
     (sym means ∙ same, sym (on-refused w (x .a) (arraysOf b (x .under .now) (x .turns .now)) _ (sym same ∙ means)))
 
 pub offer-one-spec : {M : Type 1} → statement M
@@ -72,7 +68,6 @@ offer-one-spec =
     (λ c. search needs)
     (λ c. search needs)
     (λ c. search needs)
-    (λ c κs. search needs)
     (λ c κs. search needs)
     (λ c κs. search needs)
     (λ c. search needs)

@@ -9,13 +9,14 @@ use Rattle.runner.proofs.steps.after_slot.Tie as tie
 
 returns : tie.Need-returns
 returns c =
-    let x = c .before .before .before .before .before .before .before .args in
+    let x = c .before .before .before .before .before .before .args in
     let q = c .before .before .before .serve in
     let o = c .before .open-window in
-    let w = o .ensures in (
-      ap₂ (λ (b m : ℕ). endOn b (opensOn (x .left)) m) (ap (λ (y : Slot). y .byte) (q .ensures)) (c .left-after .ensures),
-      opened-arrays (q .last .1 .1 .0) (o .last .1 .0) (q .last .1 .1 .1 .0) (q .last .1 .1 .1 .1 .0) (opensOn (x .left)) (w .0) (w .1 .0) (w .1 .1)
-          ∙ ap (λ (y : Slot). openOn (opensOn (x .left)) (y .arrays)) (q .ensures),
+    let w = o .ensures in
+    let served = q .ensures (x .blocks .now) in (
+      ap₂ (λ (b m : ℕ). endOn b (opensOn (x .left)) m) (ap (λ (y : Slot). y .byte) served) (c .left-after .ensures),
+      opened-arrays (x .blocks .now) (o .last .1 .0) (q .last .1 .1 .0) (q .last .1 .1 .1 .0) (opensOn (x .left)) (w .0) (w .1 .0) (w .1 .1)
+          ∙ ap (λ (y : Slot). openOn (opensOn (x .left)) (y .arrays)) served,
     )
 
 pub after-slot-spec : {M : Type 1} → statement M
