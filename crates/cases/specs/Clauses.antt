@@ -24,6 +24,7 @@ use mathlib.Core.Bool.{Bool, true, false}
 use mathlib.Core.List.{List, [], _∷_, _++_}
 use mathlib.Core.Path.{refl}
 use lib.ListN.{length, replicate}
+use lib.Count.{ones}
 use Rattle.model.specs.declared.Tree.{Tree}
 use Rattle.model.specs.declared.State.{State}
 use Rattle.model.specs.declared.Bus.{Bus}
@@ -53,7 +54,7 @@ use Rattle.cases.specs.Figures.{Figure, answers, answersFrom, keeping, s
 
 abbrev pub unequal : ℕ → ℕ → Bus
 unequal x y =
-    record { window = 16; ta = 3; da = x; dd = y; db = 7; pr = 40; pw = 29; td = 2; tb = 13; burst = 10 }
+    record { window = 16; ta = 3; da = x; dd = y; db = 7; pr = 40; pw = 29; td = 2; tb = 13; burst = 10; delay = 0 }
 
 abbrev pub unequalTree : ℕ → Tree
 unequalTree T = withBus (timed T) (unequal 5 11)
@@ -143,12 +144,12 @@ jobs T U =
 abbrev pub broken : Tree
 broken = pair 0 16 4 4 8
 
-abbrev padded : ℕ → List ℕ → List ℕ
+abbrev pub padded : ℕ → List ℕ → List ℕ
 padded n xs = xs ++ replicate (n - length xs) 0
 
 abbrev pub stateOf : List ℕ → List ℕ → List ℕ → List ℕ → ℕ → State
 stateOf w a l o n =
-    atSlot (withTurns (withCounts zeroState (padded 32 w) []) (padded 15 l) (padded 15 o)) (padded 32 a) n
+    atSlot (withTurns (withCounts zeroState (padded 32 w) []) (padded 15 l) (padded 15 o)) (replicate 32 0) (padded 32 a) n
 
 abbrev sharesFrom : Tree → ℕ → ℕ → List ℕ
 sharesFrom t a zero = []
@@ -293,5 +294,5 @@ clauses =
     ∷ []
 
 pub clauses-hold : every clauses
-unfolding answersOf parts butLast final same allDigits decimal fieldOf kindOf pushed lineOf shaped offerLine readOffers readTrace requests ranOf bufferAfter heldWith leftAfter offerHeld offerEach next trail freshened offered slotted tick who after turnPort turnAllowance seek bitsBelow treeKeeps stateKeeps sized recordKeeps turnKeeps busKeeps carries rootPlaced childPlaced usedInterconnect unusedInterconnect usedAccelerator unusedAccelerator inside above sum all shareAlong othersAt boundOf reportText rowText allLine refusalText joined decimalText digits
+unfolding answersOf parts butLast final same allDigits decimal fieldOf kindOf pushed lineOf shaped offerLine readOffers readTrace requests ranOf bufferAfter heldWith leftAfter offerHeld offerEach next trail freshened offered slotted tick who after turnPort turnAllowance seek bitsBelow treeKeeps stateKeeps sized recordKeeps turnKeeps busKeeps carries rootPlaced childPlaced usedInterconnect unusedInterconnect usedAccelerator unusedAccelerator inside above sum all ones shareAlong othersAt boundOf reportText rowText allLine refusalText joined decimalText digits
 clauses-hold = (refl, (refl, (refl, (refl, (refl, (refl, (refl, (refl, (refl, (refl, (refl, ((refl, refl), (refl, ((refl, refl), ((refl, refl), ((refl, refl), ((refl, refl), ((refl, refl), ((refl, refl), ((refl, refl), ((refl, refl), ((refl, refl), ((refl, refl), ((refl, refl), (refl, (refl, (refl, (refl, (refl, (refl, (refl, (refl, (refl, (refl, (refl, (refl, (refl, (refl, (refl, (refl, ((refl, refl), (refl, (refl, (refl, (refl, (refl, (refl, (refl, (refl, (refl, (refl, (refl, (refl, (refl, (refl, (refl, (refl, (refl, (refl, (refl, (refl, (refl, (refl, (refl, (refl, tt)))))))))))))))))))))))))))))))))))))))))))))))))))))))))))))))))

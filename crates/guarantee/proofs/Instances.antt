@@ -5,6 +5,7 @@ use mathlib.Core.Bool.{true}
 use mathlib.Core.List.{List, [], _∷_, _++_}
 use mathlib.Core.Path.{_≡_, refl, sym, _∙_, ap, subst}
 use lib.ListN.{length}
+use lib.Count.{ones}
 use native.Mathlib.Omega.{arith}
 use Rattle.model.specs.declared.Tree.{Tree}
 use Rattle.model.specs.declared.State.{State}
@@ -18,6 +19,8 @@ use Rattle.machine.specs.Calls.{Call, offer, slot, answersOf, stateAfter}
 use Rattle.shares.specs.Shares.{othersAt, shareAlong, shareOf}
 use Rattle.model.specs.Trees.{chain}
 use Rattle.guarantee.specs.Guarantee.{Event, event, eventsOf, queueFrom, startingQueue, queueAfter, slotsIn, othersIn, admissionsFrom, ServedWithin, Holds, here, Guarantee}
+use Rattle.guarantee.specs.Homecoming.{recentIn}
+use Rattle.guarantee.specs.AtOnce.{sizedAtOnce, recordKeepsAtOnce, stateKeepsAtOnce, offeredAtOnce, slottedAtOnce, answersAtOnce}
 use Rattle.guarantee.specs.Instances.{MetExactly, backOf, Tight, several, unreached, Sharp, AllTight}
 use Rattle.guarantee.proofs.Events.{slots-append}
 use Rattle.guarantee.proofs.Once.{served-once}
@@ -92,7 +95,7 @@ tight {t} {s} {cs} {a} {k} {n} m G = record {
     }
 
 pub sharp : Sharp
-unfolding eventsOf answersOf stateAfter queueFrom startingQueue slotsIn othersIn admissionsFrom offered slotted tick who after turnPort turnAllowance seek bitsBelow treeKeeps stateKeeps sized recordKeeps turnKeeps busKeeps carries rootPlaced childPlaced usedInterconnect unusedInterconnect usedAccelerator unusedAccelerator inside above sum all othersAt shareAlong
+unfolding eventsOf answersOf stateAfter queueFrom startingQueue slotsIn othersIn admissionsFrom offered slotted tick who after turnPort turnAllowance seek bitsBelow treeKeeps stateKeeps sized recordKeeps turnKeeps busKeeps carries rootPlaced childPlaced usedInterconnect unusedInterconnect usedAccelerator unusedAccelerator inside above sum all ones othersAt shareAlong recentIn sizedAtOnce recordKeepsAtOnce stateKeepsAtOnce offeredAtOnce slottedAtOnce answersAtOnce
 sharp = record {
   none-before = record {
     front = taken (several 4 (offer 0 ∷ []) ++ several 2 (offer 1 ∷ []) ++ offer 2 ∷ []);
@@ -166,6 +169,22 @@ sharp = record {
   every-answer = refl;
   first-window = record { start = refl; spent = refl; refusal = refl };
   never-reached = no-run refl;
+  while-returning = record {
+    front = event (offer 0) admitted ∷ event slot (served 0) ∷ event (offer 0) (refused 8) ∷ event (offer 1) admitted
+        ∷ event slot (served 1) ∷ event slot idle ∷ [];
+    mid = event (offer 0) admitted ∷ served-in (0 ∷ []);
+    rest = [];
+    others = [];
+    start = refl;
+    events = refl;
+    before = refl;
+    first = refl;
+    slots = refl;
+    granted = refl;
+    others-served = refl;
+  };
+  one-by-one = refl;
+  delay-tells = (refl, refl);
 }
 
 pub all-tight : AllTight sharp
@@ -175,6 +194,7 @@ all-tight = record {
   wide-turn = by-demand-3 (sharp .wide-turn);
   from-unreached = by-demand-3 (sharp .from-unreached);
   with-refusals = by-demand-3 (sharp .with-refusals);
+  while-returning = by-demand-3 (sharp .while-returning);
 }
   where
     by-demand-3 : {t : Tree} {s : State} {cs : List Call} {a k n : ℕ} (m : MetExactly t s cs a k n) → Tight m

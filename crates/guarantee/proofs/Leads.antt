@@ -6,19 +6,24 @@
 use Prim.Native.Nat.{ℕ, _+_, _<_}
 use mathlib.Core.Bool.{true}
 use mathlib.Core.List.{List, [], _∷_, _++_}
-use mathlib.Core.Path.{_≡_, refl, sym, ap, subst}
+use mathlib.Core.Path.{_≡_, refl, sym, ap, subst, _∙_}
 use native.Mathlib.Decide.{ℕ-discrete}
 use native.Mathlib.Omega.{arith}
 use lib.ListN.{getD}
 use Rattle.folds.proofs.Folds.{clash}
 use Rattle.model.specs.declared.Tree.{Tree}
 use Rattle.model.specs.declared.State.{State}
-use Rattle.model.specs.Tree.{path, waitingOf, admittedOf}
+use Rattle.model.specs.Tree.{path, delayOf, waitingOf, returnsOf, admittedOf}
+use Rattle.model.specs.Beneath.{inside}
 use Rattle.rules.specs.Rules.{keeps}
+use Rattle.rules.proofs.Sound.{sound-of, kept-of}
 use Rattle.rules.proofs.Beneath.{On, only, only-same, only-other}
-use Rattle.machine.specs.Machine.{Answer, Outcome, admitted, served, idle, refused, offered, slotted, chosen}
+use Rattle.turns.specs.Turns.{after}
+use Rattle.machine.specs.Machine.{Answer, Outcome, admitted, served, idle, refused, offered, older, tick, chosen, serve, slotted}
 use Rattle.machine.specs.Calls.{Call, offer, slot, step, stateAfter}
-use Rattle.turns.proofs.Descent.{Turned, Unturned}
+use Rattle.turns.proofs.Descent.{Turned, Unturned, choice}
+use Rattle.machine.proofs.Returns.{older-at}
+use Rattle.machine.proofs.Keeps.{take-returns}
 use Rattle.machine.proofs.Cases.{Offered, offer-cases, Slotted, slot-cases}
 use Rattle.machine.proofs.Laws.{offer-keeps, offer-admits, offer-others, Served, Ticked, slot-keeps, slot-only-last, slot-serves, slot-on-path, slot-off-path, slot-idle-turns, slot-windows}
 use Rattle.guarantee.specs.Guarantee.{Event, eventsOf}
@@ -28,6 +33,7 @@ pub record Admission (t : Tree) (s : State) (b : ℕ) (r : State) : Type 0 where
   pub acc : b < t .accs
   pub waiting : (a : ℕ) → waitingOf r a ≡ waitingOf s a + only a b
   pub admitted : (a : ℕ) → admittedOf r a ≡ admittedOf s a + only a b
+  pub returns : (a : ℕ) → returnsOf r a ≡ returnsOf s a
   pub turns : (i : ℕ) → Unturned s r i
   pub slot : r .slot ≡ s .slot
 
@@ -36,6 +42,7 @@ pub record Service (t : Tree) (s : State) (b : ℕ) (r : State) : Type 0 where
   pub acc : b < t .accs
   pub waited : 0 < waitingOf s b
   pub waiting : (a : ℕ) → waitingOf s a ≡ waitingOf r a + only a b
+  pub returns : (a : ℕ) → returnsOf r a ≡ older (delayOf t) (returnsOf s a + only a b)
   pub on : (i p : ℕ) → On i p (path t b) → Turned t s r i p
   pub off : (i : ℕ) → ((p : ℕ) → On i p (path t b) → ⊥) → Unturned s r i
   pub ticked : Ticked t s r
@@ -44,6 +51,7 @@ pub record Service (t : Tree) (s : State) (b : ℕ) (r : State) : Type 0 where
 pub record Idle (t : Tree) (s r : State) : Type 0 where
   pub none : (a : ℕ) → waitingOf s a ≡ 0
   pub waiting : (a : ℕ) → waitingOf r a ≡ waitingOf s a
+  pub returns : (a : ℕ) → returnsOf r a ≡ older (delayOf t) (returnsOf s a)
   pub turns : (i : ℕ) → Unturned s r i
   pub ticked : Ticked t s r
 
@@ -53,6 +61,12 @@ pub data Does (t : Tree) (s : State) : Call → Answer → State → Type 0 wher
   serves : {b : ℕ} {r : State} → Service t s b r → Does t s slot (served b) r
   idles : {r : State} → Idle t s r → Does t s slot idle r
   halts : {n : ℕ} → n ≡ 10 → Does t s slot (refused n) s
+
+only-either : (a b : ℕ) → only a b ≡ only b a
+only-either a b = elim (ℕ-discrete a b) [
+  | yes e ↦ only-same a b e ∙ sym (only-same b a (sym e))
+  | no d ↦ only-other a b d ∙ sym (only-other b a (λ e. d (sym e)))
+]
 
 abbrev answerOf : Outcome → Answer
 answerOf o = o .answer
@@ -74,6 +88,7 @@ module _ (t : Tree) (s : State) (k : keeps t s ≡ true) where
           (omega (arith, only-same b b refl, offer-admits t s b k e))
       | no d ↦ omega (arith, only-other a b d, offer-others t s b .admitted a d)
     ];
+    returns = λ a. ap (λ l. getD l a 0) (offer-others t s b .returning);
     turns = λ i. record {
       last = ap (λ l. getD l i 0) (offer-others t s b .last);
       allowance = ap (λ l. getD l i 0) (offer-others t s b .allowance);
@@ -89,8 +104,25 @@ module _ (t : Tree) (s : State) (k : keeps t s ≡ true) where
       go o (Offered.admits l h m) e =
           subst (Does t s (offer b) admitted) (ap stateOf e) (admits (admission b (ap answerOf e) l))
 
-  serving : (b : ℕ) → slotted t s .answer ≡ served b → Service t s b (slotted t s .state)
-  serving b e = record {
+  -- the returns of a slot that serves: one more of the accelerator chosen, and each one slot older
+  served-returns : 0 < inside 4 t (waitingOf s) 0 → (a : ℕ)
+      → returnsOf (tick t (serve t s)) a ≡ older (delayOf t) (returnsOf s a + only a (chosen t s))
+  unfolding tick
+  served-returns w a =
+      let S = sound-of t s k in
+      let K = kept-of t s k in
+      older-at (delayOf t) (serve t s .returning) a
+      ∙ ap (older (delayOf t)) (take-returns t S s K (chosen t s) (after 4 t s 0) (choice t S s K w) a
+      ∙ ap (λ n. returnsOf s a + n) (only-either (chosen t s) a))
+
+  idle-returns : (a : ℕ) → returnsOf (tick t s) a ≡ older (delayOf t) (returnsOf s a)
+  unfolding tick
+  idle-returns a = older-at (delayOf t) (s .returning) a
+
+  serving : (b : ℕ) → slotted t s .answer ≡ served b
+      → ((a : ℕ) → returnsOf (slotted t s .state) a ≡ older (delayOf t) (returnsOf s a + only a b))
+      → Service t s b (slotted t s .state)
+  serving b e h = record {
     acc = v .acc;
     waited = v .waited;
     waiting = λ a. elim (ℕ-discrete a b) [
@@ -98,6 +130,7 @@ module _ (t : Tree) (s : State) (k : keeps t s ≡ true) where
           (omega (arith, only-same b b refl, v .own))
       | no d ↦ omega (arith, only-other a b d, v .others a d)
     ];
+    returns = h;
     on = slot-on-path t s k b e;
     off = slot-off-path t s k b e;
     ticked = slot-windows t s (λ n f. clash cc);
@@ -106,12 +139,14 @@ module _ (t : Tree) (s : State) (k : keeps t s ≡ true) where
       v : Served t s b (slotted t s .state)
       v = slot-serves t s k b e
 
-  idling : slotted t s .answer ≡ idle → ((a : ℕ) → waitingOf s a ≡ 0) → Idle t s (slotted t s .state)
-  idling e z =
+  idling : slotted t s .answer ≡ idle → ((a : ℕ) → waitingOf s a ≡ 0)
+      → ((a : ℕ) → returnsOf (slotted t s .state) a ≡ older (delayOf t) (returnsOf s a)) → Idle t s (slotted t s .state)
+  idling e z g =
       let h = slot-idle-turns t s e in
       record {
         none = z;
         waiting = λ a. ap (λ l. getD l a 0) (h .0);
+        returns = g;
         turns = λ i. record { last = ap (λ l. getD l i 0) (h .1); allowance = ap (λ l. getD l i 0) (h .2) };
         ticked = slot-windows t s (λ n f. clash cc);
       }
@@ -121,9 +156,12 @@ module _ (t : Tree) (s : State) (k : keeps t s ≡ true) where
     where
       go : (o : Outcome) → Slotted t s o → slotted t s ≡ o → Does t s slot (o .answer) (o .state)
       go o (Slotted.stops w) e = halts (slot-only-last t s k _ (ap answerOf e) .0)
-      go o (Slotted.idles _ d z) e = subst (Does t s slot idle) (ap stateOf e) (idles (idling (ap answerOf e) z))
+      go o (Slotted.idles _ d z) e =
+          subst (Does t s slot idle) (ap stateOf e)
+          (idles (idling (ap answerOf e) z (λ a. ap (λ x. returnsOf x a) (ap stateOf e) ∙ idle-returns a)))
       go o (Slotted.serves _ d w) e =
-          subst (Does t s slot (served (chosen t s))) (ap stateOf e) (serves (serving (chosen t s) (ap answerOf e)))
+          subst (Does t s slot (served (chosen t s))) (ap stateOf e)
+          (serves (serving (chosen t s) (ap answerOf e) (λ a. ap (λ x. returnsOf x a) (ap stateOf e) ∙ served-returns w a)))
 
   does : (c : Call) → Does t s c (step t s c .answer) (step t s c .state)
   does (offer b) = offer-does b

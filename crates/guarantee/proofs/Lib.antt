@@ -8,5 +8,7 @@ pub mod Queue
 pub mod Once
 pub mod Budget
 pub mod Theorem
+pub mod Homecoming
+pub mod AtOnce
 pub mod Consequences
 pub mod Instances

@@ -1,4 +1,4 @@
--- Lists of calls that show that demand 3 is neither empty nor slack.
+-- Lists of calls that show that demand 3 is neither empty nor slack, and what a return delay changes.
 --
 -- MetExactly t s cs a k n   in the list cs from state s a transaction of accelerator a is admitted with k of its own
 --                       waiting before it and served in the n-th slot from there, the very last that demand 3 grants it;
@@ -21,11 +21,16 @@
 --                       one less than its budget
 -- untilLast             case 2's slots from there, with offers that are refused before and between them, up to the last
 --                       slot and beyond it
+-- whileReturning        on `returningPair 2 1 4`: accelerator 0 is served and offered again while its answer is on the way, then once more
+--                       when it is home, and accelerator 1 has to wait for it
+-- onTheirWay            a state of `returningPair 2 4 4`: one of accelerator 0 waits, and two were served one and two slots ago
+-- slotsLater n          how many of accelerator 0 are outstanding n slots after that state
+-- delayed               a tree of return delay 1
 -- Sharp                 the instances
 -- AllTight h            demand 3 is tight at each of them
 use Prim.Native.Nat.{ℕ, zero, suc, _+_, _-_, _*_, _≤_}
 use mathlib.Core.Bool.{true}
-use mathlib.Core.List.{List, [], _∷_, _++_}
+use mathlib.Core.List.{List, [], _∷_, _++_, map}
 use mathlib.Core.Path.{_≡_}
 use lib.ListN.{length, replicate}
 use Rattle.model.specs.declared.Tree.{Tree}
@@ -35,9 +40,11 @@ use Rattle.rules.specs.Rules.{keeps}
 use Rattle.machine.specs.Machine.{admitted, served, idle, refused, freshState, lastSlot}
 use Rattle.machine.specs.Calls.{Call, offer, slot, step, answersOf, stateAfter}
 use Rattle.shares.specs.Shares.{shareOf}
-use Rattle.model.specs.Builders.{withCounts, withTurns, atSlot}
-use Rattle.model.specs.Trees.{chain, chainOf, pair, nested}
+use Rattle.model.specs.Builders.{withCounts, withService, withTurns, atSlot}
+use Rattle.model.specs.Trees.{chain, chainOf, pair, returningPair, nested}
 use Rattle.guarantee.specs.Guarantee.{Event, event, eventsOf, Ticket, admittedBy, queueAfter, slotsIn, othersIn, admissionsIn, upTo, ServedWithin}
+use Rattle.guarantee.specs.Homecoming.{outstandingAfter}
+use Rattle.guarantee.specs.AtOnce.{answersAtOnce}
 
 pub record MetExactly (t : Tree) (s : State) (cs : List Call) (a k n : ℕ) : Type 0 where
   pub front : List Event
@@ -99,12 +106,26 @@ fromUnreached = offer 3 ∷ several 2 round
 
 abbrev pub late : State
 late =
-    withCounts (atSlot (freshState chain) (replicate 32 0) (lastSlot - 9)) (3 ∷ replicate 31 0) (7 ∷ replicate 31 0)
+    withCounts (atSlot (freshState chain) (replicate 32 0) (replicate 32 0) (lastSlot - 9)) (3 ∷ replicate 31 0) (7 ∷ replicate 31 0)
 
 abbrev pub untilLast : List Call
 untilLast =
     offer 0 ∷ offer 0 ∷ several 2 (offer 1 ∷ []) ++ offer 2 ∷ offer 4 ∷ offer 3
     ∷ slot ∷ offer 0 ∷ several 3 (slot ∷ []) ++ offer 9 ∷ several 6 (slot ∷ []) ++ offer 3 ∷ []
+
+abbrev pub whileReturning : List Call
+whileReturning =
+    offer 0 ∷ slot ∷ offer 0 ∷ offer 1 ∷ slot ∷ slot ∷ offer 1 ∷ offer 0 ∷ slot ∷ slot ∷ []
+
+abbrev pub onTheirWay : State
+onTheirWay = withService (freshState (returningPair 2 4 4)) (1 ∷ replicate 31 0) (6 ∷ replicate 31 0)
+
+abbrev pub slotsLater : ℕ → ℕ
+slotsLater n =
+    outstandingAfter (returningPair 2 4 4) onTheirWay 0 (eventsOf (returningPair 2 4 4) onTheirWay (several n (slot ∷ [])))
+
+abbrev pub delayed : Tree
+delayed = returningPair 1 1 4
 
 pub record Sharp : Type 0 where
   -- case 2: accelerator 3, share 8, served in the eighth slot
@@ -126,6 +147,13 @@ pub record Sharp : Type 0 where
   -- there accelerator 0 is admitted once in the first window, and with its starting admitted count that is its budget
   pub first-window : SpentIn chain late untilLast 0 268435455
   pub never-reached : (cs : List Call) → stateAfter chain (freshState chain) cs ≡ unreached → ⊥
+  -- with return delay 2, where an offer is refused by 8 since the answer is on the way: accelerator 1, share 2, served in the second slot
+  pub while-returning : MetExactly (returningPair 2 1 4) (freshState (returningPair 2 1 4)) whileReturning 1 0 2
+  -- three are outstanding; one is served in the first slot, and in each slot one comes home
+  pub one-by-one : map slotsLater (0 ∷ 1 ∷ 2 ∷ 3 ∷ []) ≡ 3 ∷ 2 ∷ 1 ∷ 0 ∷ []
+  -- with return delay 1 the machine is not document 01's
+  pub delay-tells : (answersOf delayed (freshState delayed) (offer 0 ∷ slot ∷ offer 0 ∷ []) ≡ admitted ∷ served 0 ∷ refused 8 ∷ [])
+      × (answersAtOnce delayed (freshState delayed) (offer 0 ∷ slot ∷ offer 0 ∷ []) ≡ admitted ∷ served 0 ∷ admitted ∷ [])
 
 pub record AllTight (h : Sharp) : Type 0 where
   pub none-before : Tight (h .none-before)
@@ -133,3 +161,4 @@ pub record AllTight (h : Sharp) : Type 0 where
   pub wide-turn : Tight (h .wide-turn)
   pub from-unreached : Tight (h .from-unreached)
   pub with-refusals : Tight (h .with-refusals)
+  pub while-returning : Tight (h .while-returning)

@@ -1,3 +1,5 @@
 pub mod Guarantee
 pub mod Consequences
+pub mod Homecoming
+pub mod AtOnce
 pub mod Instances
