@@ -75,6 +75,9 @@ fn with_bus_bytes(b: Bus, which: usize, x: u8) -> Bus {
     if which == 5 {
         next.tb = x;
     }
+    if which == 10 {
+        next.delay = x;
+    }
     next
 }
 
@@ -97,7 +100,7 @@ fn with_bus_pairs(b: Bus, which: usize, x: u16) -> Bus {
 
 // The tree with another number on its bus line.
 fn with_bus(t: Tree, d: &mut [usize; 16384]) -> Tree {
-    let which = number_below(d, 10);
+    let which = number_below(d, 11);
     let x = edge(d);
     let mut next = t;
     next.bus = with_bus_pairs(with_bus_bytes(t.bus, which, byte(x)), which, pair(x));

@@ -3,6 +3,13 @@
 //
 // Test code: it is proved that each function is safe and ends, and of the comparison which number of the store it compares with
 // which entry of the state.
+pub mod returns;
+
+use crate::returns::UNUSED;
+use crate::returns::WAYS;
+use crate::returns::altered_bits;
+use crate::returns::give_all;
+use crate::returns::same_returns;
 use generator::number_below;
 use machine::FreshAnswer;
 use machine::OfferAnswer;
@@ -12,12 +19,15 @@ use machine::offer;
 use machine::slot;
 use model::State;
 use model::Tree;
+use model::access::accelerator_at;
 use model::access::admitted_of;
 use model::access::allowance_of;
 use model::access::last_of;
+use model::access::returns_of;
 use model::access::waiting_of;
 use model::number;
 use second::BUDGET_FIRST;
+use second::DUE_NOW;
 use second::LAST_FIRST;
 use second::NO_WRONG_RULE;
 use second::UNKNOWN_FIRST;
@@ -30,6 +40,7 @@ use second::calls::last_port;
 use second::calls::left;
 use second::calls::offer_answer;
 use second::calls::offer_one;
+use second::calls::rules_broken;
 use second::calls::set_slot_count;
 use second::calls::slot_count;
 use second::calls::slot_one;
@@ -54,14 +65,25 @@ pub const SLOTS: usize = 3216;
 // Starts, by the number of their answer.
 pub const STARTS: usize = 3232;
 
+// Offers refused by 8 of accelerators of which fewer than phi wait.
+pub const HELD_BACK: usize = 3344;
+
+// States altered in one of the ways of `returns`, by way: those that break their rules,
+pub const BROKEN: usize = 3352;
+
+// and those that keep them.
+pub const KEPT: usize = 3360;
+
 // The slot count at which no slot is left.
 const LAST_SLOT: u32 = 4294967295;
 
-fn same_record(s: State, a: u8, d: &[usize; 16384]) -> bool
-    ensures { λ r. ⌜ r ≡ sameRecord s a (now (d .entry)) ⌝ }
+fn same_record(s: State, a: u8, delay: u8, d: &[usize; 16384]) -> bool
+    ensures { λ r. ⌜ r ≡ sameRecord s a delay (now (d .entry)) ⌝ }
 {
     let i = a as usize;
-    (waiting_of(s, a) as usize == waiting(d, i)) & (admitted_of(s, a) as usize == used(d, i))
+    (waiting_of(s, a) as usize == waiting(d, i))
+        & (admitted_of(s, a) as usize == used(d, i))
+        & same_returns(s, a, delay, d)
 }
 
 fn same_turn(s: State, j: u8, d: &[usize; 16384]) -> bool
@@ -71,13 +93,13 @@ fn same_turn(s: State, j: u8, d: &[usize; 16384]) -> bool
     (last_of(s, j) as usize == last_port(d, i)) & (allowance_of(s, j) as usize == left(d, i))
 }
 
-fn same_records(s: State, d: &[usize; 16384]) -> bool
-    ensures { λ r. ⌜ r ≡ all 32 (λ a. sameRecord s a (now (d .entry))) ⌝ }
+fn same_records(s: State, delay: u8, d: &[usize; 16384]) -> bool
+    ensures { λ r. ⌜ r ≡ all 32 (λ a. sameRecord s a delay (now (d .entry))) ⌝ }
 {
     let mut same = true;
     let mut a: u8 = 0;
     while a < 32 {
-        same = same & same_record(s, a, d);
+        same = same & same_record(s, a, delay, d);
         a += 1;
     }
     same
@@ -95,11 +117,11 @@ fn same_turns(s: State, d: &[usize; 16384]) -> bool
     same
 }
 
-// Is each entry of the library's state what the store has?
-fn same_state(s: State, d: &[usize; 16384]) -> bool
-    ensures { λ r. ⌜ r ≡ sameState s (now (d .entry)) ⌝ }
+// Is each entry of the library's state, on a tree with this return delay, what the store has?
+fn same_state(s: State, delay: u8, d: &[usize; 16384]) -> bool
+    ensures { λ r. ⌜ r ≡ sameState s delay (now (d .entry)) ⌝ }
 {
-    (s.slot as usize == slot_count(d)) & same_records(s, d) & same_turns(s, d)
+    (s.slot as usize == slot_count(d)) & same_records(s, delay, d) & same_turns(s, d)
 }
 
 fn started(answer: FreshAnswer) -> usize {
@@ -139,16 +161,27 @@ fn note_offer(a: usize, answer: usize, wrong: usize, d: &mut [usize; 16384]) {
     note(d, WRONG, wrong, answer == wrongly);
 }
 
+// An offer of accelerator a that is refused by 8: do fewer than phi wait?
+fn note_held_back(t: Tree, s: State, a: u8, d: &mut [usize; 16384]) {
+    let x = accelerator_at(t, a);
+    note(d, HELD_BACK, 0, x.phi <= waiting_of(s, a));
+}
+
 fn try_offer(t: Tree, s: State, a: u8, d: &mut [usize; 16384]) -> State {
     let r = offer(t, s, a);
     let said = r.answer;
     let answer = offer_number(said);
     note_offer(a as usize, answer, BUDGET_FIRST, d);
     note_offer(a as usize, answer, UNKNOWN_FIRST, d);
+    note_offer(a as usize, answer, DUE_NOW, d);
     let ours = offer_one(d, a as usize, NO_WRONG_RULE);
     let next = r.state;
-    note(d, DIFFERENCES, 0, (answer == ours) & same_state(next, d));
+    let same = same_state(next, t.bus.delay, d);
+    note(d, DIFFERENCES, 0, (answer == ours) & same);
     add(d, OFFERS, ours, 1);
+    if ours == 8 {
+        note_held_back(t, s, a, d);
+    }
     next
 }
 
@@ -157,15 +190,22 @@ fn slot_number(code: usize) -> usize {
     if code < 256 { 0 } else { code - 256 }
 }
 
+// On a slot that answers this, is a wrong rule seen?
+fn note_slot(code: usize, wrong: usize, d: &mut [usize; 16384]) {
+    let wrongly = slot_refusal(d, wrong);
+    note(d, WRONG, wrong, slot_number(code) == wrongly);
+}
+
 fn try_slot(t: Tree, s: State, d: &mut [usize; 16384]) -> State {
     let r = slot(t, s);
     let said = r.answer;
     let code = slot_code(said);
-    let wrongly = slot_refusal(d, LAST_FIRST);
-    note(d, WRONG, LAST_FIRST, slot_number(code) == wrongly);
+    note_slot(code, LAST_FIRST, d);
+    note_slot(code, DUE_NOW, d);
     let ours = slot_one(d, NO_WRONG_RULE);
     let next = r.state;
-    note(d, DIFFERENCES, 0, (code == ours) & same_state(next, d));
+    let same = same_state(next, t.bus.delay, d);
+    note(d, DIFFERENCES, 0, (code == ours) & same);
     add(d, SLOTS, slot_kind(ours), 1);
     next
 }
@@ -205,18 +245,19 @@ fn altered(s: State, which: usize, i: usize, n: u8) -> State {
     next
 }
 
-// The state at slot n.
-fn at_slot(s: State, n: u32, d: &mut [usize; 16384]) -> State {
+// The state at slot n; what returns is due as many slots ahead as before.
+fn at_slot(t: Tree, s: State, n: u32, d: &mut [usize; 16384]) -> State {
     set_slot_count(d, n as usize);
     let mut next = s;
     next.slot = n;
+    give_all(next, t.bus.delay, d);
     next
 }
 
 // A slot where none is left, then calls at slot 0.
 fn try_late_and_early(t: Tree, s: State, n: usize, d: &mut [usize; 16384]) {
-    let late = try_slot(t, at_slot(s, LAST_SLOT, d), d);
-    try_calls(t, at_slot(late, 0, d), n, d);
+    let late = try_slot(t, at_slot(t, s, LAST_SLOT, d), d);
+    try_calls(t, at_slot(t, late, 0, d), n, d);
 }
 
 // Calls where one entry is altered at random.
@@ -228,14 +269,56 @@ fn try_altered(t: Tree, s: State, d: &mut [usize; 16384]) {
     try_late_and_early(t, altered(s, which, i, n), 8, d);
 }
 
-// Calls where the slot count is at its end, or one or two before it.
+// An accelerator of the tree, or, in the last of the ways, one that it has not.
+fn some_accelerator(t: Tree, way: usize, d: &mut [usize; 16384]) -> u8 {
+    let accs = t.accs as usize;
+    if way != UNUSED {
+        return (number_below(d, accs) % 32) as u8;
+    }
+    if 32 <= accs {
+        return 31;
+    }
+    ((accs + number_below(d, 32 - accs) % 32) % 32) as u8
+}
+
+// The state with x as the returns of accelerator a.
+fn with_returns(t: Tree, s: State, a: u8, x: u32, d: &mut [usize; 16384]) -> State {
+    let mut next = s;
+    next.returning[(a % 32) as usize] = x;
+    give_all(next, t.bus.delay, d);
+    next
+}
+
+// One of the ways; not the last one where the tree has all accelerators.
+fn some_way(t: Tree, d: &mut [usize; 16384]) -> usize {
+    if 32 <= t.accs {
+        return number_below(d, UNUSED);
+    }
+    number_below(d, WAYS)
+}
+
+// Calls where the returns of an accelerator are altered.
+fn try_returns(t: Tree, s: State, d: &mut [usize; 16384]) {
+    let way = some_way(t, d);
+    let a = some_accelerator(t, way, d);
+    let x = altered_bits(returns_of(s, a), way, t.bus.delay as usize, d);
+    let next = with_returns(t, s, a, x, d);
+    if rules_broken(d, NO_WRONG_RULE) {
+        add(d, BROKEN, way, 1);
+    } else {
+        add(d, KEPT, way, 1);
+    }
+    try_late_and_early(t, next, 8, d);
+}
+
+// Slots where the slot count is at its end, or one or two before it, and then calls in the last slot: what is due later stays.
 fn try_last_slots(t: Tree, s: State, d: &mut [usize; 16384]) -> State {
     let n = 4294967293 + (number_below(d, 3) % 3) as u32;
-    let mut next = at_slot(s, n, d);
+    let mut next = at_slot(t, s, n, d);
     for _ in 0..3usize {
         next = try_slot(t, next, d);
     }
-    next
+    try_calls(t, next, 6, d)
 }
 
 // The start.
@@ -245,7 +328,8 @@ pub fn try_start(t: Tree, d: &mut [usize; 16384]) -> State {
     let answer = started(said);
     let state = r.state;
     let ours = start_one(d);
-    note(d, DIFFERENCES, 0, (answer == ours) & same_state(state, d));
+    let same = same_state(state, t.bus.delay, d);
+    note(d, DIFFERENCES, 0, (answer == ours) & same);
     add(d, STARTS, ours, 1);
     state
 }
@@ -255,7 +339,10 @@ pub fn try_machine(t: Tree, d: &mut [usize; 16384]) {
     let state = try_start(t, d);
     let busy = try_calls(t, state, 60, d);
     let late = try_last_slots(t, busy, d);
-    try_altered(t, at_slot(late, 0, d), d);
+    try_altered(t, at_slot(t, late, 0, d), d);
+    let start = try_start(t, d);
+    let again = try_calls(t, start, 16, d);
+    try_returns(t, again, d);
 }
 
 // A state that some calls lead to.
@@ -264,8 +351,10 @@ pub fn busy_state(t: Tree, d: &mut [usize; 16384]) -> State {
     try_calls(t, state, 6, d)
 }
 
-// Calls on a configuration, from a state that may belong to another: an offer of an accelerator that no tree has among them.
+// Calls on a configuration, from a state that may belong to another, with another return delay: an offer of an accelerator that no
+// tree has among them.
 pub fn try_other(t: Tree, s: State, d: &mut [usize; 16384]) {
+    give_all(s, t.bus.delay, d);
     let next = try_offer(t, s, 32, d);
     try_late_and_early(t, next, 4, d);
     try_start(t, d);

@@ -1,21 +1,34 @@
-// Inputs that are not generated: the edge list of the reader's own check, document 01's case 11, and files and buffers at
-// the size limit.
+// Inputs that are not generated: the edge list of the reader's own check, document 01's case 11, return delays at their limits,
+// and files and buffers at the size limit.
 use crate::results::CASE11;
+use crate::results::DELAY_FILES;
 use crate::results::EDGES;
 use crate::trials::try_file_runs;
 use crate::trials::try_tree;
+use callcheck::try_machine;
 use generator::file_in;
+use generator::limits::DELAYS;
 use generator::limits::make_case;
+use generator::limits::make_delay;
+use generator::limits::make_wide_late;
 use generator::listed::heading_at;
 use generator::made;
 use generator::pages::long_file;
 use generator::size;
+use lines::FileAnswer;
 use reader::read_tree;
 use second::NO_WRONG_RULE;
 use second::book::read_book;
 use store::add;
 
-// A tree file; or a trace on the tree of document 01's report, run over a buffer of this size.
+// A trace on a tree file that is accepted, run over a buffer of this size.
+fn try_on(tree: &[u8], s: &[u8], d: &mut [usize; 16384], out: &mut [u8; 131074], size: usize) {
+    read_book(tree, d, NO_WRONG_RULE);
+    let r = read_tree(tree);
+    try_file_runs(tree, r.tree, s, d, out, size);
+}
+
+// A tree file; or a trace on the tree of document 01's report, and on that tree with a return delay.
 fn try_file(s: &[u8], is_tree: bool, d: &mut [usize; 16384], out: &mut [u8; 131074], size: usize) {
     if is_tree {
         try_tree(s, d);
@@ -23,9 +36,10 @@ fn try_file(s: &[u8], is_tree: bool, d: &mut [usize; 16384], out: &mut [u8; 1310
     }
     let tree =
         b"bus\t8\t1\t4\t2\t2\t30\t25\t1\t1\t16\nint\t0\t-\t-\t1\nacc\t0\t0\t0\t4\t2\t10\t5\t1000\t2000\nacc\t1\t0\t3\t4\t2\t1\t0\t0\t100\n";
-    read_book(tree, d, NO_WRONG_RULE);
-    let r = read_tree(tree);
-    try_file_runs(tree, r.tree, s, d, out, size);
+    try_on(tree, s, d, out, size);
+    let late =
+        b"bus\t8\t1\t4\t2\t2\t30\t25\t1\t1\t16\t15\nint\t0\t-\t-\t1\nacc\t0\t0\t0\t3\t2\t10\t5\t1000\t2000\nacc\t1\t0\t3\t1\t2\t1\t0\t0\t100\n";
+    try_on(late, s, d, out, size);
 }
 
 // The listed file whose heading is at `at`; where the next heading is.
@@ -66,9 +80,39 @@ pub fn try_case_11(w: &mut [u8; 16384], d: &mut [usize; 16384]) {
     }
 }
 
-// Runs on a tree of 15 interconnects and 32 accelerators, where accelerator 31 alone holds transactions at last.
+// A tree file by its return delay, and, if it is accepted, calls and runs on it.
+fn try_delay(w: &mut [u8; 16384], d: &mut [usize; 16384], out: &mut [u8; 131074], i: usize) {
+    make_delay(w, d, i);
+    add(d, DELAY_FILES, 0, 1);
+    let n = size(d);
+    let r = try_tree(file_in(w, n), d);
+    let answer = r.answer;
+    let FileAnswer::Accepted = answer else {
+        return;
+    };
+    let t = r.tree;
+    try_machine(t, d);
+    let s = b"o\t0\t0\t16\no\t0\t1\t9\no\t40\t0\t5\n";
+    try_file_runs(file_in(w, n), t, s, d, out, 200);
+}
+
+// Return delays at their limits, left out and wrong.
+pub fn try_delays(w: &mut [u8; 16384], d: &mut [usize; 16384], out: &mut [u8; 131074]) {
+    for i in 0..DELAYS {
+        try_delay(w, d, out, i);
+    }
+}
+
+// The trees of 15 interconnects and 32 accelerators, the second with a return delay.
 pub fn try_wide(w: &mut [u8; 16384], d: &mut [usize; 16384], out: &mut [u8; 131074]) {
     make_case(w, d, 6);
+    try_made(w, d, out);
+    make_wide_late(w, d);
+    try_made(w, d, out);
+}
+
+// Runs on such a tree, where accelerator 31 alone holds transactions at last.
+fn try_made(w: &[u8; 16384], d: &mut [usize; 16384], out: &mut [u8; 131074]) {
     let n = size(d);
     let r = try_tree(file_in(w, n), d);
     let t = r.tree;

@@ -10,6 +10,7 @@ mod walked;
 mod whys;
 
 use crate::edges::try_case_11;
+use crate::edges::try_delays;
 use crate::edges::try_listed;
 use crate::edges::try_long;
 use crate::edges::try_wide;
@@ -49,7 +50,7 @@ fn try_pair(
     try_file_runs(file_in(w, n), t, made(v, d), d, out, size);
 }
 
-// The generated inputs, case 11, and the widest tree.
+// The generated inputs, case 11, the return delay's limits, and the widest trees.
 fn try_generated(d: &mut [usize; 16384], out: &mut [u8; 131074]) {
     let mut w = [0u8; 16384];
     let mut v = [0u8; 16384];
@@ -58,6 +59,7 @@ fn try_generated(d: &mut [usize; 16384], out: &mut [u8; 131074]) {
         try_pair(&mut w, &mut v, d, out);
     }
     try_case_11(&mut w, d);
+    try_delays(&mut w, d, out);
     try_wide(&mut w, d, out);
 }
 

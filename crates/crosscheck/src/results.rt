@@ -6,19 +6,34 @@ use alter::tangle::INTERCONNECT_TWICE;
 use alter::tangle::UNUSED_ACCELERATOR;
 use alter::tangle::UNUSED_INTERCONNECT;
 use alter::tangle::UNUSED_PORT;
+use callcheck::BROKEN;
+use callcheck::HELD_BACK;
+use callcheck::KEPT;
 use callcheck::OFFERS;
 use callcheck::SLOTS as SLOT_CALLS;
 use callcheck::STARTS;
+use callcheck::returns::AT_ONCE;
+use callcheck::returns::EARLIER;
+use callcheck::returns::IN_EACH;
+use callcheck::returns::ONE_MORE;
+use callcheck::returns::TOO_FAR;
+use callcheck::returns::UNUSED;
 use libc::STDOUT_FILENO;
 use second::ADMITTED_LATE;
 use second::BUDGET_FIRST;
+use second::DONE_AT_HOME;
+use second::DUE_NOW;
 use second::FALLING_FIRST;
 use second::FROM_ZERO;
 use second::GROWING;
 use second::HALF_PAIR;
+use second::HOME_AT_WINDOW;
+use second::HOME_EARLY;
+use second::HOME_LATE;
 use second::LAST_FIRST;
 use second::LOWER_RESET;
 use second::NESTED;
+use second::NOT_OUTSTANDING;
 use second::NUMBER_FIRST;
 use second::ORDER_FIRST;
 use second::OWN_MEETS;
@@ -105,8 +120,14 @@ pub const LONG_RUNS: usize = 3332;
 
 pub const RUNS_ASKED: usize = 3333;
 
+// Accepted trees with a return delay above 0, and with one of 15.
+pub const DELAYED: usize = 3336;
+
+// Files of the return delay's limits.
+pub const DELAY_FILES: usize = 3338;
+
 // What the program writes: a label to each line,
-const LABELS: [u8; 2689] = *b"trees accepted\n\
+const LABELS: [u8; 3400] = *b"trees accepted\n\
     trees accepted, 1 level\n\
     trees accepted, 2 levels\n\
     trees accepted, 3 levels\n\
@@ -114,6 +135,8 @@ const LABELS: [u8; 2689] = *b"trees accepted\n\
     trees accepted, four different g on a way\n\
     trees accepted, 15 interconnects\n\
     trees accepted, 32 accelerators\n\
+    trees accepted, return delay above 0\n\
+    trees accepted, return delay 15\n\
     trees refused by 1\n\
     trees refused by 2\n\
     trees refused by 3\n\
@@ -127,6 +150,7 @@ const LABELS: [u8; 2689] = *b"trees accepted\n\
     traces refused by 11\n\
     files of the edge list\n\
     files of case 11\n\
+    files of the return delay's limits\n\
     bounds\n\
     runs done\n\
     runs stopped\n\
@@ -143,6 +167,7 @@ const LABELS: [u8; 2689] = *b"trees accepted\n\
     offers admitted one by one\n\
     offers refused by 7\n\
     offers refused by 8\n\
+    offers refused by 8, fewer than phi waiting\n\
     offers refused by 9\n\
     offers refused by 11\n\
     slots served one by one\n\
@@ -161,6 +186,14 @@ const LABELS: [u8; 2689] = *b"trees accepted\n\
     altered: a number in an unused interconnect\n\
     altered: a number in an unused accelerator\n\
     altered: a port of an unused interconnect\n\
+    returns put in: one more, state kept\n\
+    returns put in: one in each slot, state kept\n\
+    returns put in: one more, above phi\n\
+    returns put in: one in each slot, above phi\n\
+    returns put in: one due now\n\
+    returns put in: one due earlier\n\
+    returns put in: one due too far ahead\n\
+    returns put in: one of an unused accelerator\n\
     requests looked up line by line\n\
     runs asked for waits of every accelerator\n\
     waits told\n\
@@ -200,10 +233,16 @@ const LABELS: [u8; 2689] = *b"trees accepted\n\
     wrong: own told as an interconnect, waits seen\n\
     wrong: half a pair written, waits seen\n\
     wrong: 12 tested before 7, waits seen\n\
+    wrong: returns not outstanding, runs seen\n\
+    wrong: home one slot late, runs seen\n\
+    wrong: home one slot early, runs seen\n\
+    wrong: home when a window opens, runs seen\n\
+    wrong: done only when all are home, runs seen\n\
+    wrong: a return due now kept, offers and slots seen\n\
     differences\n";
 
 // and where its count stands.
-const PLACES: [usize; 95] = [
+const PLACES: [usize; 113] = [
     TREES,
     LEVELS + 1,
     LEVELS + 2,
@@ -212,6 +251,8 @@ const PLACES: [usize; 95] = [
     VARIED,
     SIZES,
     SIZES + 1,
+    DELAYED,
+    DELAYED + 1,
     TREES + 1,
     TREES + 2,
     TREES + 3,
@@ -225,6 +266,7 @@ const PLACES: [usize; 95] = [
     TRACES + 11,
     EDGES,
     CASE11,
+    DELAY_FILES,
     BOUNDS,
     DONE,
     STOPPED,
@@ -241,6 +283,7 @@ const PLACES: [usize; 95] = [
     OFFERS,
     OFFERS + 7,
     OFFERS + 8,
+    HELD_BACK,
     OFFERS + 9,
     OFFERS + 11,
     SLOT_CALLS,
@@ -259,6 +302,14 @@ const PLACES: [usize; 95] = [
     TANGLED + UNUSED_INTERCONNECT,
     TANGLED + UNUSED_ACCELERATOR,
     TANGLED + UNUSED_PORT,
+    KEPT + ONE_MORE,
+    KEPT + IN_EACH,
+    BROKEN + ONE_MORE,
+    BROKEN + IN_EACH,
+    BROKEN + AT_ONCE,
+    BROKEN + EARLIER,
+    BROKEN + TOO_FAR,
+    BROKEN + UNUSED,
     REQUESTS,
     RUNS_ASKED,
     WHYS,
@@ -298,6 +349,12 @@ const PLACES: [usize; 95] = [
     WRONG + OWN_MEETS,
     WRONG + HALF_PAIR,
     WRONG + NUMBER_FIRST,
+    WRONG + NOT_OUTSTANDING,
+    WRONG + HOME_LATE,
+    WRONG + HOME_EARLY,
+    WRONG + HOME_AT_WINDOW,
+    WRONG + DONE_AT_HOME,
+    WRONG + DUE_NOW,
     DIFFERENCES,
 ];
 
@@ -321,7 +378,7 @@ fn show_line(labels: &[u8], from: usize, n: usize) -> usize {
 pub fn show(d: &[usize; 16384]) {
     let labels = LABELS;
     let mut from = 0;
-    for i in 0..95 {
+    for i in 0..113 {
         from = show_line(&labels, from, get(d, PLACES[i], 0));
     }
 }

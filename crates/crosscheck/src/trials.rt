@@ -9,6 +9,7 @@ use crate::results::ALTERED;
 use crate::results::BOUND_ANSWERS;
 use crate::results::BOUNDS;
 use crate::results::BUFFERS;
+use crate::results::DELAYED;
 use crate::results::DONE;
 use crate::results::LEVELS;
 use crate::results::REQUESTS;
@@ -35,9 +36,11 @@ use generator::number_below;
 use model::Tree;
 use placing::TreeRead;
 use reader::read_tree;
+use second::DUE_NOW;
 use second::FALLING_FIRST;
 use second::NESTED;
 use second::NO_WRONG_RULE;
+use second::NOT_OUTSTANDING;
 use second::ORDER_FIRST;
 use second::OWN_PORT;
 use second::SIZE_FIRST;
@@ -63,6 +66,15 @@ use treecheck::is_empty;
 use treecheck::judge;
 use treecheck::same_tree;
 
+fn count_delay(delay: u8, d: &mut [usize; 16384]) {
+    if delay != 0 {
+        add(d, DELAYED, 0, 1);
+    }
+    if delay == 15 {
+        add(d, DELAYED, 1, 1);
+    }
+}
+
 // An accepted tree: its entries and its bounds.
 fn try_content(t: Tree, d: &mut [usize; 16384]) {
     let tree = same_tree(t, d);
@@ -79,6 +91,7 @@ fn try_content(t: Tree, d: &mut [usize; 16384]) {
     if varied(d) {
         add(d, VARIED, 0, 1);
     }
+    count_delay(t.bus.delay, d);
     if t.ints == 15 {
         add(d, SIZES, 0, 1);
     }
@@ -140,15 +153,17 @@ fn count_run(e: Ended, d: &mut [usize; 16384]) {
     }
 }
 
-// A run over n bytes by each wrong rule, against what the library did.
+// A run over n bytes by each of the wrong rules from one on to another, against what the library did.
 fn try_wrong_runs(
     said: Said,
     d: &mut [usize; 16384],
     out: &mut [u8; 131074],
     right: Ended,
     n: usize,
+    from: usize,
+    to: usize,
 ) {
-    for wrong in WHOLE_RUN..OWN_PORT {
+    for wrong in from..to {
         let e = second_run(said, d, out, n, wrong);
         note(d, WRONG, wrong, same_end(e, right) & same_bytes(out, n));
     }
@@ -182,7 +197,8 @@ fn try_run(
     note_order(said, d, right, n, SIZE_FIRST);
     note_order(said, d, right, n, TRACE_FIRST);
     if said.number == 0 {
-        try_wrong_runs(said, d, out, right, n);
+        try_wrong_runs(said, d, out, right, n, WHOLE_RUN, OWN_PORT);
+        try_wrong_runs(said, d, out, right, n, NOT_OUTSTANDING, DUE_NOW);
     }
     if e.done { e.slots } else { 0 }
 }

@@ -14,6 +14,7 @@ use answercheck::told_by;
 use answercheck::told_of;
 use model::Tree;
 use second::NO_WRONG_RULE;
+use second::NOT_OUTSTANDING;
 use second::SERVICE_LISTED;
 use second::Said;
 use second::past::Told;
@@ -108,7 +109,7 @@ fn try_wrong_whys(
     out: &mut [u8; 131074],
     right: Told,
 ) {
-    for wrong in SERVICE_LISTED..20 {
+    for wrong in SERVICE_LISTED..NOT_OUTSTANDING {
         let w = second_why(said, d, past, q, out, wrong);
         note(
             d,

@@ -127,12 +127,41 @@ fn put_mixed(w: &mut [u8; 16384], d: &mut [usize; 16384], few: usize, n: usize, 
     put_field(w, d, x, 0, std::num::wrapping_sub_usize(many, 1));
 }
 
+// A return delay past its limit, "-", one that is empty, or a twelfth number after it.
+fn put_wrong_delay(w: &mut [u8; 16384], d: &mut [usize; 16384]) {
+    let kind = below(d, 4);
+    if kind == 0 {
+        let past = below(d, 3);
+        put_column(w, d, std::num::wrapping_add_usize(past, 16));
+    } else if kind == 1 {
+        put_text(w, d, b"\t-");
+    } else if kind == 2 {
+        put_byte(w, d, 9);
+    } else {
+        put_any(w, d, 0, 15);
+        put_any(w, d, 0, 15);
+    }
+}
+
+// The return delay: left out one time in three, mostly small, and wrong once in a while.
+fn put_delay(w: &mut [u8; 16384], d: &mut [usize; 16384]) {
+    if once_in(d, 3) {
+        return;
+    }
+    if once_in(d, 25) {
+        put_wrong_delay(w, d);
+    } else {
+        put_mixed(w, d, 5, 2, 16);
+    }
+}
+
 fn bus_line(w: &mut [u8; 16384], d: &mut [usize; 16384]) {
     put_text(w, d, b"bus");
     put_mostly(w, d, 14, 12, 65535);
     for i in 0..9 {
         put_any(w, d, LOWS[i], HIGHS[i]);
     }
+    put_delay(w, d);
     put_byte(w, d, 10);
 }
 

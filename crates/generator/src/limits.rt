@@ -1,4 +1,5 @@
-// The six tree files of document 01's case 11, and one with all interconnects and accelerators, each in the second half of w.
+// The six tree files of document 01's case 11, trees with a return delay at its limits, and trees with all interconnects and
+// accelerators, each in the second half of w.
 use crate::generate::LENGTH;
 use crate::generate::SIDE;
 use crate::generate::put_column;
@@ -6,12 +7,18 @@ use crate::generate::put_number;
 use crate::generate::put_text;
 use store::put;
 
-fn put_bus(w: &mut [u8; 16384], d: &mut [usize; 16384], burst: usize) {
+// The bus line up to the burst length, and what comes after that; the root.
+fn put_line(w: &mut [u8; 16384], d: &mut [usize; 16384], burst: usize, rest: &[u8]) {
     put(d, SIDE, 0, 8192);
     put(d, LENGTH, 0, 0);
     put_text(w, d, b"bus\t16\t1\t4\t2\t2\t30\t25\t1\t1\t");
     put_number(w, d, burst);
+    put_text(w, d, rest);
     put_text(w, d, b"\nint\t0\t-\t-\t1\n");
+}
+
+fn put_bus(w: &mut [u8; 16384], d: &mut [usize; 16384], burst: usize) {
+    put_line(w, d, burst, b"");
 }
 
 fn put_int(w: &mut [u8; 16384], d: &mut [usize; 16384], i: usize, parent: usize, port: usize) {
@@ -69,17 +76,17 @@ fn put_one_of_15(w: &mut [u8; 16384], d: &mut [usize; 16384], i: usize) {
     }
 }
 
-// The bus line, the root, and fourteen interconnects.
-fn put_15(w: &mut [u8; 16384], d: &mut [usize; 16384]) {
-    put_bus(w, d, 16);
+// The bus line, with the rest of it, the root, and fourteen interconnects.
+fn put_15(w: &mut [u8; 16384], d: &mut [usize; 16384], rest: &[u8]) {
+    put_line(w, d, 16, rest);
     for i in 1..15 {
         put_one_of_15(w, d, i);
     }
 }
 
 // 15 interconnects and 32 accelerators, the last at port 7 of the last interconnect.
-fn wide(w: &mut [u8; 16384], d: &mut [usize; 16384]) {
-    put_15(w, d);
+fn wide(w: &mut [u8; 16384], d: &mut [usize; 16384], rest: &[u8]) {
+    put_15(w, d, rest);
     for a in 0..31 {
         put_acc(w, d, a, (a / 8 + 1) % 5, a % 8);
     }
@@ -89,6 +96,30 @@ fn wide(w: &mut [u8; 16384], d: &mut [usize; 16384]) {
 fn single(w: &mut [u8; 16384], d: &mut [usize; 16384], burst: usize) {
     put_bus(w, d, burst);
     put_acc(w, d, 0, 0, 0);
+}
+
+// How many files there are with a return delay at its limits.
+pub const DELAYS: usize = 8;
+
+// One of them: a bus line with more after its burst length, and two accelerators.
+pub fn make_delay(w: &mut [u8; 16384], d: &mut [usize; 16384], i: usize) {
+    match i {
+        0 => put_line(w, d, 16, b"\t0"),
+        1 => put_line(w, d, 16, b"\t15"),
+        2 => put_line(w, d, 16, b"\t16"),
+        3 => put_line(w, d, 16, b"\t"),
+        4 => put_line(w, d, 16, b"\t1\t1"),
+        5 => put_line(w, d, 16, b"\t-"),
+        6 => put_line(w, d, 257, b"\t15"),
+        _ => put_line(w, d, 256, b"\t1"),
+    }
+    put_acc(w, d, 0, 0, 0);
+    put_acc(w, d, 1, 0, 7);
+}
+
+// The widest tree, with a return delay of 15.
+pub fn make_wide_late(w: &mut [u8; 16384], d: &mut [usize; 16384]) {
+    wide(w, d, b"\t15");
 }
 
 // One of the six files of case 11: levels 4 and 5, 32 accelerators and number 32, B 256 and 257; then the widest tree.
@@ -106,6 +137,6 @@ pub fn make_case(w: &mut [u8; 16384], d: &mut [usize; 16384], i: usize) {
     } else if i == 5 {
         single(w, d, 257);
     } else {
-        wide(w, d);
+        wide(w, d, b"");
     }
 }

@@ -1,4 +1,4 @@
--- The tree that `second` keeps in the store: a row of ten numbers for each line of its file.
+-- The tree that `second` keeps in the store: a row of eleven numbers for each line of its file.
 --
 -- cellOf d r c         the number in column c of row r
 -- rowsOf d             how many rows there are; intsOf d, accsOf d: how many of them are int lines, acc lines
@@ -16,22 +16,22 @@ use Rattle.folds.specs.Fold.{pick}
 use Rattle.store.specs.Store.{numberAt}
 
 abbrev pub cellOf : List ℕ → ℕ → ℕ → ℕ
-cellOf d r c = numberAt d (r % 48 * 10) c
+cellOf d r c = numberAt d (r % 48 * 11) c
 
 abbrev pub rowsOf : List ℕ → ℕ
-rowsOf d = numberAt d 480 0
+rowsOf d = numberAt d 528 0
 
 abbrev pub intsOf : List ℕ → ℕ
-intsOf d = numberAt d 481 0
+intsOf d = numberAt d 529 0
 
 abbrev pub accsOf : List ℕ → ℕ
-accsOf d = numberAt d 482 0
+accsOf d = numberAt d 530 0
 
 abbrev pub intRow : ℕ → ℕ
 intRow i = (i + 1) % 2 ^ 64
 
 abbrev pub accRow : List ℕ → ℕ → ℕ
-accRow d a = numberAt d 512 (a % 32)
+accRow d a = numberAt d 560 (a % 32)
 
 unfoldable pub isOn : List ℕ → ℕ → ℕ → ℕ → Bool
 isOn d i p r = ltb r (rowsOf d) && (ltb 0 r && eqb (cellOf d r 1) i && eqb (cellOf d r 2) p)

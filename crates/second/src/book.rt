@@ -1,4 +1,4 @@
-// The second reader of a tree. The tree is its lines: row r of the store holds the numbers of the file's line r + 1, ten
+// The second reader of a tree. The tree is its lines: row r of the store holds the numbers of the file's line r + 1, eleven
 // to a row. Whatever a tree says is looked up by going through the rows.
 use crate::ORDER_FIRST;
 use crate::Said;
@@ -14,6 +14,7 @@ use crate::scan::field;
 use crate::scan::field_byte;
 use crate::scan::is_dash;
 use crate::scan::line_start;
+use crate::scan::set_field;
 use crate::scan::within;
 use store::add;
 use store::clear;
@@ -23,16 +24,16 @@ ghost use mathlib.Core.Path.{_≡_};
 ghost use Rattle.second.specs.Rows.{cellOf, rowsOf, intsOf, accsOf, intRow, accRow, isOn, blockOf, carriedOf};
 
 // How many rows there are, how many of them are int lines and acc lines, and for each accelerator its row.
-const ROWS: usize = 480;
+const ROWS: usize = 528;
 
-const INTS: usize = 481;
+const INTS: usize = 529;
 
-const ACCS: usize = 482;
+const ACCS: usize = 530;
 
-const ROW_OF: usize = 512;
+const ROW_OF: usize = 560;
 
 // 1 if the configuration breaks its rules.
-const BROKEN: usize = 483;
+const BROKEN: usize = 531;
 
 // What a port carries: an accelerator's number, 32 + an interconnect's number, or nothing.
 pub const NOTHING: usize = 255;
@@ -41,7 +42,7 @@ pub const NOTHING: usize = 255;
 pub fn cell(d: &[usize; 16384], row: usize, column: usize) -> usize
     ensures { λ r. ⌜ r ≡ cellOf (now (d .entry)) row column ⌝ }
 {
-    get(d, (row % 48) * 10, column)
+    get(d, (row % 48) * 11, column)
 }
 
 fn rows(d: &[usize; 16384]) -> usize
@@ -73,6 +74,11 @@ pub fn acc_row(d: &[usize; 16384], a: usize) -> usize
     ensures { λ r. ⌜ r ≡ accRow (now (d .entry)) a ⌝ }
 {
     get(d, ROW_OF, a % 32)
+}
+
+// The return delay, in slots.
+pub(crate) fn delay(d: &[usize; 16384]) -> usize {
+    cell(d, 0, 10)
 }
 
 pub(crate) fn is_broken(d: &[usize; 16384]) -> bool {
@@ -173,13 +179,21 @@ pub fn varied(d: &[usize; 16384]) -> bool {
     found
 }
 
+// The numbers of a bus line: ten, or eleven with the return delay.
+fn bus_shaped(numbers: usize, d: &[usize; 16384]) -> bool {
+    if (numbers == 10) | (numbers == 11) {
+        return !any_dash(d, numbers);
+    }
+    false
+}
+
 fn shaped(s: Scan, d: &[usize; 16384]) -> bool {
     if s.bad {
         return false;
     }
     let name = s.name;
     if name == BUS {
-        return (s.fields == 11) & !any_dash(d, 10);
+        return bus_shaped(std::num::wrapping_sub_usize(s.fields, 1), d);
     }
     if name == INT {
         return (s.fields == 5) & !is_dash(d, 1) & !is_dash(d, 4);
@@ -196,7 +210,8 @@ fn bus_limits(d: &[usize; 16384]) -> bool {
     let back = within(d, 4, 0, 255) & within(d, 5, 0, 255);
     let memory = within(d, 6, 0, 4095) & within(d, 7, 0, 4095);
     let data = within(d, 8, 1, 255) & within(d, 9, 1, 255);
-    window & address & back & memory & data & within(d, 10, 1, 256)
+    let burst = within(d, 10, 1, 256) & within(d, 11, 0, 15);
+    window & address & back & memory & data & burst
 }
 
 fn int_limits(d: &[usize; 16384]) -> bool {
@@ -254,9 +269,9 @@ fn in_order(name: usize, d: &[usize; 16384]) -> bool {
 // The line goes into the next row.
 fn enter(name: usize, d: &mut [usize; 16384]) {
     let row = rows(d) % 48;
-    for i in 0..10 {
+    for i in 0..11 {
         let x = field(d, std::num::wrapping_add_usize(i, 1));
-        put(d, row * 10, i, x);
+        put(d, row * 11, i, x);
     }
     add(d, ROWS, 0, 1);
     if name == INT {
@@ -299,12 +314,20 @@ pub(crate) fn fits(name: usize, d: &mut [usize; 16384]) -> bool {
     true
 }
 
+// The delay that a bus line leaves out is 0.
+fn fill_in(s: Scan, d: &mut [usize; 16384]) {
+    if s.fields == 11 {
+        set_field(d, 11, 0);
+    }
+}
+
 // The refusal of a line, or 0 and the line is in its row.
 fn judge(s: Scan, d: &mut [usize; 16384], wrong: usize) -> usize {
     let name = s.name;
     if !shaped(s, d) {
         return 1;
     }
+    fill_in(s, d);
     if (wrong == ORDER_FIRST) & !in_order(name, d) {
         return 3;
     }

@@ -2,6 +2,7 @@
 // be altered, so that some break a rule.
 use crate::BUDGET_FIRST;
 use crate::LAST_FIRST;
+use crate::NO_WRONG_RULE;
 use crate::UNKNOWN_FIRST;
 use crate::book::acc_row;
 use crate::book::accs;
@@ -9,6 +10,8 @@ use crate::book::cell;
 use crate::book::int_row;
 use crate::book::ints;
 use crate::book::is_broken;
+use crate::home::outstanding;
+use crate::home::returns_keep;
 use crate::queues::ADMITTED;
 use crate::queues::ALLOWANCE;
 use crate::queues::LAST;
@@ -108,13 +111,14 @@ pub fn alter(d: &mut [usize; 16384], which: usize, i: usize, n: usize) {
 }
 
 // Does accelerator a keep to its limits? One that the tree does not have has nothing.
-fn acc_keeps(d: &[usize; 16384], a: usize) -> bool {
+fn acc_keeps(d: &[usize; 16384], a: usize, wrong: usize) -> bool {
     let spent = used(d, a);
+    let all = outstanding(d, a, NO_WRONG_RULE);
     if accs(d) <= a {
-        return (queued(d, a) == 0) & (spent == 0);
+        return (all == 0) & (spent == 0);
     }
     let row = acc_row(d, a);
-    (queued(d, a) <= cell(d, row, 3)) & (spent <= cell(d, row, 4))
+    (all <= cell(d, row, 3)) & (spent <= cell(d, row, 4)) & returns_keep(d, a, wrong)
 }
 
 // Is the turn of interconnect i one that it can have?
@@ -128,10 +132,10 @@ fn turn_keeps(d: &[usize; 16384], i: usize) -> bool {
     (last < 8) & (allowance <= most)
 }
 
-fn state_keeps(d: &[usize; 16384]) -> bool {
+fn state_keeps(d: &[usize; 16384], wrong: usize) -> bool {
     let mut keeps = true;
     for a in 0..32 {
-        keeps = keeps & acc_keeps(d, a);
+        keeps = keeps & acc_keeps(d, a, wrong);
         if a < 15 {
             keeps = keeps & turn_keeps(d, a);
         }
@@ -139,12 +143,12 @@ fn state_keeps(d: &[usize; 16384]) -> bool {
     keeps
 }
 
-// Is the configuration, or the state, against its rules?
-fn rules_broken(d: &[usize; 16384]) -> bool {
+// Is the configuration, or the state, against its rules? A wrong rule keeps a state with a return due now.
+pub fn rules_broken(d: &[usize; 16384], wrong: usize) -> bool {
     if is_broken(d) {
         return true;
     }
-    !state_keeps(d)
+    !state_keeps(d, wrong)
 }
 
 // The start: 0, or 11 and the state is all 0.
@@ -160,7 +164,7 @@ pub fn start_one(d: &mut [usize; 16384]) -> usize {
 // What an offer of a known accelerator answers on a state that keeps its rules. A wrong rule tests 9 before 8.
 fn limits_answer(d: &[usize; 16384], a: usize, wrong: usize) -> usize {
     let row = acc_row(d, a);
-    let full = cell(d, row, 3) <= queued(d, a);
+    let full = cell(d, row, 3) <= outstanding(d, a, wrong);
     let spent = cell(d, row, 4) <= get(d, USED, a);
     if spent & ((wrong == BUDGET_FIRST) | !full) {
         return 9;
@@ -174,7 +178,7 @@ pub fn offer_answer(d: &[usize; 16384], a: usize, wrong: usize) -> usize {
     if unknown & (wrong == UNKNOWN_FIRST) {
         return 7;
     }
-    if rules_broken(d) {
+    if rules_broken(d, wrong) {
         return 11;
     }
     if unknown {
@@ -198,7 +202,7 @@ pub fn slot_refusal(d: &[usize; 16384], wrong: usize) -> usize {
     if late & (wrong == LAST_FIRST) {
         return 10;
     }
-    if rules_broken(d) {
+    if rules_broken(d, wrong) {
         return 11;
     }
     if late { 10 } else { 0 }

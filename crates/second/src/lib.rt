@@ -1,11 +1,12 @@
-// A second implementation of document 01's readers, machine, runner and bounds, and of document 02's item 1, written separately
-// from the library and its definitions: it shares no code with them.
+// A second implementation of document 01's readers, machine, runner and bounds, and of document 02's items 1 and 2, written
+// separately from the library and its definitions: it shares no code with them.
 //
 // Test code: it is proved that each function is safe and ends. Those that a comparison with the library reads its entries by have
 // equations: which number of the store each of them answers.
 pub mod book;
 pub mod calls;
 pub mod entries;
+pub mod home;
 pub mod past;
 pub mod queues;
 pub mod requests;
@@ -51,8 +52,20 @@ pub const ROOT_MEETS: usize = 16;
 pub const OWN_MEETS: usize = 17;
 // half a pair at the end of an odd buffer,
 pub const HALF_PAIR: usize = 18;
-// and 12 tested before 7.
+// 12 tested before 7,
 pub const NUMBER_FIRST: usize = 19;
+// returning transactions that do not count as outstanding,
+pub const NOT_OUTSTANDING: usize = 20;
+// that come home one slot late,
+pub const HOME_LATE: usize = 21;
+// or one slot early, r slots after that of their service,
+pub const HOME_EARLY: usize = 22;
+// or all where a window opens,
+pub const HOME_AT_WINDOW: usize = 23;
+// a run that is done only when they are home,
+pub const DONE_AT_HOME: usize = 24;
+// and a state kept in which one is due now.
+pub const DUE_NOW: usize = 25;
 
 // An answer on a file: 0 where it is accepted, or the number of a refusal; and the line.
 pub struct Said {

@@ -46,7 +46,7 @@ pub fn keep_run(d: &mut [usize; 16384], past: &mut [usize]) -> usize {
     start(d);
     let mut used = 0;
     while used < past.len() {
-        if nothing_left(d, lines) {
+        if nothing_left(d, lines, NO_WRONG_RULE) {
             return used;
         }
         let a = run_slot(d, lines, NO_WRONG_RULE);

@@ -1,7 +1,9 @@
 // The second machine and runner. Each accelerator has a queue of tickets; what waits under a port is counted by walking
 // up from each accelerator that has a ticket in its queue, and the next port is sought one by one.
+use crate::DONE_AT_HOME;
 use crate::FROM_ZERO;
 use crate::GROWING;
+use crate::HOME_AT_WINDOW;
 use crate::LOWER_RESET;
 use crate::SIZE_FIRST;
 use crate::Said;
@@ -13,6 +15,11 @@ use crate::book::cell;
 use crate::book::int_row;
 use crate::book::ints;
 use crate::book::is_broken;
+use crate::home::all_returning;
+use crate::home::forget_returns;
+use crate::home::outstanding;
+use crate::home::send_home;
+use crate::home::take_home;
 use crate::requests::LINES;
 use crate::requests::LOG;
 use crate::requests::acc_in;
@@ -89,10 +96,11 @@ pub(crate) fn push(d: &mut [usize; 16384], a: usize) {
     add(d, USED, a, 1);
 }
 
-// Takes the first ticket of the queue. Is it the oldest that is not served?
-fn pop(d: &mut [usize; 16384], a: usize) -> bool {
+// Takes the first ticket of the queue, to come home later. Is it the oldest that is not served?
+fn pop(d: &mut [usize; 16384], a: usize, wrong: usize) -> bool {
     let oldest = get(d, SERVED, a);
     let ticket = get(d, QUEUE, place_in_queue(a, oldest));
+    send_home(d, a, oldest, wrong);
     add(d, SERVED, a, 1);
     ticket == oldest
 }
@@ -225,43 +233,49 @@ fn take_due(d: &mut [usize; 16384], lines: usize) {
     put(d, NEXT, 0, next);
 }
 
-// Has accelerator a a transaction to offer, and room for it: fewer than phi wait and its budget is not used?
-fn may_offer(d: &[usize; 16384], a: usize) -> bool {
+// Has accelerator a a transaction to offer, and room for it: fewer than phi are outstanding and its budget is not used?
+fn may_offer(d: &[usize; 16384], a: usize, wrong: usize) -> bool {
     let row = acc_row(d, a);
-    let room = (queued(d, a) < cell(d, row, 3)) & (get(d, USED, a) < cell(d, row, 4));
+    let room = (outstanding(d, a, wrong) < cell(d, row, 3)) & (get(d, USED, a) < cell(d, row, 4));
     room & (held(d, a) != 0)
 }
 
-// Accelerator a offers until it holds none, phi of it wait or its budget is used.
-fn offer(d: &mut [usize; 16384], a: usize) {
+// Accelerator a offers until it holds none, phi of it are outstanding or its budget is used.
+fn offer(d: &mut [usize; 16384], a: usize, wrong: usize) {
     for _ in 0..16usize {
-        if may_offer(d, a) {
+        if may_offer(d, a, wrong) {
             push(d, a);
         }
     }
 }
 
-fn offer_all(d: &mut [usize; 16384]) {
+fn offer_all(d: &mut [usize; 16384], wrong: usize) {
     for a in 0..32 {
         if held(d, a) != 0 {
-            offer(d, a);
+            offer(d, a, wrong);
         }
     }
 }
 
-fn reopen(d: &mut [usize; 16384]) {
+// The budgets begin anew. A wrong rule has every transaction come home.
+fn reopen(d: &mut [usize; 16384], wrong: usize) {
     for a in 0..32 {
         put(d, USED, a, 0);
+        if wrong == HOME_AT_WINDOW {
+            forget_returns(d, a);
+        }
     }
 }
 
-// The slot count rises, and where that opens a window the budgets begin anew. A wrong rule keeps them for the whole run.
+// The slot count rises; those that are due then are home, and where that opens a window the budgets begin anew. A wrong rule keeps
+// the budgets for the whole run.
 pub(crate) fn advance(d: &mut [usize; 16384], wrong: usize) {
     add(d, SLOT, 0, 1);
+    take_home(d);
     let window = cell(d, 0, 0);
     if window != 0 {
         if (get(d, SLOT, 0) % window == 0) & (wrong != WHOLE_RUN) {
-            reopen(d);
+            reopen(d, wrong);
         }
     }
 }
@@ -272,19 +286,23 @@ pub(crate) fn one_slot(d: &mut [usize; 16384], wrong: usize) -> usize {
         return 255;
     }
     let a = choose(d, wrong);
-    if pop(d, a) { a } else { 254 }
+    if pop(d, a, wrong) { a } else { 254 }
 }
 
 // One slot of a run over the lines of the log, its offers first.
 pub(crate) fn run_slot(d: &mut [usize; 16384], lines: usize, wrong: usize) -> usize {
     take_due(d, lines);
-    offer_all(d);
+    offer_all(d, wrong);
     let a = one_slot(d, wrong);
     advance(d, wrong);
     a
 }
 
-pub(crate) fn nothing_left(d: &[usize; 16384], lines: usize) -> bool {
+// Is the run done? What returns is not asked, except by a wrong rule.
+pub(crate) fn nothing_left(d: &[usize; 16384], lines: usize, wrong: usize) -> bool {
+    if (wrong == DONE_AT_HOME) & (all_returning(d) != 0) {
+        return false;
+    }
     (lines <= get(d, NEXT, 0)) & (all_held(d) == 0) & (all_queued(d) == 0)
 }
 
@@ -327,14 +345,14 @@ fn run_log(d: &mut [usize; 16384], out: &mut [u8], wrong: usize) -> Ended {
     start(d);
     let mut used = 0;
     while used < out.len() {
-        if nothing_left(d, lines) {
+        if nothing_left(d, lines, wrong) {
             return run_end(true, used);
         }
         let a = run_slot(d, lines, wrong);
         out[used] = (a % 256) as u8;
         used += 1;
     }
-    run_end(nothing_left(d, lines), used)
+    run_end(nothing_left(d, lines, wrong), used)
 }
 
 pub(crate) fn said(number: usize, line: usize) -> Said {

@@ -14,7 +14,7 @@ pub const ACC: usize = 23159651;
 pub const OFFER: usize = 367;
 
 // Where the fields of the current line stand, the first after the record name at 1; and what stands for "-".
-const FIELDS: usize = 496;
+const FIELDS: usize = 544;
 
 const DASH: usize = 1099511627776;
 

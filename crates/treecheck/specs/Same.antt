@@ -1,6 +1,7 @@
 -- Which number of the store stands for which entry of the library's tree: the tree is the same if each entry is that number.
 --
--- sameBus b d          the bus line: its ten entries are the ten columns of row 0
+-- sameNumbers b d      the ten numbers that each bus line has: they are the first ten columns of row 0
+-- sameBus b d          the bus line: those, and the return delay in the eleventh column
 -- codeOf x             what a port carries, as the rows say it: 255 nothing, an accelerator's number, 32 + an interconnect's
 -- placeSaid d i c      column c of interconnect i's row, its parent or port: 0 at the root, and past the last interconnect
 -- grainSaid d i        its granularity: 0 past the last interconnect
@@ -25,8 +26,8 @@ use Rattle.model.specs.declared.Tree.{Tree}
 use Rattle.model.specs.Tree.{interconnectOf, acceleratorOf, portOf}
 use Rattle.second.specs.Rows.{cellOf, intsOf, accsOf, intRow, accRow, carriedOf}
 
-unfoldable pub sameBus : Bus → List ℕ → Bool
-sameBus b d =
+unfoldable pub sameNumbers : Bus → List ℕ → Bool
+sameNumbers b d =
     eqb (b .window) (cellOf d 0 0)
     && eqb (b .ta) (cellOf d 0 1)
     && eqb (b .da) (cellOf d 0 2)
@@ -37,6 +38,9 @@ sameBus b d =
     && eqb (b .td) (cellOf d 0 7)
     && eqb (b .tb) (cellOf d 0 8)
     && eqb (b .burst) (cellOf d 0 9)
+
+abbrev pub sameBus : Bus → List ℕ → Bool
+sameBus b d = sameNumbers b d && eqb (b .delay) (cellOf d 0 10)
 
 abbrev pub codeOf : Port → ℕ
 codeOf Empty = 255

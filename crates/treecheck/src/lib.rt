@@ -29,10 +29,10 @@ ghost use mathlib.Core.Path.{_≡_};
 ghost use mathlib.Core.Bool.{_&&_};
 ghost use Rattle.folds.specs.Fold.{all};
 ghost use Rattle.model.specs.Tree.{interconnectOf, acceleratorOf};
-ghost use Rattle.treecheck.specs.Same.{sameBus, codeOf, placeSaid, grainSaid, sameInt, samePorts, sameInts, entrySaid, sameAcc, sameAccs, sameTree};
+ghost use Rattle.treecheck.specs.Same.{sameNumbers, sameBus, codeOf, placeSaid, grainSaid, sameInt, samePorts, sameInts, entrySaid, sameAcc, sameAccs, sameTree};
 
-fn same_bus(b: Bus, d: &[usize; 16384]) -> bool
-    ensures { λ r. ⌜ r ≡ sameBus b (now (d .entry)) ⌝ }
+fn same_numbers(b: Bus, d: &[usize; 16384]) -> bool
+    ensures { λ r. ⌜ r ≡ sameNumbers b (now (d .entry)) ⌝ }
 {
     (b.window as usize == cell(d, 0, 0))
         & (b.ta as usize == cell(d, 0, 1))
@@ -44,6 +44,13 @@ fn same_bus(b: Bus, d: &[usize; 16384]) -> bool
         & (b.td as usize == cell(d, 0, 7))
         & (b.tb as usize == cell(d, 0, 8))
         & (b.burst as usize == cell(d, 0, 9))
+}
+
+// The ten numbers that each bus line has, and the return delay.
+fn same_bus(b: Bus, d: &[usize; 16384]) -> bool
+    ensures { λ r. ⌜ r ≡ sameBus b (now (d .entry)) ⌝ }
+{
+    same_numbers(b, d) & (b.delay as usize == cell(d, 0, 10))
 }
 
 // What a port of the library's tree carries, as the rows say it.
@@ -188,6 +195,7 @@ fn put_bus(b: Bus, d: &mut [usize; 16384]) -> bool {
     put_entry(d, 8, b.td as usize);
     put_entry(d, 9, b.tb as usize);
     put_entry(d, 10, b.burst as usize);
+    put_entry(d, 11, b.delay as usize);
     bus_fits(d)
 }
 

@@ -9,11 +9,14 @@ use Rattle.callcheck.proofs.same_record.Tie as tie
 returns : tie.Need-returns
 unfolding sameRecord
 returns c =
-    and-cong (eqb-cong (c .before .before .before .waiting-of .ensures) (c .before .before .waiting .ensures))
-    (eqb-cong (c .before .admitted-of .ensures) (c .used .ensures))
+    and-cong
+    (and-cong (eqb-cong (c .before .before .before .before .waiting-of .ensures) (c .before .before .before .waiting .ensures))
+    (eqb-cong (c .before .before .admitted-of .ensures) (c .before .used .ensures)))
+    (c .same-returns .ensures)
 
 pub same-record-spec : {M : Type 1} → statement M
 same-record-spec =
     tie.close
     (tie.spec
-    (λ c κs. search needs) (λ c. search needs) (λ c κs. search needs) (λ c κs. search needs) (λ c. search needs) (λ c κs. search needs) returns)
+    (λ c κs. search needs) (λ c. search needs) (λ c κs. search needs) (λ c κs. search needs) (λ c. search needs) (λ c κs. search needs)
+    (λ c κs. search needs) returns)

@@ -1,4 +1,4 @@
--- `try_last_slots` ends: at most 3 turns.
+-- `try_last_slots` ends: at most 3 turns, and calls after them.
 use Prim.Native.Nat.{_≤_, _-_}
 use borrow.Author.Needs.{needs}
 use Rattle.callcheck.proofs.try_last_slots.Statement.{statement}
@@ -11,4 +11,8 @@ abbrev μ-loop : tie.MeasureT-loop
 μ-loop t d₀ n next₀ counter₀ d next counter = 3 - counter
 
 pub try-last-slots-spec : {M : Type 1} → statement M
-try-last-slots-spec = tie.close (tie.spec Inv-loop μ-loop (λ c κs. search needs) (λ c. search needs) (λ c. search needs) (λ c κs. search needs) (λ c. search needs) (λ c κs. search needs) (λ c. search needs) (λ c. search needs) (λ c. search needs) (λ c. search needs))
+try-last-slots-spec =
+    tie.close
+    (tie.spec
+    Inv-loop μ-loop (λ c κs. search needs) (λ c. search needs) (λ c. search needs) (λ c κs. search needs) (λ c. search needs) (λ c κs. search needs)
+    (λ c. search needs) (λ c. search needs) (λ c. search needs) (λ c κs. search needs) (λ c. search needs))

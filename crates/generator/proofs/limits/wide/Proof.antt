@@ -5,10 +5,14 @@ use Rattle.generator.proofs.limits.wide.Statement.{statement}
 use Rattle.generator.proofs.limits.wide.Tie as tie
 
 abbrev Inv-loop : tie.InvT-loop
-Inv-loop w₀ d₀ a₀ w d a = a ≤ 31
+Inv-loop w₀ d₀ rest a₀ w d a = a ≤ 31
 
 abbrev μ-loop : tie.MeasureT-loop
-μ-loop w₀ d₀ a₀ w d a = 31 - a
+μ-loop w₀ d₀ rest a₀ w d a = 31 - a
 
 pub wide-spec : {M : Type 1} → statement M
-wide-spec = tie.close (tie.spec Inv-loop μ-loop (λ c κs. search needs) (λ c. search needs) (λ c. search needs) (λ c κs. search needs) (λ c. search needs) (λ c. search needs) (λ c. search needs) (λ c κs. search needs) (λ c. search needs))
+wide-spec =
+    tie.close
+    (tie.spec
+    Inv-loop μ-loop (λ c κs. search needs) (λ c. search needs) (λ c. search needs) (λ c κs. search needs) (λ c. search needs) (λ c. search needs)
+    (λ c. search needs) (λ c κs. search needs) (λ c. search needs))

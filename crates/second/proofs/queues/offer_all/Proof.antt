@@ -5,10 +5,14 @@ use Rattle.second.proofs.queues.offer_all.Statement.{statement}
 use Rattle.second.proofs.queues.offer_all.Tie as tie
 
 abbrev Inv-loop : tie.InvT-loop
-Inv-loop d₀ a₀ d a = a ≤ 32
+Inv-loop d₀ wrong a₀ d a = a ≤ 32
 
 abbrev μ-loop : tie.MeasureT-loop
-μ-loop d₀ a₀ d a = 32 - a
+μ-loop d₀ wrong a₀ d a = 32 - a
 
 pub offer-all-spec : {M : Type 1} → statement M
-offer-all-spec = tie.close (tie.spec Inv-loop μ-loop (λ c. search needs) (λ c κs. search needs) (λ c κs. search needs) (λ c. search needs) (λ c. search needs) (λ c. search needs) (λ c. search needs))
+offer-all-spec =
+    tie.close
+    (tie.spec
+    Inv-loop μ-loop (λ c. search needs) (λ c κs. search needs) (λ c κs. search needs) (λ c. search needs) (λ c. search needs) (λ c. search needs)
+    (λ c. search needs))
