@@ -5,7 +5,8 @@
  *
  * What a caller owes is only what C owes any function: a pointer is not null, not even with a length of 0, and has as many
  * bytes behind it as its length says; nothing else writes them during the call; and an `out` overlaps no other argument.
- * A file is passed as its bytes and their number. A file of more than RAZHIKUM_LIMIT bytes is refused like any other.
+ * A file is passed as its bytes and their number. A file of more than RAZHIKUM_LIMIT bytes is refused like any other. The bus line of
+ * a tree file may have an eleventh field, the return delay, 0 to 15 slots; a tree without it has the delay 0.
  *
  * Any number of threads may call at the same time, also on the same files: the archive has no writable data and no heap. It
  * calls nothing outside but memcpy and memset, and writes nothing but its caller's stack, its answer and `out`. Two calls at the
@@ -26,8 +27,8 @@
 extern "C" {
 #endif
 
-/* The version of this header: 10000 for each first figure, 100 for each second, 1 for each third. 10100 is 1.1.0. */
-#define RAZHIKUM_VERSION 10100
+/* The version of this header: 10000 for each first figure, 100 for each second, 1 for each third. 10200 is 1.2.0. */
+#define RAZHIKUM_VERSION 10200
 
 /* The version of the archive. Where it is not RAZHIKUM_VERSION, header and archive do not belong together. */
 uint32_t razhikum_version(void);
@@ -60,7 +61,7 @@ enum razhikum_refusal {
     RAZHIKUM_LEVEL = 5,       /* a level above 4 */
     RAZHIKUM_FALLING = 6,     /* a trace slot smaller than in the line before */
     RAZHIKUM_UNKNOWN = 7,     /* no such accelerator */
-    RAZHIKUM_OUTSTANDING = 8, /* phi transactions of the accelerator are outstanding */
+    RAZHIKUM_OUTSTANDING = 8, /* phi transactions of the accelerator are outstanding: they wait or are returning */
     RAZHIKUM_BUDGET = 9,      /* the accelerator's budget of this window is used */
     RAZHIKUM_LAST_SLOT = 10,  /* the slot count is at its end */
     RAZHIKUM_BROKEN = 11,     /* the configuration or the state breaks its rules */
@@ -174,7 +175,9 @@ razhikum_counted razhikum_count(const uint8_t *tree, size_t tree_bytes);
 razhikum_page razhikum_report(const uint8_t *tree, size_t tree_bytes, uint8_t *out);
 
 /* Runs a trace on a tree and writes one byte a slot into `out`: the number of the accelerator served, or RAZHIKUM_IDLE. The
- * bytes past the slots used keep their contents, and on a refusal all do. */
+ * bytes past the slots used keep their contents, and on a refusal all do. With a return delay of r a transaction that is served in
+ * slot s counts among the phi outstanding ones of its accelerator until slot s + 1 + r starts. A run is done where no line is left,
+ * none is held and none waits, though some may still be returning. */
 razhikum_outcome razhikum_run(
     const uint8_t *tree, size_t tree_bytes, const uint8_t *trace, size_t trace_bytes, uint8_t *out, size_t out_bytes);
 
@@ -183,7 +186,7 @@ razhikum_outcome razhikum_run(
  * up to the one before the service, oldest first, takes two bytes of `out`: the number of the accelerator that was served, then the
  * deepest interconnect that the paths of both accelerators cross, or RAZHIKUM_OWN where it was an earlier transaction of the same
  * accelerator. None of these slots is idle. Pair i, counted from 0, is of slot `slot + i`. The time for which a request was held
- * before its admission is not in the list.
+ * before its admission is not in the list, nor is its way home after the service.
  *
  * A list of `count` slots has 2 * `count` bytes. Where `out` is shorter, the oldest slots fill it in whole pairs, and `count` still
  * counts all; `out_bytes` may be 0. The bytes past the list keep their contents, and on a refusal all do.
@@ -195,7 +198,8 @@ razhikum_wait razhikum_why(
     const uint8_t *tree, size_t tree_bytes, const uint8_t *trace, size_t trace_bytes, uint8_t accelerator, uint32_t number,
     uint8_t *out, size_t out_bytes);
 
-/* The bounds of an accelerator of a tree file: refused as the tree is, or by 7 where the tree has no such accelerator. */
+/* The bounds of an accelerator of a tree file: refused as the tree is, or by 7 where the tree has no such accelerator. They do not
+ * depend on the return delay. */
 razhikum_row razhikum_bound(const uint8_t *tree, size_t tree_bytes, uint8_t accelerator);
 
 #ifdef __cplusplus

@@ -228,6 +228,8 @@ static void tree_is_refused(unsigned number, unsigned line) {
 }
 
 #define BUS "bus 8 1 4 2 2 30 25 1 1 16\n"
+/* The same with a return delay. */
+#define DELAYED(delay) "bus 8 1 4 2 2 30 25 1 1 16 " delay "\n"
 #define ROOT "int 0 - - 1\n"
 #define ACCS "acc 0 0 0 4 2 10 5 1000 2000\nacc 1 0 3 4 2 1 0 0 100\n"
 
@@ -237,6 +239,12 @@ static void refused_trees(void) {
     tree_is_refused(RAZHIKUM_SHAPE, 3);
     spaced(&tree, BUS "int 0 - - 17\n");
     tree_is_refused(RAZHIKUM_RANGE, 2);
+    spaced(&tree, DELAYED("16") ROOT ACCS);
+    tree_is_refused(RAZHIKUM_RANGE, 1);
+    spaced(&tree, DELAYED("") ROOT ACCS);
+    tree_is_refused(RAZHIKUM_SHAPE, 1);
+    spaced(&tree, DELAYED("1 1") ROOT ACCS);
+    tree_is_refused(RAZHIKUM_SHAPE, 1);
     spaced(&tree, BUS ROOT ACCS);
     memset(tree.text + tree.bytes, '\n', sizeof tree.text - tree.bytes);
     tree.bytes = RAZHIKUM_LIMIT + 1;
@@ -297,6 +305,30 @@ static void waits(void) {
     is_wait_refused(4, 0, 8, RAZHIKUM_TRACE_REFUSED, RAZHIKUM_FALLING, 2);
 }
 
+static void is_served(unsigned slots, const uint8_t *expected) {
+    is_outcome(16, RAZHIKUM_DONE, RAZHIKUM_ACCEPTED, 0, slots);
+    for (unsigned i = 0; i < slots; i++) {
+        same("a slot of a run", served[i], expected[i]);
+    }
+}
+
+/* Two accelerators with phi 1 and 4 (docs/MODEL.md, M95): with a return delay of 2 the first offers again in slots 3 and 6. The
+ * shares are the same. */
+static void returns(void) {
+    static const uint8_t late[] = {0, 1, 1, 0, 1, RAZHIKUM_IDLE, 0}, at_once[] = {0, 1, 0, 1, 0, 1};
+#define PAIR ROOT "acc 0 0 0 1 8 1 1 0 1\nacc 1 0 1 4 8 1 1 0 1\n"
+    spaced(&trace, "o 0 0 3\no 0 1 3\n");
+    spaced(&tree, DELAYED("2") PAIR);
+    is_served(7, late);
+    is_wait(0, 2, 3, 0, NULL);
+    is_row(0, 1, 2, 1, 1, 192, 1);
+    spaced(&tree, DELAYED("0") PAIR);
+    is_served(6, at_once);
+    spaced(&tree, BUS PAIR);
+    is_served(6, at_once);
+    is_row(0, 1, 2, 1, 1, 192, 1);
+}
+
 /* The figures are those of docs/MODEL.md, M54 to M63, worked out by hand. */
 static void examples(const char *folder) {
     spaced(&tree, BUS ROOT ACCS);
@@ -334,6 +366,7 @@ int main(int arguments, char **words) {
     examples(words[1]);
     traces();
     waits();
+    returns();
     refused_trees();
     printf("%lu values, no difference\n", compared);
     return 0;

@@ -72,6 +72,10 @@ fn random_bus(random: &mut Random) -> Vec<String> {
     for (low, high) in [(1, 255), (1, 255), (1, 256)] {
         bus.push(random.within(low, high));
     }
+    // The return delay: any, or absent.
+    if random.one_in(2) {
+        bus.push(random.within(0, 15));
+    }
     fields("bus", &bus)
 }
 
@@ -188,7 +192,7 @@ pub fn damage_lines(random: &mut Random, lines: &mut Lines) {
         }
         let n = lines.len() as u64;
         let at = random.below(n) as usize;
-        match random.below(12) {
+        match random.below(13) {
             0 => drop(lines.remove(at)),
             1 => lines.insert(at, lines[random.below(n) as usize].clone()),
             2 => lines.swap(at, random.below(n) as usize),
@@ -198,6 +202,7 @@ pub fn damage_lines(random: &mut Random, lines: &mut Lines) {
             6 => drop(lines[at].pop()),
             7 | 8 => copy_field(random, lines, at),
             9 => deepen(lines),
+            10 => damage_delay(random, lines),
             _ => {
                 let k = random.below(lines[at].len() as u64) as usize;
                 lines[at][k] = random.pick(&FIELDS).to_string();
@@ -226,6 +231,14 @@ fn deepen(lines: &mut Lines) {
     }
 }
 
+/// The first line gets another eleventh field, or a twelfth one.
+fn damage_delay(random: &mut Random, lines: &mut Lines) {
+    let delay = random.pick(&["0", "1", "15", "16", "17", "255", "256", "4294967296", "", "-", "00", "015", "a"]);
+    let bus = &mut lines[0];
+    bus.truncate(if random.one_in(3) { 12 } else { 11 });
+    bus.push(delay.to_string());
+}
+
 /// Bytes with a fault: one changed, put in or taken out, or the end cut off.
 pub fn damage_bytes(random: &mut Random, text: &mut Vec<u8>) {
     if text.is_empty() {
@@ -242,8 +255,8 @@ pub fn damage_bytes(random: &mut Random, text: &mut Vec<u8>) {
     }
 }
 
-/// A tree for the timing: one bus line, interconnects as (parent, port), and the interconnect of each accelerator, which
-/// takes the next free port there.
+/// A tree for the timing, without a return delay: one bus line, interconnects as (parent, port), and the interconnect of each
+/// accelerator, which takes the next free port there.
 pub fn tree_of(window: u64, parents: &[(u64, u64)], homes: &[u64]) -> Vec<u8> {
     let mut lines = vec![fields("bus", &[window, 1, 4, 2, 2, 30, 25, 1, 1, 16])];
     lines.push(vec!["int".into(), "0".into(), "-".into(), "-".into(), "4".into()]);
@@ -281,6 +294,12 @@ pub fn full_tree() -> Vec<u8> {
     tree_of(64, &parents, &homes)
 }
 
+/// The same tree with a return delay.
+pub fn delayed(tree: &[u8], delay: u64) -> Vec<u8> {
+    let end = tree.iter().position(|&b| b == b'\n').expect("a bus line");
+    [&tree[..end], format!("\t{delay}").as_bytes(), &tree[end..]].concat()
+}
+
 /// Two levels and 5 interconnects, with so many accelerators on the lower level.
 pub fn wide_tree(accelerators: u64) -> Vec<u8> {
     let homes: Vec<u64> = (0..accelerators).map(|a| 1 + a % 4).collect();
@@ -300,10 +319,10 @@ pub fn busy_trace(tree: &[u8], slots: u32) -> Vec<u8> {
     let mut machine = Machine::fresh(&tree);
     let mut lines = Lines::new();
     for slot in 0..slots {
-        for a in 0..tree.accelerators.len() {
+        for a in 0..tree.accelerators.len() as u8 {
             while machine.pending(a) < 24 {
-                machine.hold(a as u8, 16);
-                lines.push(fields("o", &[slot.into(), a as u64, 16]));
+                machine.hold(a, 16);
+                lines.push(fields("o", &[slot.into(), a.into(), 16]));
             }
         }
         machine.offer();

@@ -1,6 +1,6 @@
 //! Times library and peer side by side, and how the times grow.
 use razhikum::PAGE;
-use razhikum_bench::inputs::{busy_trace, deep_tree, full_tree, middle_tree, small_tree, wide_tree};
+use razhikum_bench::inputs::{busy_trace, deep_tree, delayed, full_tree, middle_tree, small_tree, wide_tree};
 use razhikum_bench::peer;
 use std::hint::black_box;
 use std::path::Path;
@@ -239,10 +239,14 @@ fn time_runs(small: &[u8], middle: &[u8], full: &[u8]) -> Vec<Target> {
     let of_small = run_row("small tree: 1 interconnect, 2 accelerators", small, SLOTS);
     let of_middle = run_row("middle tree: 4 and 12, 3 levels", middle, SLOTS);
     let of_full = run_row("full tree: 15 and 32, 4 levels", full, SLOTS);
+    let at_once = run_row("full tree, return delay 0", &delayed(full, 0), SLOTS);
+    let late = run_row("full tree, return delay 15", &delayed(full, 15), SLOTS);
     vec![
         ("small tree, 65,536 slots", of_small),
         ("middle tree, 65,536 slots", of_middle),
         ("full tree, 65,536 slots", of_full),
+        ("full tree, return delay 0, 65,536 slots", at_once),
+        ("full tree, return delay 15, 65,536 slots", late),
     ]
 }
 

@@ -2,7 +2,7 @@
 //! is fixed. A difference prints the input and ends the test.
 mod common;
 
-use common::simple::{self, Budget, Rule};
+use common::simple::{self, Making, Rule};
 use razhikum::{Ending, FileRefused, Wait, WaitRefused, LIMIT, OWN, PAGE};
 use razhikum_bench::inputs::{damage_bytes, damage_lines, random_trace, random_tree, text, Random};
 use razhikum_bench::peer;
@@ -133,8 +133,24 @@ fn run_answer(answer: &Result<Ending, FileRefused>) -> String {
     }
 }
 
-/// Answers whether a budget over the whole run would differ.
-fn compare_run(tree: &[u8], trace: &[u8], slots: usize, counts: &mut Counts) -> bool {
+/// Ways to make a run that the comparison must find wrong.
+const WRONG_RUNS: [Making; 6] = [
+    Making::BudgetOfWholeRun,
+    Making::HomeAtOnce,
+    Making::HomeOneSlotEarly,
+    Making::HomeOneSlotLate,
+    Making::HomeWithWindow,
+    Making::DoneWhenHome,
+];
+
+/// The counts of a comparison of runs: the answers, and for each wrong way how many runs would differ.
+#[derive(Default)]
+struct RunCounts {
+    answers: Counts,
+    differing: [usize; WRONG_RUNS.len()],
+}
+
+fn compare_run(tree: &[u8], trace: &[u8], slots: usize, counts: &mut RunCounts) {
     let read = read_tree(tree)
         .map_err(FileRefused::Tree)
         .and_then(|t| read_trace(t.accelerators.len(), trace).map_err(FileRefused::Trace));
@@ -146,33 +162,37 @@ fn compare_run(tree: &[u8], trace: &[u8], slots: usize, counts: &mut Counts) -> 
     let answer = razhikum::run(tree, trace, &mut ours);
     check("run", answer, peer::run::run(tree, trace, &mut theirs), &files);
     check("run's bytes", &ours, &theirs, &files);
-    counts.add(run_answer(&answer));
+    counts.answers.add(run_answer(&answer));
     let (Ok(ending), Ok(requests), Ok(tree)) = (answer, read, read_tree(tree)) else {
-        return false;
+        return;
     };
     if slots > 400 {
-        return false;
+        return;
     }
-    let mut plain = vec![filled; slots];
-    let (simple, _) = simple::run(&tree, &requests, &mut plain, Budget::OfWindow);
-    check("run against the simple one", ending, simple, &files);
-    check("bytes against the simple one", &ours, &plain, &files);
-    let mut wrong = vec![filled; slots];
-    let (of_whole_run, _) = simple::run(&tree, &requests, &mut wrong, Budget::OfWholeRun);
-    of_whole_run != ending || wrong != ours
+    let made = |making| {
+        let mut out = vec![filled; slots];
+        let (ending, _) = simple::run(&tree, &requests, &mut out, making);
+        (ending, out)
+    };
+    let library = (ending, ours);
+    check("run against the simple one", &library, &made(Making::AsWritten), &files);
+    for (count, making) in counts.differing.iter_mut().zip(WRONG_RUNS) {
+        *count += usize::from(made(making) != library);
+    }
 }
 
 fn compare_runs() -> usize {
     let mut random = Random::new(2);
-    let mut counts = Counts::default();
-    let mut differing = 0;
+    let mut counts = RunCounts::default();
     for _ in 0..RUNS {
         let (tree, trace, slots) = run_files(&mut random);
-        differing += usize::from(compare_run(&tree, &trace, slots, &mut counts));
+        compare_run(&tree, &trace, slots, &mut counts);
     }
-    counts.print("runs: trace reader, run with every byte of the buffer");
-    println!("  a budget over the whole run would differ in {differing} of them");
-    assert!(differing > 0, "the comparison finds no budget over the whole run");
+    counts.answers.print("runs: trace reader, run with every byte of the buffer");
+    for (making, count) in WRONG_RUNS.iter().zip(counts.differing) {
+        println!("  a run by {making:?} would differ in {count} of them");
+        assert!(count > 0, "the comparison does not find {making:?}");
+    }
     RUNS
 }
 
@@ -237,7 +257,7 @@ fn compare_simple(files: [&[u8]; 2], a: u8, number: u32, differing: &mut [usize;
     }
     let tree = read_tree(files[0]).expect("read before");
     let requests = read_trace(tree.accelerators.len(), files[1]).expect("read before");
-    let (_, services) = simple::run(&tree, &requests, &mut short, Budget::OfWindow);
+    let (_, services) = simple::run(&tree, &requests, &mut short, Making::AsWritten);
     let mut list = [0; 800];
     let library = razhikum::why(files[0], files[1], a, number, &mut list).ok();
     let library = library.map(|wait| (wait.slot as usize, wait.pairs.to_vec()));
@@ -248,19 +268,20 @@ fn compare_simple(files: [&[u8]; 2], a: u8, number: u32, differing: &mut [usize;
     }
 }
 
-/// A wait that is asked for: the number of the transaction and the length of the buffer; the tree's window, how many transactions of
-/// the accelerator the run serves, and whether the run is stopped.
+/// A wait that is asked for: the number of the transaction and the length of the buffer; the tree's window and return delay, how many
+/// transactions of the accelerator the run serves, and whether the run is stopped.
 struct Asked {
     number: u32,
     room: usize,
     window: u32,
+    delay: u32,
     most: u32,
     stopped: bool,
 }
 
 /// What the comparison of waits must meet, and whether this one does.
-fn kinds(asked: &Asked, answer: &Told) -> [(&'static str, bool); 18] {
-    let &Asked { number, room, window, most, stopped } = asked;
+fn kinds(asked: &Asked, answer: &Told) -> [(&'static str, bool); 20] {
+    let &Asked { number, room, window, delay, most, stopped } = asked;
     let refused = |by| matches!(answer, Err(WaitRefused::Call(r)) if r.cause.number() == by);
     let wait = answer.ok();
     let told = wait.is_some();
@@ -273,6 +294,8 @@ fn kinds(asked: &Asked, answer: &Told) -> [(&'static str, bool); 18] {
         ("a meeting below the root", entry(|met| met != 0 && met != OWN)),
         ("admitted after the first window", windows.0 > 0),
         ("admitted in one window, served in a later one", windows.0 < windows.1),
+        ("a list on a tree with a return delay", list > 0 && delay > 0),
+        ("a list on a tree with a return delay of 15", list > 0 && delay == 15),
         ("served in the last slot that a run may have", wait.is_some_and(|w| w.slot + w.count == LIMIT as u32 - 1)),
         ("the last one served", told && number == most),
         ("an empty buffer for a list", room == 0 && list > 0),
@@ -303,7 +326,8 @@ fn compare_wait(random: &mut Random, counts: &mut WaitCounts) {
     let mut served = vec![255; LIMIT];
     let ending = razhikum::run(&tree, &trace, &mut served);
     served.retain(|&b| b != 255);
-    let (known, window) = read_tree(&tree).map_or((1, 1), |t| (t.accelerators.len(), t.bus.window));
+    let (known, window, delay) =
+        read_tree(&tree).map_or((1, 1, 0), |t| (t.accelerators.len(), t.bus.window, t.bus.delay));
     let (a, number) = question(random, known as u64, &served);
     let count = peer::why::why(&tree, &trace, a, number, &mut []).map_or(0, |wait| wait.count);
     let (room, filled) = (room(random, count), random.below(256) as u8);
@@ -312,7 +336,7 @@ fn compare_wait(random: &mut Random, counts: &mut WaitCounts) {
     counts.answers.add(wait_answer(&answer));
     let most = served.iter().filter(|&&b| b == a).count() as u32;
     let stopped = matches!(ending, Ok(Ending::Stopped(_)));
-    for (kind, met) in kinds(&Asked { number, room, window, most, stopped }, &answer) {
+    for (kind, met) in kinds(&Asked { number, room, window, delay, most, stopped }, &answer) {
         *counts.kinds.entry(kind).or_default() += usize::from(met);
     }
     let what = format!("wait of accelerator {a}, number {number}, in {room} bytes");

@@ -1,16 +1,26 @@
 //! The edge files of crates/readcheck, whose answers the proved program is held to, read by the peer and by the library.
 use razhikum::{FileRefused, Refused};
-use razhikum_bench::peer::read::{read_trace, read_tree};
+use razhikum_bench::peer::read::{read_trace, read_tree, Request, Tree};
 
 /// A trace is read on the tree of document 01's report, which is the first file.
 const TREE: &[u8] = b"bus\t8\t1\t4\t2\t2\t30\t25\t1\t1\t16\nint\t0\t-\t-\t1\n\
 acc\t0\t0\t0\t4\t2\t10\t5\t1000\t2000\nacc\t1\t0\t3\t4\t2\t1\t0\t0\t100\n";
 
-fn answer<T>(name: &str, read: Result<T, Refused>, figures: impl Fn(T) -> (u64, u64)) -> String {
+fn answer<T>(name: &str, read: Result<T, Refused>, figures: impl Fn(T) -> String) -> String {
     match read.map(figures) {
-        Ok((a, b)) => format!("{name}\taccepted\t{a}\t{b}"),
+        Ok(figures) => format!("{name}\taccepted\t{figures}"),
         Err(r) => format!("{name}\trefused\t{}\t{}", r.cause.number(), r.line),
     }
+}
+
+/// The interconnects, the accelerators and the return delay of a tree.
+fn of_tree(tree: Tree) -> String {
+    format!("{}\t{}\t{}", tree.interconnects.len(), tree.accelerators.len(), tree.bus.delay)
+}
+
+/// The requests of a trace and the sum of their counts.
+fn of_trace(requests: Vec<Request>) -> String {
+    format!("{}\t{}", requests.len(), requests.iter().map(|r| u64::from(r.count)).sum::<u64>())
 }
 
 #[test]
@@ -31,18 +41,13 @@ fn edge_files() {
         rest = after;
         let line = expected.next().expect("an answer for each file");
         let peer = if kind == "t" {
-            let figures =
-                |t: razhikum_bench::peer::read::Tree| (t.interconnects.len() as u64, t.accelerators.len() as u64);
             assert_eq!(razhikum::read_tree(file), read_tree(file).map(|_| ()), "{name}");
-            answer(name, read_tree(file), figures)
+            answer(name, read_tree(file), of_tree)
         } else {
             let read = read_trace(2, file);
             let peer = read.as_ref().map(|_| ()).map_err(|r| FileRefused::Trace(*r));
             assert_eq!(razhikum::read_trace(TREE, file), peer, "{name}");
-            answer(name, read, |requests| {
-                let sum = requests.iter().map(|r| u64::from(r.count)).sum();
-                (requests.len() as u64, sum)
-            })
+            answer(name, read, of_trace)
         };
         assert_eq!(peer, line);
         files += 1;

@@ -1,4 +1,4 @@
-//! Figures of document 01 ("Figures to check by"), waits on them, and the limits on sizes, by library and peer alike.
+//! Figures of document 01 ("Figures to check by"), waits on them, return delays, and the limits on sizes, by library and peer alike.
 use razhikum::{Ending, FileRefused, Refused, Wait, WaitRefused, LIMIT, OWN, PAGE};
 use razhikum_bench::peer;
 
@@ -107,6 +107,58 @@ fn the_report() {
     let mut text = Vec::new();
     assert_eq!(peer::report::report(&tree, &mut text), Ok(()));
     assert_eq!(text, expected);
+}
+
+/// A tree file with this return delay at the end of its bus line; "" leaves it out.
+fn with_delay(delay: &str, accs: &str) -> Vec<u8> {
+    let bus = BUS.replacen(" 16\n", &format!(" 16{delay}\n"), 1);
+    file(&format!("{bus}{accs}"))
+}
+
+/// A place is free again r slots after the service: with phi 1 and r 3 a block alone is served in every fourth slot, with phi 2 twice in
+/// four slots, with phi 4 always. What is on its way does not keep a run from being done.
+#[test]
+fn a_block_alone_with_a_return_delay() {
+    let served = |delay, phi, expected: &[u8]| {
+        let tree = with_delay(delay, &format!("acc 0 0 0 {phi} 8 1 1 0 1\n"));
+        let (ending, out) = run(&tree, &file("o 0 0 4\n"), 16);
+        assert_eq!(ending, Ok(Ending::Done(expected.len() as u32)));
+        assert_eq!(out[..expected.len()], *expected);
+    };
+    served(" 3", 1, &[0, 255, 255, 255, 0, 255, 255, 255, 0, 255, 255, 255, 0]);
+    served(" 3", 2, &[0, 0, 255, 255, 0, 0]);
+    served(" 3", 4, &[0; 4]);
+    served(" 0", 1, &[0; 4]);
+    served("", 1, &[0; 4]);
+}
+
+/// Two blocks on ports 0 and 1, three requests each, return delay 2. Block 0 has phi 1: served in slot 0, it is home at the start of
+/// slot 3 and offers again there; its wait begins with that admission. Block 1 takes slot 2.
+#[test]
+fn two_blocks_with_a_return_delay() {
+    let accs = "acc 0 0 0 1 8 1 1 0 1\nacc 1 0 1 4 8 1 1 0 1\n";
+    let (tree, trace) = (with_delay(" 2", accs), file("o 0 0 3\no 0 1 3\n"));
+    shares(&tree, &[2, 2]);
+    let (ending, out) = run(&tree, &trace, 16);
+    assert_eq!(ending, Ok(Ending::Done(7)));
+    assert_eq!(out[..8], [0, 1, 1, 0, 1, 255, 0, 99]);
+    wait(&tree, &trace, 0, 2, Ok((3, 0, &[])));
+    wait(&tree, &trace, 1, 3, Ok((0, 4, &[[0, 0], [1, OWN], [1, OWN], [0, 0]])));
+    shares(&with_delay("", accs), &[2, 2]);
+    let (ending, out) = run(&with_delay("", accs), &trace, 16);
+    assert_eq!(ending, Ok(Ending::Done(6)));
+    assert_eq!(out[..7], [0, 1, 0, 1, 0, 1, 99]);
+}
+
+/// 15 is read, 16 is refused by 2; an empty eleventh field and a twelfth one by 1.
+#[test]
+fn limits_of_the_return_delay() {
+    for (delay, refused) in [("", 0), (" 0", 0), (" 15", 0), (" 16", 2), (" ", 1), (" 1 1", 1), (" -", 1), (" 01", 1)] {
+        let tree = with_delay(delay, "acc 0 0 0 4 8 1 1 0 1\n");
+        let expected = if refused == 0 { Ok(()) } else { Err(Refused::by(refused, 1)) };
+        assert_eq!(razhikum::read_tree(&tree), expected, "{delay:?}");
+        assert_eq!(peer::read::read_tree(&tree).map(|_| ()), expected, "{delay:?}");
+    }
 }
 
 /// 65,536 bytes are read, one more is refused by 2 with line 0; the 65,536th transaction of one accelerator by 2.

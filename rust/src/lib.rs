@@ -42,7 +42,7 @@ mod raw;
 pub use answers::{Bound, Cause, Ending, FileRefused, Refused, Wait, WaitRefused};
 
 /// The version of this wrapper: 10,000 for each first figure, 100 for each second, 1 for each third.
-pub const VERSION: u32 = 10_100;
+pub const VERSION: u32 = 10_200;
 
 /// The size of the page that a report is put on, in bytes.
 pub const PAGE: usize = 65_536;
@@ -101,7 +101,8 @@ pub fn report<'a>(tree: &[u8], page: &'a mut [u8; PAGE]) -> Result<&'a [u8], Ref
 }
 
 /// Runs a trace on a tree and writes one byte a slot into `out`: the accelerator's number, or [`IDLE`]. The bytes past the slots
-/// used keep their contents; on a refusal all do.
+/// used keep their contents; on a refusal all do. With a return delay of r, the last field of the tree's bus line, a transaction
+/// served in slot s is outstanding until slot s + 1 + r starts; a run may be done before that.
 pub fn run(tree: &[u8], trace: &[u8], out: &mut [u8]) -> Result<Ending, FileRefused> {
     let r = unsafe {
         raw::razhikum_run(tree.as_ptr(), tree.len(), trace.as_ptr(), trace.len(), out.as_mut_ptr(), out.len())

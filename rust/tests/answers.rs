@@ -1,7 +1,7 @@
 //! Each function on accepted and refused files, with figures worked out by hand from `docs/MODEL.md`.
 use razhikum::{
     bound, count, read_trace, read_tree, report, run, why, Bound, Cause, Ending, FileRefused, Refused, Wait,
-    WaitRefused, LIMIT, OWN, PAGE,
+    WaitRefused, IDLE, LIMIT, OWN, PAGE,
 };
 
 const SMALL: &str = "bus 8 1 4 2 2 30 25 1 1 16\nint 0 - - 1\nacc 0 0 0 4 2 10 5 1000 2000\nacc 1 0 3 4 2 1 0 0 100\n";
@@ -60,6 +60,45 @@ fn runs() {
     let no_tree = FileRefused::Tree(Refused { cause: Cause::Order, line: 1 });
     assert_eq!((read_trace(b"", &trace), run(b"", &trace, &mut out)), (Err(no_tree), Err(no_tree)));
     assert_eq!(out, [0, 1, 0, 99]);
+}
+
+/// Two accelerators with phi 1 and 4 (`docs/MODEL.md`, M95): with a return delay of 2 the first offers again in slots 3 and 6.
+#[test]
+fn runs_with_a_return_delay() {
+    let tree = |delay| {
+        file(&format!(
+            "bus 16 1 4 2 2 30 25 1 1 16{delay}\nint 0 - - 1\nacc 0 0 0 1 8 1 1 0 1\nacc 1 0 1 4 8 1 1 0 1\n"
+        ))
+    };
+    let trace = file("o 0 0 3\no 0 1 3\n");
+    let served = |delay| {
+        let mut out = [99; 8];
+        (run(&tree(delay), &trace, &mut out), out)
+    };
+    assert_eq!(served(" 2"), (Ok(Ending::Done(7)), [0, 1, 1, 0, 1, IDLE, 0, 99]));
+    assert_eq!(served(" 0"), (Ok(Ending::Done(6)), [0, 1, 0, 1, 0, 1, 99, 99]));
+    assert_eq!(served(""), served(" 0"));
+    assert_eq!(why(&tree(" 2"), &trace, 0, 2, &mut []), Ok(Wait { count: 0, slot: 3, pairs: &[] }));
+    assert_eq!([bound(&tree(" 2"), 0), bound(&tree(" 2"), 1)], [bound(&tree(""), 0), bound(&tree(""), 1)]);
+    let refused = |delay| read_tree(&tree(delay)).unwrap_err();
+    assert_eq!(refused(" 16"), Refused { cause: Cause::Range, line: 1 });
+    assert_eq!([refused(" "), refused(" 1 1")], [Refused { cause: Cause::Shape, line: 1 }; 2]);
+}
+
+/// The scanner of the examples on a port with a return delay of 15: the camera's frames end later, and with phi 4 each later than the
+/// one before.
+#[test]
+fn an_example_with_a_return_delay() {
+    let trace = example("scanner15-read.trace");
+    let frames = |tree: &[u8]| {
+        let mut out = vec![99; LIMIT];
+        let ending = run(tree, &trace, &mut out);
+        let camera: Vec<usize> = (0..LIMIT).filter(|&slot| out[slot] == 0).collect();
+        (ending, [camera[39], camera[79], camera[119]])
+    };
+    assert_eq!(frames(&example("scanner15.tree")), (Ok(Ending::Done(354)), [43, 171, 299]));
+    assert_eq!(frames(&example("scanner15-delay15.tree")), (Ok(Ending::Done(354)), [73, 201, 329]));
+    assert_eq!(frames(&example("scanner15-delay15-phi4.tree")), (Ok(Ending::Done(470)), [149, 309, 469]));
 }
 
 /// Three interconnects beneath each other, four accelerators (`docs/MODEL.md`, M73 and M74): served 0 1 0 2 0 1 0 3.

@@ -1,5 +1,5 @@
-//! The machine with the held requests before it ("Turns"). What waits under each port and the set of live ports of each
-//! interconnect are kept, and brought up to date along the one path that an admission or a service touches.
+//! The machine with the held requests before it ("Turns"; document 02, item 2). What waits under each port and the set of live
+//! ports of each interconnect are kept, and brought up to date along the one path that an admission or a service touches.
 use crate::peer::read::{Port, Tree};
 
 const IDLE: u8 = 255;
@@ -23,7 +23,8 @@ struct Record {
     held: u32,
     admitted: u16,
     budget: u16,
-    waiting: u8,
+    /// What waits and what is returning.
+    outstanding: u8,
     phi: u8,
     interconnect: u8,
     port: u8,
@@ -36,6 +37,9 @@ pub struct Machine {
     holding: u32,
     /// Of these, those whose next offer might be admitted.
     ready: u32,
+    /// Who was served in each of the last 16 slots, slot s at place s % 16.
+    served: [u8; 16],
+    delay: u32,
     slot: u32,
     /// Slots left in this window.
     left: u32,
@@ -66,7 +70,8 @@ impl Machine {
             record.interconnect = from.interconnect;
             record.port = from.port;
         }
-        Machine { turns, records, holding: 0, ready: 0, slot: 0, left: tree.bus.window, window: tree.bus.window }
+        let (delay, window) = (tree.bus.delay, tree.bus.window);
+        Machine { turns, records, holding: 0, ready: 0, served: [IDLE; 16], delay, slot: 0, left: window, window }
     }
 
     pub fn slot(&self) -> u32 {
@@ -74,13 +79,14 @@ impl Machine {
     }
 
     /// What accelerator a holds and what waits of it.
-    pub fn pending(&self, a: usize) -> u32 {
-        self.records[a].held + u32::from(self.records[a].waiting)
+    pub fn pending(&self, a: u8) -> u32 {
+        self.records[a as usize].held + self.waiting(a)
     }
 
-    /// What waits of accelerator a.
-    pub fn waiting(&self, a: u8) -> usize {
-        self.records[a as usize].waiting.into()
+    /// What waits of accelerator a: what waits under its own port.
+    pub fn waiting(&self, a: u8) -> u32 {
+        let record = &self.records[a as usize];
+        self.turns[record.interconnect as usize].waiting[record.port as usize].into()
     }
 
     pub fn hold(&mut self, a: u8, count: u8) {
@@ -100,14 +106,14 @@ impl Machine {
             let a = self.ready.trailing_zeros();
             self.ready &= self.ready - 1;
             let record = &mut self.records[a as usize];
-            let room = u32::from(record.phi - record.waiting);
+            let room = u32::from(record.phi - record.outstanding);
             let budget = u32::from(record.budget - record.admitted);
             let count = record.held.min(room).min(budget);
             if count == 0 {
                 continue;
             }
             record.held -= count;
-            record.waiting += count as u8;
+            record.outstanding += count as u8;
             record.admitted += count as u16;
             if record.held == 0 {
                 self.holding &= !(1 << a);
@@ -128,6 +134,7 @@ impl Machine {
     /// One slot: the accelerator served, or 255.
     pub fn serve(&mut self) -> u8 {
         let served = if self.turns[0].live == 0 { IDLE } else { self.descend() };
+        self.bring_home(served);
         self.slot += 1;
         self.left -= 1;
         if self.left == 0 {
@@ -138,6 +145,21 @@ impl Machine {
             self.ready = self.holding;
         }
         served
+    }
+
+    /// "A transaction served in slot s stops being outstanding at the start of slot s + 1 + r": the next slot begins, so it is the one
+    /// served r slots ago.
+    fn bring_home(&mut self, served: u8) {
+        let home = if self.delay == 0 {
+            served
+        } else {
+            self.served[self.slot as usize % 16] = served;
+            self.served[self.slot.wrapping_sub(self.delay) as usize % 16]
+        };
+        if home != IDLE {
+            self.records[home as usize].outstanding -= 1;
+            self.ready |= self.holding & (1 << home);
+        }
     }
 
     fn descend(&mut self) -> u8 {
@@ -157,11 +179,7 @@ impl Machine {
             }
             match turn.ports[port] {
                 Port::Int(j) => i = j,
-                Port::Acc(a) => {
-                    self.records[a as usize].waiting -= 1;
-                    self.ready |= self.holding & (1 << a);
-                    return a;
-                }
+                Port::Acc(a) => return a,
                 Port::Empty => unreachable!("nothing waits under an empty port"),
             }
         }

@@ -1,4 +1,4 @@
-//! The readers of tree and trace files ("The tree on paper", "What is refused").
+//! The readers of tree and trace files ("The tree on paper", "What is refused"; document 02, item 2, for the return delay).
 use razhikum::{Refused, LIMIT};
 
 #[derive(Clone, Copy, Debug, Default)]
@@ -13,6 +13,8 @@ pub struct Bus {
     pub td: u64,
     pub tb: u64,
     pub burst: u64,
+    /// The return delay, in slots.
+    pub delay: u32,
 }
 
 #[derive(Clone, Copy, Debug, Default, PartialEq, Eq)]
@@ -125,13 +127,19 @@ impl Cursor<'_> {
         self.number().map(Some)
     }
 
-    /// The fields of a line up to its LF.
-    fn numbers<const N: usize>(&mut self) -> Option<[u64; N]> {
-        let mut values = [0; N];
-        for value in &mut values {
+    /// So many fields, each after its tab.
+    fn fields(&mut self, values: &mut [u64]) -> Option<()> {
+        for value in values {
             self.byte(b'\t')?;
             *value = self.number()?;
         }
+        Some(())
+    }
+
+    /// The fields of a line up to its LF.
+    fn numbers<const N: usize>(&mut self) -> Option<[u64; N]> {
+        let mut values = [0; N];
+        self.fields(&mut values)?;
         self.byte(b'\n')?;
         Some(values)
     }
@@ -148,9 +156,20 @@ fn in_limits(values: &[u64], limits: &[(u64, u64)]) -> Result<(), u8> {
 
 const U32: u64 = 4_294_967_295;
 
-/// P, tA, dA, dD, dB, pR, pW, tD, tB, B
-const BUS: [(u64, u64); 10] =
-    [(1, 65_535), (1, 255), (0, 255), (0, 255), (0, 255), (0, 4_095), (0, 4_095), (1, 255), (1, 255), (1, 256)];
+/// P, tA, dA, dD, dB, pR, pW, tD, tB, B, r
+const BUS: [(u64, u64); 11] = [
+    (1, 65_535),
+    (1, 255),
+    (0, 255),
+    (0, 255),
+    (0, 255),
+    (0, 4_095),
+    (0, 4_095),
+    (1, 255),
+    (1, 255),
+    (1, 256),
+    (0, 15),
+];
 /// number, parent, port, g
 const INT: [(u64, u64); 4] = [(0, 14), (0, 14), (0, 7), (1, 16)];
 /// number, interconnect, port, phi, budget, Nr, Nw, C, T
@@ -168,7 +187,7 @@ struct Reading {
 impl Reading {
     fn line(&mut self, cursor: &mut Cursor) -> Result<(), u8> {
         if cursor.name(b"bus") {
-            self.bus_line(cursor.numbers().ok_or(SHAPE)?)
+            self.bus_line(bus_fields(cursor).ok_or(SHAPE)?)
         } else if cursor.name(b"int") {
             let (number, parent, port, granularity) = int_fields(cursor).ok_or(SHAPE)?;
             self.int_line(number, parent, port, granularity)
@@ -179,13 +198,13 @@ impl Reading {
         }
     }
 
-    fn bus_line(&mut self, v: [u64; 10]) -> Result<(), u8> {
+    fn bus_line(&mut self, v: [u64; 11]) -> Result<(), u8> {
         in_limits(&v, &BUS)?;
         if self.bus.is_some() {
             return Err(ORDER);
         }
-        let [window, ta, da, dd, db, pr, pw, td, tb, burst] = v;
-        self.bus = Some(Bus { window: window as u32, ta, da, dd, db, pr, pw, td, tb, burst });
+        let [window, ta, da, dd, db, pr, pw, td, tb, burst, delay] = v;
+        self.bus = Some(Bus { window: window as u32, ta, da, dd, db, pr, pw, td, tb, burst, delay: delay as u32 });
         Ok(())
     }
 
@@ -255,6 +274,18 @@ impl Reading {
         }
         Some(Tree { bus: self.bus?, interconnects: self.interconnects, accelerators })
     }
+}
+
+/// The fields of a bus line. The last one, the return delay, may be absent: that means 0.
+fn bus_fields(cursor: &mut Cursor) -> Option<[u64; 11]> {
+    let mut values = [0; 11];
+    let (always, delay) = values.split_at_mut(10);
+    cursor.fields(always)?;
+    if cursor.byte(b'\n').is_none() {
+        cursor.fields(delay)?;
+        cursor.byte(b'\n')?;
+    }
+    Some(values)
 }
 
 type IntFields = (u64, Option<u64>, Option<u64>, u64);

@@ -41,9 +41,8 @@ fn until_served(tree: &Tree, requests: &[Request], a: u8, number: u32) -> Option
             return None;
         }
         left = hold_due(&mut machine, left, slot);
-        let waiting = machine.waiting(a);
         machine.offer();
-        queue.extend(repeat_n(slot, machine.waiting(a) - waiting));
+        queue.extend(repeat_n(slot, machine.waiting(a) as usize - queue.len()));
         let byte = machine.serve();
         if byte == a {
             let admission = queue.pop_front().expect("what is served was admitted");

@@ -4,11 +4,20 @@ use razhikum::{Ending, OWN};
 use razhikum_bench::peer::read::{Port, Request, Tree};
 use std::collections::VecDeque;
 
-/// When admitted counts return to 0: at each new window, as document 01 has it, or never, as in the planner that it replaces.
-#[derive(Clone, Copy, PartialEq)]
-pub enum Budget {
-    OfWindow,
-    OfWholeRun,
+/// How a run is made: as the documents have it, or by a rule that is wrong.
+#[derive(Clone, Copy, Debug, PartialEq)]
+pub enum Making {
+    AsWritten,
+    /// Admitted counts never return to 0, as in the planner that this one replaces.
+    BudgetOfWholeRun,
+    /// The return delay is not looked at.
+    HomeAtOnce,
+    HomeOneSlotEarly,
+    HomeOneSlotLate,
+    /// A new window brings home whatever is on its way.
+    HomeWithWindow,
+    /// A run goes on until everything is home.
+    DoneWhenHome,
 }
 
 /// A transaction that is served, with the slots in which it was requested, admitted and served.
@@ -34,8 +43,11 @@ pub enum Rule {
 
 struct Machine<'a> {
     tree: &'a Tree,
+    making: Making,
     /// Of each accelerator what waits, oldest first: the slots of request and of admission.
     queues: Vec<VecDeque<(usize, usize)>>,
+    /// Of each accelerator what is returning: the slots at whose start it is home.
+    returning: Vec<Vec<usize>>,
     admitted: Vec<u16>,
     last: Vec<usize>,
     allowance: Vec<usize>,
@@ -55,7 +67,8 @@ impl Machine<'_> {
 
     fn offer(&mut self, a: usize, requested: usize, slot: usize) -> bool {
         let limits = &self.tree.accelerators[a];
-        if self.queues[a].len() == limits.phi as usize || self.admitted[a] == limits.budget {
+        let outstanding = self.queues[a].len() + self.returning[a].len();
+        if outstanding == limits.phi as usize || self.admitted[a] == limits.budget {
             return false;
         }
         self.queues[a].push_back((requested, slot));
@@ -86,16 +99,47 @@ impl Machine<'_> {
         }
         let a = self.choose(0);
         let (requested, admitted) = self.queues[a].pop_front().expect("the oldest transaction");
+        let delay = match self.making {
+            Making::HomeAtOnce => 0,
+            Making::HomeOneSlotEarly => self.tree.bus.delay.saturating_sub(1),
+            Making::HomeOneSlotLate => self.tree.bus.delay + 1,
+            _ => self.tree.bus.delay,
+        };
+        self.returning[a].push(slot + 1 + delay as usize);
         Some(Service { accelerator: a as u8, requested, admitted, served: slot })
+    }
+
+    /// What is due at the start of this slot is home.
+    fn bring_home(&mut self, slot: usize) {
+        for returning in &mut self.returning {
+            returning.retain(|&due| due > slot);
+        }
+    }
+
+    fn open_window(&mut self) {
+        if self.making != Making::BudgetOfWholeRun {
+            self.admitted.fill(0);
+        }
+        if self.making == Making::HomeWithWindow {
+            self.returning.iter_mut().for_each(Vec::clear);
+        }
+    }
+
+    /// Whether nothing is left of what was admitted.
+    fn is_empty(&self) -> bool {
+        let none_waits = self.queues.iter().all(VecDeque::is_empty);
+        none_waits && (self.making != Making::DoneWhenHome || self.returning.iter().all(Vec::is_empty))
     }
 }
 
 /// Runs the requests, one byte a slot, and gives what was served besides.
-pub fn run(tree: &Tree, requests: &[Request], out: &mut [u8], budget: Budget) -> (Ending, Vec<Service>) {
+pub fn run(tree: &Tree, requests: &[Request], out: &mut [u8], making: Making) -> (Ending, Vec<Service>) {
     let n = tree.accelerators.len();
     let mut machine = Machine {
         tree,
+        making,
         queues: vec![VecDeque::new(); n],
+        returning: vec![Vec::new(); n],
         admitted: vec![0; n],
         last: vec![7; tree.interconnects.len()],
         allowance: vec![0; tree.interconnects.len()],
@@ -105,9 +149,9 @@ pub fn run(tree: &Tree, requests: &[Request], out: &mut [u8], budget: Budget) ->
     let mut services = Vec::new();
     let mut lines: VecDeque<Request> = requests.iter().copied().collect();
     for slot in 0.. {
+        machine.bring_home(slot);
         let none_held = held.iter().all(VecDeque::is_empty);
-        let none_waits = machine.queues.iter().all(VecDeque::is_empty);
-        if lines.is_empty() && none_held && none_waits {
+        if lines.is_empty() && none_held && machine.is_empty() {
             return (Ending::Done(slot as u32), services);
         }
         if slot == out.len() {
@@ -125,9 +169,8 @@ pub fn run(tree: &Tree, requests: &[Request], out: &mut [u8], budget: Budget) ->
         let service = machine.slot(slot);
         out[slot] = service.map_or(255, |s| s.accelerator);
         services.extend(service);
-        let opens_window = (slot as u32 + 1) % tree.bus.window == 0;
-        if opens_window && budget == Budget::OfWindow {
-            machine.admitted.fill(0);
+        if (slot as u32 + 1) % tree.bus.window == 0 {
+            machine.open_window();
         }
     }
     (Ending::Stopped(out.len() as u32), services)

@@ -1,6 +1,6 @@
 -- What the exported functions answer, as numbers, from the definitions of documents 01 and 02 that the libraries below cite.
 --
--- version               1.1.0 as one number: 10,000 for the first figure, 100 for the second, 1 for the third
+-- version               1.2.0 as one number: 10,000 for the first figure, 100 for the second, 1 for the third
 -- treeReading q         the reading q of a tree file as numbers
 -- traceReading q s      the same for the trace s on that tree: a refused tree comes first
 -- countFrom q           the number of accelerators of the tree of reading q
@@ -27,7 +27,7 @@ use Rattle.answers.specs.declared.Row.{Row}
 use Rattle.answers.specs.Numbers.{isAccepted, readingOf, countOf, outcomeOf, treeRefused, noWait, waitOf, unbounded, rowOf}
 
 abbrev pub version : ℕ
-version = 1 * 10000 + 1 * 100 + 0
+version = 1 * 10000 + 2 * 100 + 0
 
 abbrev pub treeReading : TreeRead → Reading
 treeReading q = readingOf 1 (q .answer)

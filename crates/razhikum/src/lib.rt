@@ -40,7 +40,7 @@ pub struct Page {
 pub extern "C" fn razhikum_version() -> u32
     ensures { λ r. ⌜ r ≡ version ⌝ }
 {
-    10100
+    10200
 }
 
 // Whether the tree file is accepted, or why and at which line it is refused.
