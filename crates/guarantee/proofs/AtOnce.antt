@@ -17,11 +17,13 @@ use Rattle.rules.specs.Rules.{treeKeeps, turnKeeps, sized, onTheWay, recordKeep
 use Rattle.rules.proofs.Sound.{kept-of, way-of}
 use Rattle.turns.specs.Turns.{after}
 use Rattle.turns.proofs.Steps.{choice-same}
-use Rattle.machine.specs.Machine.{Answer, Outcome, outcome, admitted, served, idle, refused, admit, onAdmitted, limitsAnswer, verdictOf, offered, noneWaits, opens, older, tick, lastSlot, chosen, takeOne, slotted}
+use Rattle.machine.specs.Machine.{Answer, Outcome, outcome, admitted, served, idle, refused, admit, onAdmitted, limitsAnswer, verdictOf, offered}
+use Rattle.machine.specs.Machine.{noneWaits, opens, older, tick, lastSlot, chosen, takeOne, slotted}
 use Rattle.machine.specs.Calls.{Call, offer, slot, step, answersOf, stateAfter}
 use Rattle.machine.proofs.Keeps.{zeros}
 use Rattle.machine.proofs.Returns.{no-ones}
-use Rattle.guarantee.specs.AtOnce.{sizedAtOnce, recordKeepsAtOnce, stateKeepsAtOnce, keepsAtOnce, verdictAtOnce, offeredAtOnce, tickAtOnce, takeOneAtOnce, slottedAtOnce, stepAtOnce, answersAtOnce, stateAtOnce, AtOnce}
+use Rattle.guarantee.specs.AtOnce.{sizedAtOnce, recordKeepsAtOnce, stateKeepsAtOnce, keepsAtOnce, verdictAtOnce, offeredAtOnce, tickAtOnce}
+use Rattle.guarantee.specs.AtOnce.{takeOneAtOnce, slottedAtOnce, stepAtOnce, answersAtOnce, stateAtOnce, AtOnce}
 
 abbrev none : List ℕ
 none = replicate 32 0

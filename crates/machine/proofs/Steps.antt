@@ -17,7 +17,9 @@ use Rattle.model.specs.Builders.{zeroState, withCounts, withService, atSlot}
 use Rattle.rules.specs.Rules.{treeKeeps, keeps}
 use Rattle.folds.specs.Fold.{pick}
 use Rattle.folds.proofs.Folds.{picked, passed, clash}
-use Rattle.machine.specs.Machine.{Answer, outcome, admitted, served, idle, refused, started, notStarted, beginning, freshState, freshened, admit, limitsAnswer, verdictOf, onAdmitted, offeredWithin, offered, noneWaits, lastSlot, chosen, takeOne, serve, older, tick, opens, slottedWithin, slotted}
+use Rattle.machine.specs.Machine.{Answer, outcome, admitted, served, idle, refused, started, notStarted, beginning, freshState, freshened}
+use Rattle.machine.specs.Machine.{admit, limitsAnswer, verdictOf, onAdmitted, offeredWithin, offered, noneWaits, lastSlot, chosen, takeOne}
+use Rattle.machine.specs.Machine.{serve, older, tick, opens, slottedWithin, slotted}
 
 pub admit-far : (s : State) (a : ℕ) → length (s .waiting) ≡ 32 → length (s .admitted) ≡ 32 → 32 ≤ a → s ≡ admit s a
 admit-far s a w d h =

@@ -11,7 +11,8 @@ returns c = slot-11 _ _ (sym (c .before .both-keep .ensures) ∙ not-true _ (c .
 
 returns-2 : tie.Need-returns-2
 returns-2 c =
-    c .slot-within .ensures ∙ slot-passed (c .before .before .before .args .t) (c .before .before .before .args .s) (sym (c .before .before .both-keep .ensures) ∙ not-false _ (c .before .if1 .left))
+    let x = c .before .before .before .args in
+    c .slot-within .ensures ∙ slot-passed (x .t) (x .s) (sym (c .before .before .both-keep .ensures) ∙ not-false _ (c .before .if1 .left))
 
 slot-within-requires : tie.Need-slot-within-requires
 slot-within-requires c κs = sym (c .before .both-keep .ensures) ∙ not-false _ (c .if1 .left)

@@ -23,7 +23,9 @@ ticked-requires c κs = (omega arith, sound-of _ _ (c .before .before .before .b
 
 returns-2 : tie.Need-returns-2
 returns-2 c =
-    ap (outcome idle) (c .ticked .ensures) ∙ idle-within (c .before .before .before .before .before .args .t) (c .before .before .before .before .before .args .s) (c .before .before .before .if1 .left) (sym (c .before .before .none-waits .ensures) ∙ c .before .if2 .taken)
+    let x = c .before .before .before .before .before .args in
+    ap (outcome idle) (c .ticked .ensures)
+    ∙ idle-within (x .t) (x .s) (c .before .before .before .if1 .left) (sym (c .before .before .none-waits .ensures) ∙ c .before .if2 .taken)
 
 take-one-requires : tie.Need-take-one-requires
 take-one-requires c κs =
@@ -40,15 +42,18 @@ take-one-requires c κs =
 ticked-requires-2 : tie.Need-ticked-requires-2
 ticked-requires-2 c κs =
     let x = c .before .before .before .before .before .before .before .args in
-    let e = ap (λ (r : State). r .slot) (c .take-one .ensures) ∙ ap (λ (r : State). r .slot) (c .before .before .choose .ensures .1) ∙ choice-same (λ (r : State). r .slot) (λ r j p o. refl) 4 (x .t) (x .s) 0 in
+    let e = ap (λ (r : State). r .slot) (c .take-one .ensures) ∙ ap (λ (r : State). r .slot) (c .before .before .choose .ensures .1)
+    ∙ choice-same (λ (r : State). r .slot) (λ r j p o. refl) 4 (x .t) (x .s) 0 in
     (omega arith, sound-of (x .t) (x .s) (c .before .before .before .before .before .before .before .pre) .delay)
 
 returns-3 : tie.Need-returns-3
 returns-3 c =
     let x = c .before .before .before .before .before .before .before .before .args in
-    ap₂ (λ (a : ℕ) (r : State). outcome (served a) r) (c .before .before .before .choose .ensures .0)
-    (c .ticked2 .ensures ∙ ap (tick (x .t)) (c .before .take-one .ensures ∙ ap₂ takeOne (c .before .before .before .choose .ensures .1) (c .before .before .before .choose .ensures .0)))
-    ∙ serves-within (c .before .before .before .before .before .before .before .before .args .t) (c .before .before .before .before .before .before .before .before .args .s) (c .before .before .before .before .before .before .if1 .left) (sym (c .before .before .before .before .before .none-waits .ensures) ∙ c .before .before .before .before .if2 .left)
+    let q = c .before .before .before .choose .ensures in
+    ap₂ (λ (a : ℕ) (r : State). outcome (served a) r) (q .0)
+    (c .ticked2 .ensures ∙ ap (tick (x .t)) (c .before .take-one .ensures ∙ ap₂ takeOne (q .1) (q .0)))
+    ∙ serves-within (x .t) (x .s) (c .before .before .before .before .before .before .if1 .left)
+    (sym (c .before .before .before .before .before .none-waits .ensures) ∙ c .before .before .before .before .if2 .left)
 
 pub slot-within-spec : {M : Type 1} → statement M
 slot-within-spec =
