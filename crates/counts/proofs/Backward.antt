@@ -41,26 +41,26 @@ with j p q c = choice (c .served) (set (c .last) j p) (set (c .allowance) j q)
 abbrev pub takenOn : ℕ → Turn → Choice → Choice
 takenOn j x c = with j (x .port) (x .allowance - 1) c
 
-unfoldable pub backOn : ℕ → (n w u v : List ℕ) → ℕ → (l o : List ℕ) → Choice
-backOn zero n w u v j l o = choice 255 l o
-backOn (suc m) n w u v j l o =
+unfoldable pub backOn : ℕ → (w u v : List ℕ) → ℕ → (l o : List ℕ) → Choice
+backOn zero w u v j l o = choice 255 l o
+backOn (suc m) w u v j l o =
     pick (ltb 14 j) (choice 255 l o)
-    (takenOn j (turnAt n w u v l o j)
-    (belowOn (λ k. backOn m n w u v k l o) (carriedAt w j (turnAt n w u v l o j .port)) l o))
+    (takenOn j (turnAt w u v l o j)
+    (belowOn (λ k. backOn m w u v k l o) (carriedAt w j (turnAt w u v l o j .port)) l o))
 
-module _ (n w u v : List ℕ) where
+module _ (w u v : List ℕ) where
   pub back-step : (m j : ℕ) (l o : List ℕ) → 0 < m → j < 15
-      → takenOn j (turnAt n w u v l o j)
-      (belowOn (λ k. backOn (m - 1) n w u v k l o) (carriedAt w j (turnAt n w u v l o j .port)) l o) ≡ backOn m n w u v j l o
+      → takenOn j (turnAt w u v l o j)
+      (belowOn (λ k. backOn (m - 1) w u v k l o) (carriedAt w j (turnAt w u v l o j .port)) l o) ≡ backOn m w u v j l o
   unfolding backOn
   back-step zero j l o d h = absurd (omega arith)
   back-step (suc m) j l o d h =
-      let x = turnAt n w u v l o j in
+      let x = turnAt w u v l o j in
       let e : suc m - 1 ≡ m = omega arith in
-      ap (λ (i : ℕ). takenOn j x (belowOn (λ k. backOn i n w u v k l o) (carriedAt w j (x .port)) l o)) e
+      ap (λ (i : ℕ). takenOn j x (belowOn (λ k. backOn i w u v k l o) (carriedAt w j (x .port)) l o)) e
       ∙ sym (passed _ _ _ (le-ltb 14 j (omega arith)))
 
-module _ (t : Tree) (S : Sound t) (n w u v : List ℕ) (W : TableOf t w) where
+module _ (t : Tree) (S : Sound t) (w u v : List ℕ) (W : TableOf t w) where
   -- a port leads to an interconnect of a greater number
   record Deeper (j x : ℕ) : Type 0 where
     more : j < x - interconnects
@@ -106,33 +106,33 @@ module _ (t : Tree) (S : Sound t) (n w u v : List ℕ) (W : TableOf t w) where
 
   -- what is stored at an interconnect of a smaller number is left
   shift : (m k j p q : ℕ) (l o : List ℕ) → k < t .ints → j < k
-      → backOn m n w u v k (set l j p) (set o j q) ≡ with j p q (backOn m n w u v k l o)
+      → backOn m w u v k (set l j p) (set o j q) ≡ with j p q (backOn m w u v k l o)
   unfolding backOn
   shift zero k j p q l o h d = refl
   shift (suc m) k j p q l o h d =
       let z : k ≡ j → ⊥ = λ e. omega arith in
-      let x = turnAt n w u v l o k in
+      let x = turnAt w u v l o k in
       let past = le-ltb 14 k (omega (arith, S .most-ints)) in
-      let same : turnAt n w u v (set l j p) (set o j q) k ≡ x =
-      ap₂ (turnOn n u k (min 255 (getD (granularities w) k 0)) (getD v k 0)) (getD-set-other l j k p 0 z) (getD-set-other o j k q 0 z) in
+      let same : turnAt w u v (set l j p) (set o j q) k ≡ x =
+      ap₂ (turnOn u k (min 255 (getD (granularities w) k 0)) (getD v k 0)) (getD-set-other l j k p 0 z) (getD-set-other o j k q 0 z) in
       passed _ _ _ past
-      ∙ ap (λ (i : Turn). takenOn k i (belowOn (λ i. backOn m n w u v i (set l j p) (set o j q)) (carriedAt w k (i .port)) (set l j p) (set o j q))) same
+      ∙ ap (λ (i : Turn). takenOn k i (belowOn (λ i. backOn m w u v i (set l j p) (set o j q)) (carriedAt w k (i .port)) (set l j p) (set o j q))) same
       ∙ ap (takenOn k x)
-      (below-with (λ i. backOn m n w u v i (set l j p) (set o j q)) (λ i. backOn m n w u v i l o) k (x .port) j p q l o h
+      (below-with (λ i. backOn m w u v i (set l j p) (set o j q)) (λ i. backOn m w u v i l o) k (x .port) j p q l o h
       (λ i hi ki. shift m i j p q l o hi (omega arith)))
       ∙ with-twice k j (x .port) (x .allowance - 1) p q
-      (belowOn (λ i. backOn m n w u v i l o) (carriedAt w k (x .port)) l o) (λ e. omega arith)
+      (belowOn (λ i. backOn m w u v i l o) (carriedAt w k (x .port)) l o) (λ e. omega arith)
       ∙ sym (ap (with j p q) (passed _ _ _ past))
 
-  pub same-back : (m j : ℕ) (l o : List ℕ) → j < t .ints → chooseOn m n w u v j l o ≡ backOn m n w u v j l o
+  pub same-back : (m j : ℕ) (l o : List ℕ) → j < t .ints → chooseOn m w u v j l o ≡ backOn m w u v j l o
   unfolding chooseOn backOn
   same-back zero j l o h = refl
   same-back (suc m) j l o h =
-      let x = turnAt n w u v l o j in
+      let x = turnAt w u v l o j in
       let past = le-ltb 14 j (omega (arith, S .most-ints)) in
       let p = x .port in
       let q = x .allowance - 1 in
       passed _ _ _ past
-      ∙ below-with (λ i. chooseOn m n w u v i (set l j p) (set o j q)) (λ i. backOn m n w u v i l o) j p j p q l o h
+      ∙ below-with (λ i. chooseOn m w u v i (set l j p) (set o j q)) (λ i. backOn m w u v i l o) j p j p q l o h
       (λ i hi ji. same-back m i (set l j p) (set o j q) hi ∙ shift m i j p q l o hi ji)
       ∙ sym (passed _ _ _ past)

@@ -11,9 +11,9 @@ use lib.Seq.{getD-set-same, getD-set-other}
 use Rattle.folds.specs.Fold.{pick}
 use Rattle.model.specs.Tree.{Crossing}
 use Rattle.rules.proofs.Beneath.{On, here, there, no-crossing}
-use Rattle.turns.proofs.Steps.{index-set, index-last}
 use Rattle.counts.specs.Table.{portNumber}
 use Rattle.counts.specs.Counts.{withPort, withoutPort, raised, opened, lower, lowered, closed}
+use Rattle.counts.proofs.Steps.{number-interconnect, number-port}
 
 -- the port numbers of the crossings of a list
 abbrev pub numbers : List Crossing → List ℕ
@@ -95,7 +95,7 @@ unfolding opened changed
 opened-changed [] P v = refl
 opened-changed (k ∷ l) P v =
     let b = P _ _ (here refl refl) in
-    ap₂ (λ i q. opened (numbers l) (set v i (withPort (getD v i 0) q))) (index-set _ _ b) (index-last _ _ b)
+    ap₂ (λ i q. opened (numbers l) (set v i (withPort (getD v i 0) q))) (number-interconnect _ _ b) (number-port _ _ b)
     ∙ opened-changed l (λ j p o. P j p (there o)) _
 
 -- each count is read before it is lowered
@@ -109,7 +109,7 @@ closed-changed n (k ∷ l) P A c v h =
     let b = P _ _ (here refl refl) in
     let rest : ℕ → ℕ → ℕ → List ℕ =
     λ x i q. closed (numbers l) (lower m c) (set v i (shuts (λ _ _. x) i q (getD v i 0))) in
-    ap₂ (rest (getD c m 0)) (index-set _ _ b) (index-last _ _ b)
+    ap₂ (rest (getD c m 0)) (number-interconnect _ _ b) (number-port _ _ b)
     ∙ ap (λ x. rest x (k .interconnect) (k .port)) (h _ _ (here refl refl))
     ∙ closed-changed n l (λ j p o. P j p (there o)) (A .1) _ _
     (λ j p o. getD-set-other c m (portNumber j p) _ 0 (A .0 j p o) ∙ h j p (there o))

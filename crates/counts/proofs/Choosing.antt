@@ -22,27 +22,26 @@ use Rattle.rules.specs.Rules.{keeps}
 use Rattle.rules.proofs.Sound.{Sound, Kept, sound-of, kept-of}
 use Rattle.rules.proofs.Beneath.{at-port, child-level, settled}
 use Rattle.turns.specs.declared.Turn.{Turn}
-use Rattle.turns.specs.Turns.{NextPorts, liveSet, nextPort, goesOn, turnPort, turnAllowance, reached, who, turned, after}
-use Rattle.turns.proofs.Next.{bits-bound}
+use Rattle.turns.specs.Turns.{liveSet, nextPort, goesOn, turnPort, turnAllowance, reached, who, turned, after}
 use Rattle.turns.proofs.Descent as Descent
 use Rattle.turns.proofs.Steps.{who-step, after-step}
 use Rattle.counts.specs.Table.{interconnects, empty, carriedNumber, granularities}
 use Rattle.counts.specs.Counts.{lasts, allowances, lives}
-use Rattle.counts.specs.Choice.{countAt, carriedAt, turnOn, turnAt, Choice, choice, lastWith, allowanceWith, belowOn, onwardOn, chooseOn}
+use Rattle.counts.specs.Choice.{countAt, carriedAt, portOn, turnOn, turnAt, Choice, choice, lastWith, allowanceWith, belowOn, onwardOn, chooseOn}
 use Rattle.counts.proofs.Steps.{turn-last, turn-allowance, turn-lives}
 use Rattle.counts.proofs.Table.{TableOf}
 use Rattle.counts.proofs.Counted.{Counted}
 use Rattle.counts.proofs.Backward.{below-own, below-none, below-int, takenOn, backOn, back-step, same-back}
 
 -- the turn by the granularity g and the array r of last ports, allowances and live ports
-abbrev turnRead : (n u r : List ℕ) (j g : ℕ) → Turn
-turnRead n u r j g = turnOn n u j g (getD r (30 + j) 0) (getD r j 0) (getD r (15 + j) 0)
+abbrev turnRead : (u r : List ℕ) (j g : ℕ) → Turn
+turnRead u r j g = turnOn u j g (getD r (30 + j) 0) (getD r j 0) (getD r (15 + j) 0)
 
-turn-parts : (n w u r : List ℕ) (j g : ℕ) → j < 15 → g ≡ min 255 (getD w (120 + j) 0)
-    → turnRead n u r j g ≡ turnAt n w u (lives r) (lasts r) (allowances r) j
-turn-parts n w u r j g h e =
-    ap₂ (λ (i v : ℕ). turnOn n u j i v (getD r j 0) (getD r (15 + j) 0)) (e ∙ ap (min 255) (sym (getD-drop 120 w j 0))) (sym (getD-drop 30 r j 0))
-    ∙ ap₂ (λ (l o : ℕ). turnOn n u j (min 255 (getD (granularities w) j 0)) (getD (lives r) j 0) l o)
+turn-parts : (w u r : List ℕ) (j g : ℕ) → j < 15 → g ≡ min 255 (getD w (120 + j) 0)
+    → turnRead u r j g ≡ turnAt w u (lives r) (lasts r) (allowances r) j
+turn-parts w u r j g h e =
+    ap₂ (λ (i v : ℕ). turnOn u j i v (getD r j 0) (getD r (15 + j) 0)) (e ∙ ap (min 255) (sym (getD-drop 120 w j 0))) (sym (getD-drop 30 r j 0))
+    ∙ ap₂ (λ (l o : ℕ). turnOn u j (min 255 (getD (granularities w) j 0)) (getD (lives r) j 0) l o)
     (sym (getD-take 15 r j 0 h)) (sym (getD-take 15 (drop 15 r) j 0 h ∙ getD-drop 15 r j 0))
 
 neither : (a b : Bool) → (a || b) ≡ false → (a ≡ false) × (b ≡ false)
@@ -57,34 +56,34 @@ within m j e =
     (omega arith, omega (arith, ltb-false 14 j (h .1)))
 
 -- the steps of the choice on any arrays
-module _ (n w u v l o : List ℕ) where
+module _ (w u v l o : List ℕ) where
   -- the choice over one level less, on the arrays as they are then
   abbrev pub lowerChoice : ℕ → ℕ → (l o : List ℕ) → Choice
-  lowerChoice m k l₁ o₁ = chooseOn (m - 1) n w u v k l₁ o₁
+  lowerChoice m k l₁ o₁ = chooseOn (m - 1) w u v k l₁ o₁
 
-  pub on-none : (m j : ℕ) → (eqb m 0 || ltb 14 j) ≡ true → choice 255 l o ≡ chooseOn m n w u v j l o
+  pub on-none : (m j : ℕ) → (eqb m 0 || ltb 14 j) ≡ true → choice 255 l o ≡ chooseOn m w u v j l o
   unfolding chooseOn
   on-none zero j e = refl
   on-none (suc m) j e = sym (picked _ _ _ (sym (ap (λ (b : Bool). b || ltb 14 j) (ne-eqb (suc m) 0 (λ i. omega arith))) ∙ e))
 
   on-step : (m j : ℕ) → 0 < m → j < 15
-      → onwardOn (lowerChoice m) j (turnAt n w u v l o j) (carriedAt w j (turnAt n w u v l o j .port)) l o ≡ chooseOn m n w u v j l o
+      → onwardOn (lowerChoice m) j (turnAt w u v l o j) (carriedAt w j (turnAt w u v l o j .port)) l o ≡ chooseOn m w u v j l o
   unfolding chooseOn
   on-step zero j d h = absurd (omega arith)
   on-step (suc m) j d h =
-      let x = turnAt n w u v l o j in
+      let x = turnAt w u v l o j in
       let e : suc m - 1 ≡ m = omega arith in
-      ap (λ (i : ℕ). onwardOn (chooseOn i n w u v) j x (carriedAt w j (x .port)) l o) e ∙ sym (passed _ _ _ (le-ltb 14 j (omega arith)))
+      ap (λ (i : ℕ). onwardOn (chooseOn i w u v) j x (carriedAt w j (x .port)) l o) e ∙ sym (passed _ _ _ (le-ltb 14 j (omega arith)))
 
-  on-turn : (m j : ℕ) → 0 < m → j < 15 → (x : Turn) (y : ℕ) → x ≡ turnAt n w u v l o j → y ≡ carriedAt w j (x .port)
-      → onwardOn (lowerChoice m) j x y l o ≡ chooseOn m n w u v j l o
+  on-turn : (m j : ℕ) → 0 < m → j < 15 → (x : Turn) (y : ℕ) → x ≡ turnAt w u v l o j → y ≡ carriedAt w j (x .port)
+      → onwardOn (lowerChoice m) j x y l o ≡ chooseOn m w u v j l o
   on-turn m j d h x y e f =
       ap (λ (i : ℕ). onwardOn (lowerChoice m) j x i l o) f
       ∙ ap (λ (z : Turn). onwardOn (lowerChoice m) j z (carriedAt w j (z .port)) l o) e ∙ on-step m j d h
 
 -- the turn x of interconnect j is read from the array r and stored in r₁; the choice goes on there by what its port carries, y
-module _ (n w u r : List ℕ) (m j g : ℕ) (h : (0 < m) × (j < 15)) (i : g ≡ min 255 (getD w (120 + j) 0)) (x : Turn) (y : ℕ)
-    (e : x ≡ turnRead n u r j g) (f : y ≡ carriedAt w j (x .port)) (r₁ : List ℕ)
+module _ (w u r : List ℕ) (m j g : ℕ) (h : (0 < m) × (j < 15)) (i : g ≡ min 255 (getD w (120 + j) 0)) (x : Turn) (y : ℕ)
+    (e : x ≡ turnRead u r j g) (f : y ≡ carriedAt w j (x .port)) (r₁ : List ℕ)
     (s : r₁ ≡ set (set r j (x .port)) (15 + j) (x .allowance - 1)) where
   pub stored-lives : lives r₁ ≡ lives r
   stored-lives = ap lives s ∙ turn-lives r j _ _ (h .1)
@@ -93,30 +92,29 @@ module _ (n w u r : List ℕ) (m j g : ℕ) (h : (0 < m) × (j < 15)) (i : g ≡
   stored-as = ap₂ (choice 0) (ap lasts s ∙ turn-last r _ _ _ (h .1)) (ap allowances s ∙ turn-allowance r _ _ _ (h .1))
 
   goes : (c : Choice)
-      → c ≡ belowOn (λ k. chooseOn (m - 1) n w u (lives r) k (lasts r₁) (allowances r₁)) y (lasts r₁) (allowances r₁)
-      → c ≡ chooseOn m n w u (lives r) j (lasts r) (allowances r)
+      → c ≡ belowOn (λ k. chooseOn (m - 1) w u (lives r) k (lasts r₁) (allowances r₁)) y (lasts r₁) (allowances r₁)
+      → c ≡ chooseOn m w u (lives r) j (lasts r) (allowances r)
   goes c q =
-      q ∙ ap (λ (d : Choice). belowOn (λ k. chooseOn (m - 1) n w u (lives r) k (d .last) (d .allowance)) y (d .last) (d .allowance)) stored-as
-      ∙ on-turn n w u (lives r) (lasts r) (allowances r) m j (h .0) (h .1) x y (e ∙ turn-parts n w u r j g (h .1) i) f
+      q ∙ ap (λ (d : Choice). belowOn (λ k. chooseOn (m - 1) w u (lives r) k (d .last) (d .allowance)) y (d .last) (d .allowance)) stored-as
+      ∙ on-turn w u (lives r) (lasts r) (allowances r) m j (h .0) (h .1) x y (e ∙ turn-parts w u r j g (h .1) i) f
 
-  pub stored-own : y < interconnects → choice y (lasts r₁) (allowances r₁) ≡ chooseOn m n w u (lives r) j (lasts r) (allowances r)
-  stored-own b = goes _ (below-own (λ k. chooseOn (m - 1) n w u (lives r) k (lasts r₁) (allowances r₁)) _ _ _ b)
+  pub stored-own : y < interconnects → choice y (lasts r₁) (allowances r₁) ≡ chooseOn m w u (lives r) j (lasts r) (allowances r)
+  stored-own b = goes _ (below-own (λ k. chooseOn (m - 1) w u (lives r) k (lasts r₁) (allowances r₁)) _ _ _ b)
 
-  pub stored-none : empty ≤ y → choice 255 (lasts r₁) (allowances r₁) ≡ chooseOn m n w u (lives r) j (lasts r) (allowances r)
-  stored-none b = goes _ (below-none (λ k. chooseOn (m - 1) n w u (lives r) k (lasts r₁) (allowances r₁)) _ _ _ b)
+  pub stored-none : empty ≤ y → choice 255 (lasts r₁) (allowances r₁) ≡ chooseOn m w u (lives r) j (lasts r) (allowances r)
+  stored-none b = goes _ (below-none (λ k. chooseOn (m - 1) w u (lives r) k (lasts r₁) (allowances r₁)) _ _ _ b)
 
   pub stored-int : interconnects ≤ y → y < empty → (c : Choice)
-      → c ≡ chooseOn (m - 1) n w u (lives r₁) (y - interconnects) (lasts r₁) (allowances r₁)
-      → c ≡ chooseOn m n w u (lives r) j (lasts r) (allowances r)
+      → c ≡ chooseOn (m - 1) w u (lives r₁) (y - interconnects) (lasts r₁) (allowances r₁)
+      → c ≡ chooseOn m w u (lives r) j (lasts r) (allowances r)
   stored-int a b c q =
-      goes c (q ∙ ap (λ (v : List ℕ). chooseOn (m - 1) n w u v (y - interconnects) (lasts r₁) (allowances r₁)) stored-lives
-      ∙ below-int (λ k. chooseOn (m - 1) n w u (lives r) k (lasts r₁) (allowances r₁)) y (lasts r₁) (allowances r₁) a b)
+      goes c (q ∙ ap (λ (v : List ℕ). chooseOn (m - 1) w u v (y - interconnects) (lasts r₁) (allowances r₁)) stored-lives
+      ∙ below-int (λ k. chooseOn (m - 1) w u (lives r) k (lasts r₁) (allowances r₁)) y (lasts r₁) (allowances r₁) a b)
 
--- the arrays of a run at state s of configuration t, which keep their rules: the table n of next ports, the configuration's
--- table w, what waits under each port u, the live ports v, the last ports l and the allowances o
-pub record Matches (t : Tree) (s : State) (n w u v l o : List ℕ) : Type 0 where
+-- the arrays of a run at state s of configuration t, which keep their rules: the configuration's table w, what waits under
+-- each port u, the live ports v, the last ports l and the allowances o
+pub record Matches (t : Tree) (s : State) (w u v l o : List ℕ) : Type 0 where
   pub rules : keeps t s ≡ true
-  pub next : NextPorts n
   pub table : TableOf t w
   pub counts : Counted t (waitingOf s) u v
   pub last : l ≡ s .last
@@ -163,7 +161,7 @@ taken t s m j z x c b R q e f =
       allowance = ap₂ (λ (k : List ℕ) (i : ℕ). set k j (i - 1)) f (R .allowance) ∙ ap (λ (k : State). k .allowance) (after-step m t s j d);
     }
 
-module _ (t : Tree) (s : State) (n w u v l o : List ℕ) (M : Matches t s n w u v l o) where
+module _ (t : Tree) (s : State) (w u v l o : List ℕ) (M : Matches t s w u v l o) where
   S : Sound t
   S = sound-of t s (M .rules)
 
@@ -183,18 +181,13 @@ module _ (t : Tree) (s : State) (n w u v l o : List ℕ) (M : Matches t s n w u 
     allowance-same : getD o j 0 ≡ allowanceOf s j
     allowance-same = ap (λ (x : List ℕ). getD x j 0) (M .allowance)
 
-    -- the entry in the table of next ports is the next port
-    next-same : getD n (getD v j 0 * 8 + getD l j 0 % 8) 0 ≡ nextPort (liveSet t s j) (lastOf s j)
-    next-same =
-        let e : getD v j 0 ≡ liveSet t s j = M .counts .live j h in
-        let b = K .last j h in
-        ap (λ (k : ℕ). getD n k 0) {y = liveSet t s j * 8 + lastOf s j} (omega (arith, last-same, e))
-        ∙ M .next .entry (liveSet t s j) (lastOf s j) (bits-bound 8 _) b
+    next-same : nextPort (getD v j 0) (getD l j 0) ≡ nextPort (liveSet t s j) (lastOf s j)
+    next-same = ap₂ nextPort (M .counts .live j h) last-same
 
-    port-from : turnAt n w u v l o j .port ≡ turnPort t s j
+    port-from : turnAt w u v l o j .port ≡ turnPort t s j
     unfolding turnPort
     port-from =
-        ap (λ (a : ℕ). pick (ltb 0 a) (getD l j 0) (getD n (getD v j 0 * 8 + getD l j 0 % 8) 0)) allowance-same
+        ap (portOn (getD v j 0) (getD l j 0)) allowance-same
         ∙ ap₂ (λ (x y : ℕ). pick (goesOn s j) x y) last-same next-same
 
     granularity-same : min 255 (getD (granularities w) j 0) ≡ granularityOf t j
@@ -211,7 +204,7 @@ module _ (t : Tree) (s : State) (n w u v l o : List ℕ) (M : Matches t s n w u 
         ∙ ap₂ (λ (x y : ℕ). pick (goesOn s j) (allowanceOf s j) (min x y)) granularity-same
         (passed _ _ _ (le-ltb 7 (turnPort t s j) (omega (arith, T .port))) ∙ M .counts .count j (turnPort t s j) h (T .port))
 
-    read : Read t s j (turnAt n w u v l o j) (carriedAt w j (turnAt n w u v l o j .port))
+    read : Read t s j (turnAt w u v l o j) (carriedAt w j (turnAt w u v l o j .port))
     read = record {
       port = port-from;
       allowance = ap allowanceBy port-from ∙ allowance-from;
@@ -238,16 +231,16 @@ module _ (t : Tree) (s : State) (n w u v l o : List ℕ) (M : Matches t s n w u 
 
   -- the choice on a run's arrays is the choice of the definition, from any interconnect with something waiting inside
   abbrev ChosenFrom : ℕ → ℕ → Type 0
-  ChosenFrom m j = j < t .ints → 0 < inside 4 t (waitingOf s) j → Chosen t s m j (backOn m n w u v j l o)
+  ChosenFrom m j = j < t .ints → 0 < inside 4 t (waitingOf s) j → Chosen t s m j (backOn m w u v j l o)
 
   step : (m j : ℕ) → 0 < m → ((k : ℕ) → ChosenFrom (m - 1) k) → ChosenFrom m j
   step m j d F h k =
       let R = read j h k in
-      let turn = turnAt n w u v l o j in
+      let turn = turnAt w u v l o j in
       let x = carriedAt w j (turn .port) in
-      let f : ℕ → Choice = λ i. backOn (m - 1) n w u v i l o in
-      let by : (c : Choice) → c ≡ belowOn f x l o → takenOn j turn c ≡ backOn m n w u v j l o =
-      λ c q. ap (takenOn j turn) q ∙ back-step n w u v m j l o d (lj j h k) in
+      let f : ℕ → Choice = λ i. backOn (m - 1) w u v i l o in
+      let by : (c : Choice) → c ≡ belowOn f x l o → takenOn j turn c ≡ backOn m w u v j l o =
+      λ c q. ap (takenOn j turn) q ∙ back-step w u v m j l o d (lj j h k) in
       elim (decLt x interconnects) [
         | yes b ↦
             let r = own (m - 1) t s (portOf t j (turnPort t s j)) (omega (arith, R .carried)) in
@@ -273,5 +266,5 @@ module _ (t : Tree) (s : State) (n w u v l o : List ℕ) (M : Matches t s n w u 
       let e : suc m - 1 ≡ m = omega arith in
       step (suc m) j (omega arith) (subst (λ (i : ℕ). (k : ℕ) → ChosenFrom i k) (sym e) (comes-back m)) h k
 
-  pub chooses : (m j : ℕ) → j < t .ints → 0 < inside 4 t (waitingOf s) j → Chosen t s m j (chooseOn m n w u v j l o)
-  chooses m j h k = subst (Chosen t s m j) (sym (same-back t S n w u v (M .table) m j l o h)) (comes-back m j h k)
+  pub chooses : (m j : ℕ) → j < t .ints → 0 < inside 4 t (waitingOf s) j → Chosen t s m j (chooseOn m w u v j l o)
+  chooses m j h k = subst (Chosen t s m j) (sym (same-back t S w u v (M .table) m j l o h)) (comes-back m j h k)

@@ -20,11 +20,10 @@ use Rattle.rules.proofs.Sound.{Sound, above-root, above-step, level-step}
 use Rattle.rules.proofs.Beneath.{only, On, there, lane, at-port, port-le, inside-zero, rising, lane-bounds, falls, path-bounds, path-unique, path-root, path-holds, weight-on, weight-off}
 use Rattle.turns.specs.Turns.{bitsBelow, hasPort}
 use Rattle.turns.proofs.Next.{bit-of}
-use Rattle.turns.proofs.Steps.{index-set}
 use Rattle.counts.specs.Table.{portNumber, parentPorts}
 use Rattle.counts.specs.Counts.{up, pathPorts, withPort, raised, opened, lowered, closed}
 use Rattle.counts.proofs.Table.{TableOf}
-use Rattle.counts.proofs.Steps.{up-root, up-next}
+use Rattle.counts.proofs.Steps.{number-interconnect, up-root, up-next}
 use Rattle.counts.proofs.Changed.{numbers, changed, changed-size, Apart, changed-at, own, shuts, raised-changed, lowered-changed, Ported, opened-changed, closed-changed}
 
 -- u has the sum of the weight w beneath each port of t, and v the set of the ports of each interconnect beneath which it is
@@ -82,7 +81,7 @@ module _ (t : Tree) (S : Sound t) where
   up-lane g T = rising t S _ (λ k q l ih n b v. let m = S .most-ints in elim (decLt 0 k) [
     | yes z ↦
         up-next n (parentPorts g) (portNumber k q) _ (omega arith) (omega arith) (omega arith)
-        (sym (ap (λ i. getD (parentPorts g) i 0) (index-set k q b) ∙ T .parent k (omega arith)))
+        (sym (ap (λ i. getD (parentPorts g) i 0) (number-interconnect k q b) ∙ T .parent k (omega arith)))
         ∙ ap (λ r. portNumber k q ∷ r)
         (ih z (n - 1) (S .parent-port k z l) (omega (arith, level-step t S k z l)) ∙ sym (ap numbers (above-step t S k z l)))
     | no f ↦

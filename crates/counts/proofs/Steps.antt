@@ -13,7 +13,15 @@ use lib.Dec.{eqb}
 use borrow.Author.Tests.{eqb-true, eq-eqb, ne-eqb, le-ltb, lt-ltb}
 use Rattle.folds.specs.Fold.{pick, all}
 use Rattle.folds.proofs.Folds.{both, all-at, picked, passed}
+use Rattle.counts.specs.Table.{portNumber}
 use Rattle.counts.specs.Counts.{lasts, allowances, lives, up, withPort, withoutPort, raised, opened, lowered, closed}
+
+-- the number of a port tells its interconnect and the port
+pub number-interconnect : (j p : ℕ) → p < 8 → portNumber j p / 8 ≡ j
+number-interconnect j p h = omega arith
+
+pub number-port : (j p : ℕ) → p < 8 → portNumber j p % 8 ≡ p
+number-port j p h = omega arith
 
 -- the bit of port p put into a set and taken out of it, computed at each of the 256 sets and 8 ports
 abbrev bit : ℕ → ℕ

@@ -13,8 +13,8 @@ use Rattle.folds.specs.Fold.{pick}
 use Rattle.folds.proofs.Folds.{picked, passed}
 use Rattle.model.specs.declared.Tree.{Tree}
 use Rattle.model.specs.Tree.{portOf, granularityOf, parentOf, parentPortOf, homeOf, homePortOf, limitOf, budgetOf}
-use Rattle.turns.proofs.Steps.{index-set, index-last}
 use Rattle.counts.specs.Table.{portNumber, carriedNumber, entryOf, entries, tableOf, granularities, parentPorts, ownPorts, limits, budgets}
+use Rattle.counts.proofs.Steps.{number-interconnect, number-port}
 
 -- entry n of the table, by the part that it lies in
 module _ (t : Tree) (n : ℕ) where
@@ -85,7 +85,7 @@ pub record TableOf (t : Tree) (w : List ℕ) : Type 0 where
 table-parts : (t : Tree) → TableOf t (tableOf t)
 table-parts t = record {
   carried = λ j p h k. entries-at 246 (entryOf t) (portNumber j p) (omega arith) ∙ entry-port t (portNumber j p) (omega arith)
-      ∙ ap₂ (λ (i q : ℕ). carriedNumber (portOf t i q)) (index-set j p k) (index-last j p k);
+      ∙ ap₂ (λ (i q : ℕ). carriedNumber (portOf t i q)) (number-interconnect j p k) (number-port j p k);
   granularity = λ j h. at 120 j (omega arith) ∙ entry-granularity t (120 + j) (omega arith) (omega arith) ∙ ap (granularityOf t) (less 120 j);
   parent = λ j h. at 135 j (omega arith) ∙ entry-parent t (135 + j) (omega arith) (omega arith)
       ∙ ap (λ (i : ℕ). portNumber (parentOf t i) (parentPortOf t i)) (less 135 j);

@@ -7,7 +7,7 @@ use crate::LIVE;
 use rules::less_one;
 use turns::Turn;
 use turns::grant;
-use turns::next_in;
+use turns::next_port;
 ghost use mathlib.Core.Path.{_≡_};
 ghost use Prim.Native.Nat.{_+_, _-_, _<_, min};
 ghost use lib.ListN.{set};
@@ -47,17 +47,9 @@ fn byte_of(granularity: u16) -> u8
 }
 
 // The turn of interconnect j: its last port goes on where its allowance is above 0, else the next live port has it.
-fn turn_of(
-    next: &[u8; 2048],
-    under: &[u16; 120],
-    j: u8,
-    granularity: u8,
-    set: u8,
-    last: u8,
-    allowance: u8,
-) -> Turn
+fn turn_of(under: &[u16; 120], j: u8, granularity: u8, set: u8, last: u8, allowance: u8) -> Turn
     requires { ⌜ j < 15 ⌝ }
-    ensures { λ r. ⌜ r ≡ turnOn (now (next .entry)) (now (under .entry)) j granularity set last allowance ⌝ }
+    ensures { λ r. ⌜ r ≡ turnOn (now (under .entry)) j granularity set last allowance ⌝ }
 {
     if 0 < allowance {
         return Turn {
@@ -65,7 +57,7 @@ fn turn_of(
             allowance: allowance,
         };
     }
-    let port = next_in(next, set, last);
+    let port = next_port(set, last);
     Turn {
         port: port,
         allowance: grant(granularity, count_at(under, j, port) as u32),
@@ -84,15 +76,8 @@ fn take_turn(turns: &mut [u8; 45], j: u8, port: u8, left: u8)
 
 // The choice from interconnect j, over at most `levels` levels: the accelerator served, 255 for none, where an empty port
 // leads. The turn of each interconnect on the way down is taken there.
-pub fn choose(
-    next: &[u8; 2048],
-    table: &[u16; 246],
-    under: &[u16; 120],
-    levels: u8,
-    j: u8,
-    turns: &mut [u8; 45],
-) -> u8
-    ensures chosen { λ r. ⌜ choiceIn r (now (turns .exit)) ≡ chooseIn levels (now (next .entry)) (now (table .entry)) (now (under .entry)) j (now (turns .entry)) ⌝ }
+pub fn choose(table: &[u16; 246], under: &[u16; 120], levels: u8, j: u8, turns: &mut [u8; 45]) -> u8
+    ensures chosen { λ r. ⌜ choiceIn r (now (turns .exit)) ≡ chooseIn levels (now (table .entry)) (now (under .entry)) j (now (turns .entry)) ⌝ }
     ensures sets { λ r. ⌜ lives (now (turns .exit)) ≡ lives (now (turns .entry)) ⌝ }
 {
     let i = j as usize;
@@ -101,7 +86,6 @@ pub fn choose(
     }
     let granularity = byte_of(table[GRANULARITY + i]);
     let turn = turn_of(
-        next,
         under,
         j,
         granularity,
@@ -118,5 +102,5 @@ pub fn choose(
         return 255;
     }
     let below = (carried - INTERCONNECTS) as u8;
-    choose(next, table, under, levels - 1, below, turns)
+    choose(table, under, levels - 1, below, turns)
 }

@@ -17,7 +17,7 @@ use Rattle.rules.specs.Rules.{keeps}
 use Rattle.folds.proofs.Folds.{picked, passed, at-all, all-at, clash}
 use Rattle.rules.proofs.Sound.{Sound, Kept, sound-of, kept-of}
 use Rattle.rules.proofs.Beneath.{root-zero}
-use Rattle.turns.specs.Turns.{NextPorts, who, after}
+use Rattle.turns.specs.Turns.{who, after}
 use Rattle.machine.specs.Machine.{Answer, Outcome, admitted, served, idle, refused, admit, limitsAnswer, onAdmitted, offered, noneWaits, serve}
 use Rattle.machine.proofs.Cases.{zero-all, Offered, refuses, admits, offer-cases}
 use Rattle.machine.proofs.Laws.{offer-keeps, offer-verdict}
@@ -186,24 +186,24 @@ module _ (t : Tree) (s : State) (k : keeps t s ≡ true) (c v : List ℕ) (C : C
       S = sound-of t s k
 
 -- the service on any arrays, by its tests
-module _ (n w : List ℕ) (d : Arrays) where
-  pub serve-none : getD (d .live) 0 0 ≡ 0 → slotOn 255 d ≡ serveOn n w d
+module _ (w : List ℕ) (d : Arrays) where
+  pub serve-none : getD (d .live) 0 0 ≡ 0 → slotOn 255 d ≡ serveOn w d
   unfolding serveOn
   serve-none e = sym (picked _ _ _ (eq-eqb _ _ e))
 
   module _ (e : getD (d .live) 0 0 ≡ 0 → ⊥) where
-    pub serve-unknown : (x : Choice) → x ≡ chosenOn n w d → 31 < x .served → slotOn 255 (turnedOn x d) ≡ serveOn n w d
+    pub serve-unknown : (x : Choice) → x ≡ chosenOn w d → 31 < x .served → slotOn 255 (turnedOn x d) ≡ serveOn w d
     unfolding serveOn
     serve-unknown x f h =
         ap (λ (z : Choice). slotOn 255 (turnedOn z d)) f
         ∙ sym (passed _ _ _ (ne-eqb _ _ e) ∙ picked _ _ _ (lt-ltb _ _ (subst (λ (z : Choice). 31 < z .served) f h)))
 
-    pub serve-known : (x : Choice) → x ≡ chosenOn n w d → x .served < 32 → slotOn (x .served) (takeOn w (x .served) (turnedOn x d)) ≡ serveOn n w d
+    pub serve-known : (x : Choice) → x ≡ chosenOn w d → x .served < 32 → slotOn (x .served) (takeOn w (x .served) (turnedOn x d)) ≡ serveOn w d
     unfolding serveOn
     serve-known x f h =
-        let g : chosenOn n w d .served < 32 = subst (λ (z : Choice). z .served < 32) f h in
+        let g : chosenOn w d .served < 32 = subst (λ (z : Choice). z .served < 32) f h in
         ap (λ (z : Choice). slotOn (z .served) (takeOn w (z .served) (turnedOn z d))) f
-        ∙ sym (passed _ _ _ (ne-eqb _ _ e) ∙ passed _ _ _ (le-ltb 31 (chosenOn n w d .served) (omega arith)))
+        ∙ sym (passed _ _ _ (ne-eqb _ _ e) ∙ passed _ _ _ (le-ltb 31 (chosenOn w d .served) (omega arith)))
 
 -- x is what the slot comes to from state s and its arrays d
 pub record StoredSlot (t : Tree) (s : State) (d : Arrays) (x : Slot) : Type 0 where
@@ -215,7 +215,7 @@ pub record StoredSlot (t : Tree) (s : State) (d : Arrays) (x : Slot) : Type 0 wh
   pub allowance : x .arrays .allowance ≡ servedFrom t s .allowance
   pub counts : Counted t (waitingOf (servedFrom t s)) (x .arrays .under) (x .arrays .live)
 
-module _ (t : Tree) (g n : List ℕ) (W : TableOf t g) (N : NextPorts n) (s : State) (d : Arrays) (R : Stored t s d) where
+module _ (t : Tree) (g : List ℕ) (W : TableOf t g) (s : State) (d : Arrays) (R : Stored t s d) where
   served-none : getD (d .live) 0 0 ≡ 0 → StoredSlot t s d (slotOn 255 d)
   served-none e =
       let z = live-root t s (R .rules) (d .under) (d .live) (R .counts) .0 e in
@@ -237,14 +237,14 @@ module _ (t : Tree) (g n : List ℕ) (W : TableOf t g) (N : NextPorts n) (s : St
     turn : Choice-of t s (who 4 t s 0) (after 4 t s 0)
     turn = choice t (sound-of t s (R .rules)) s (kept-of t s (R .rules)) inner
 
-    chosen : Chosen t s 4 0 (chosenOn n g d)
-    chosen = chooses t s n g (d .under) (d .live) (d .last) (d .allowance)
-        (record { rules = R .rules; next = N; table = W; counts = R .counts; last = R .last; allowance = R .allowance }) 4 0 (sound-of t s (R .rules) .some-ints) inner
+    chosen : Chosen t s 4 0 (chosenOn g d)
+    chosen = chooses t s g (d .under) (d .live) (d .last) (d .allowance)
+        (record { rules = R .rules; table = W; counts = R .counts; last = R .last; allowance = R .allowance }) 4 0 (sound-of t s (R .rules) .some-ints) inner
 
-    chosen-known : chosenOn n g d .served < 32
+    chosen-known : chosenOn g d .served < 32
     chosen-known = omega (arith, chosen .served, turn .acc, sound-of t s (R .rules) .most-accs)
 
-    served-one : StoredSlot t s d (slotOn (chosenOn n g d .served) (takeOn g (chosenOn n g d .served) (turnedOn (chosenOn n g d) d)))
+    served-one : StoredSlot t s d (slotOn (chosenOn g d .served) (takeOn g (chosenOn g d .served) (turnedOn (chosenOn g d) d)))
     served-one =
         let z = some-live t s (R .rules) (d .under) (d .live) (R .counts) e in
         let same : servedFrom t s ≡ serve t s = passed _ _ _ z in
@@ -261,8 +261,8 @@ module _ (t : Tree) (g n : List ℕ) (W : TableOf t g) (N : NextPorts n) (s : St
         }
 
   -- the service on the arrays of a state is that of the definition
-  pub serves : StoredSlot t s d (serveOn n g d)
+  pub serves : StoredSlot t s d (serveOn g d)
   serves = elim (ℕ-discrete (getD (d .live) 0 0) 0) [
-    | yes e ↦ subst (StoredSlot t s d) (serve-none n g d e) (served-none e)
-    | no e ↦ subst (StoredSlot t s d) (serve-known n g d e (chosenOn n g d) refl (chosen-known e)) (served-one e)
+    | yes e ↦ subst (StoredSlot t s d) (serve-none g d e) (served-none e)
+    | no e ↦ subst (StoredSlot t s d) (serve-known g d e (chosenOn g d) refl (chosen-known e)) (served-one e)
   ]

@@ -20,7 +20,6 @@ use Rattle.folds.proofs.Folds.{passed, clash}
 use Rattle.rules.proofs.Sound.{sound, sound-of}
 use Rattle.rules.proofs.Beneath.{only, only-same, only-other}
 use Rattle.model.specs.Beneath.{under, inside}
-use Rattle.turns.specs.Turns.{NextPorts}
 use Rattle.machine.specs.Machine.{Outcome, outcome, freshState, opens, tick, lastSlot, slotted}
 use Rattle.machine.proofs.Keeps.{zeros}
 use Rattle.machine.proofs.Returns.{no-ones}
@@ -89,11 +88,10 @@ pub record Shows (t : Tree) (s : List ℕ) (z : State) (bs : List ℕ) (d : Arra
   pub past : Past t z bs
   pub settled : e .opened ≡ false → Settled t z (d .held) (homeIn (delayOf t) bs)
 
--- what a run does not change: w is the table of t, and k that of next ports
-pub record Fixed (t : Tree) (w k : List ℕ) : Type 0 where
+-- what a run does not change: w is the table of t
+pub record Fixed (t : Tree) (w : List ℕ) : Type 0 where
   pub rules : treeKeeps t ≡ true
   pub table : TableOf t w
-  pub next : NextPorts k
 
 -- after n slots, whose bytes are bs, the arrays d, the next line x and the end e of the slot before are those of a run of which Q holds
 pub record Walk (t : Tree) (s : List ℕ) (Q : Run → Type 0) (bs : List ℕ) (d : Arrays) (x : NextLine) (e : SlotEnd) (n : ℕ) : Type 0 where
@@ -145,7 +143,7 @@ module _ (t : Tree) (s : List ℕ) (z : State) (bs : List ℕ) (d : Arrays) (x :
       q ∙ ap₂ (λ (y z : Bool). y && noneHeld (d .held) && z) (left-ends s (x .at) (H .line .accepts))
       (live-none t z (H .stored .rules) (d .under) (d .live) (H .stored .counts))
 
-  module _ (w k : List ℕ) (F : Fixed t w k) (n : ℕ) (N : z .slot ≡ n) where
+  module _ (w : List ℕ) (F : Fixed t w) (n : ℕ) (N : z .slot ≡ n) where
     abbrev due : List ℕ
     due = dueOn n s x (d .held) .held
 
@@ -211,13 +209,13 @@ module _ (t : Tree) (s : List ℕ) (z : State) (bs : List ℕ) (d : Arrays) (x :
       left = leftOn (t .bus .window) (e .left)
 
       abbrev after : Arrays
-      after = afterOn k w (e .left) before
+      after = afterOn w (e .left) before
 
       abbrev byte : ℕ
-      byte = serveOn k w before .byte
+      byte = serveOn w before .byte
 
-      Y : StoredSlot t mid before (serveOn k w before)
-      Y = serves t w k (F .table) (F .next) mid before (before-shown .stored)
+      Y : StoredSlot t mid before (serveOn w before)
+      Y = serves t w (F .table) mid before (before-shown .stored)
 
       abbrev service : State
       service = servedFrom t mid
@@ -358,7 +356,7 @@ module _ (t : Tree) (s : List ℕ) (z : State) (bs : List ℕ) (d : Arrays) (x :
       }
 
 -- the test before each slot, and one slot, for any loop over a run
-module _ (t : Tree) (w k s : List ℕ) (F : Fixed t w k) (Q : Run → Type 0) (bs : List ℕ) (d : Arrays) (x : NextLine) (e : SlotEnd)
+module _ (t : Tree) (w s : List ℕ) (F : Fixed t w) (Q : Run → Type 0) (bs : List ℕ) (d : Arrays) (x : NextLine) (e : SlotEnd)
     (n : ℕ) (G : Walk t s Q bs d x e n) where
   abbrev pub here : Run
   here = runOf s (G .state) d x
@@ -375,19 +373,19 @@ module _ (t : Tree) (w k s : List ℕ) (F : Fixed t w k) (Q : Run → Type 0) (b
     pub before : mid ≡ beforeOn s n x (e .opened) home (t .accs) w d
     pub window : ℕ
     pub window-is : window ≡ t .bus .window
-    pub ends : e₂ ≡ slotEndOn k w window (e .left) mid
-    pub after : d₂ ≡ afterOn k w (e .left) mid
+    pub ends : e₂ ≡ slotEndOn w window (e .left) mid
+    pub after : d₂ ≡ afterOn w (e .left) mid
 
   pub walk-next : (x₁ : NextLine) (e₂ : SlotEnd) (d₂ : Arrays) → Step x₁ e₂ d₂ → n < lastSlot → (bs₂ : List ℕ) → bs₂ ≡ bs ++ e₂ .served ∷ []
       → (P : Run → Type 0) → (e₂ .served ≡ lastByte t here → P (next t here)) → Walk t s P bs₂ d₂ x₁ e₂ (n + 1)
   walk-next x₁ e₂ d₂ S g bs₂ B P f =
       let first = S .before ∙ ap (λ (h : ℕ). beforeOn s n x (e .opened) h (t .accs) w d) (S .home-is) in
-      let end = S .ends ∙ ap₂ (λ (i : ℕ) (y : Arrays). slotEndOn k w i (e .left) y) (S .window-is) first in
+      let end = S .ends ∙ ap₂ (λ (i : ℕ) (y : Arrays). slotEndOn w i (e .left) y) (S .window-is) first in
       let byte = ap (λ (i : SlotEnd). i .served) end in
-      let W = walked t s (G .state) bs d x e (G .shows) w k F n (G .slot) g (G .left) P (λ b. f (byte ∙ b)) in
+      let W = walked t s (G .state) bs d x e (G .shows) w F n (G .slot) g (G .left) P (λ b. f (byte ∙ b)) in
       subst₂ (λ (l : NextLine) (b : List ℕ). Walk t s P b d₂ l e₂ (n + 1)) (sym (S .line)) (sym B)
       (subst₂ (λ (y : Arrays) (i : SlotEnd). Walk t s P (bs ++ i .served ∷ []) y (dueOn n s x (d .held) .line) i (n + 1))
-      (sym (S .after ∙ ap (afterOn k w (e .left)) first)) (sym end) W)
+      (sym (S .after ∙ ap (afterOn w (e .left)) first)) (sym end) W)
 
   -- after it what waits of an accelerator stands under its own port
   pub walk-waiting : (x₁ : NextLine) (e₂ : SlotEnd) (d₂ : Arrays) → Step x₁ e₂ d₂ → n < lastSlot → (a : ℕ) → a < t .accs

@@ -1,17 +1,17 @@
 -- One slot of a run on the arrays that it holds in place of a state: what the inner functions come to on any arrays.
 --
 -- Slot                  a slot's byte and the arrays after it; slotOn b d: these two
--- chosenOn n w d        the choice from the root, by the table n of next ports and the table w of the configuration
+-- chosenOn w d          the choice from the root, by the table w of the configuration
 -- turnedOn x d          the arrays d with the last ports and the allowances of the choice x
 -- takeOn w a d          one transaction of accelerator a is served: it counts no longer under each port from its own up to the root, and
 --                       it is outstanding as before
--- serveOn n w d         the slot serves, or is idle
+-- serveOn w d           the slot serves, or is idle
 -- openOn b d            the arrays d where a window opens if b: the admitted counts return to 0
 -- opensOn m             the next slot begins a window where m slots of this one are left, this slot counted
 -- leftOn p m            how many slots are left then after this slot, in windows of p slots
 -- endOn x b m           how a slot ends: its byte x, whether a window opens then, and the slots m left of the window
--- slotEndOn n w p m d   how a slot ends that is run on d, where m slots are left of a window of p, this slot counted
--- afterOn n w m d       that slot is run: service, and the end of the window
+-- slotEndOn w p m d     how a slot ends that is run on d, where m slots are left of a window of p, this slot counted
+-- afterOn w m d         that slot is run: service, and the end of the window
 -- agoIn d bs            the byte of the slot d slots before the one that comes after the bytes bs; 255 where there is no such slot
 -- homeIn r bs           the accelerator whose transaction stops being outstanding at the start of the slot after the bytes bs, where r is
 --                       the return delay: the one served in the slot r + 1 slots before (document 02, item 2: "A transaction served in
@@ -42,8 +42,8 @@ pub record Slot : Type 0 where
 abbrev pub slotOn : ℕ → Arrays → Slot
 slotOn b d = record { byte = b; arrays = d }
 
-abbrev pub chosenOn : (n w : List ℕ) → Arrays → Choice
-chosenOn n w d = chooseOn 4 n w (d .under) (d .live) 0 (d .last) (d .allowance)
+abbrev pub chosenOn : List ℕ → Arrays → Choice
+chosenOn w d = chooseOn 4 w (d .under) (d .live) 0 (d .last) (d .allowance)
 
 abbrev pub turnedOn : Choice → Arrays → Arrays
 turnedOn x d =
@@ -69,11 +69,11 @@ takeOn w a d =
       allowance = d .allowance;
     }
 
-unfoldable pub serveOn : (n w : List ℕ) → Arrays → Slot
-serveOn n w d =
+unfoldable pub serveOn : List ℕ → Arrays → Slot
+serveOn w d =
     pick (eqb (getD (d .live) 0 0) 0) (slotOn 255 d)
-    (pick (ltb 31 (chosenOn n w d .served)) (slotOn 255 (turnedOn (chosenOn n w d) d))
-    (slotOn (chosenOn n w d .served) (takeOn w (chosenOn n w d .served) (turnedOn (chosenOn n w d) d))))
+    (pick (ltb 31 (chosenOn w d .served)) (slotOn 255 (turnedOn (chosenOn w d) d))
+    (slotOn (chosenOn w d .served) (takeOn w (chosenOn w d .served) (turnedOn (chosenOn w d) d))))
 
 abbrev pub openOn : Bool → Arrays → Arrays
 openOn b d =
@@ -96,11 +96,11 @@ leftOn p m = pick (opensOn m) p (m - 1)
 abbrev pub endOn : ℕ → Bool → ℕ → SlotEnd
 endOn x b m = record { served = x; opened = b; left = m }
 
-abbrev pub slotEndOn : (n w : List ℕ) (p m : ℕ) → Arrays → SlotEnd
-slotEndOn n w p m d = endOn (serveOn n w d .byte) (opensOn m) (leftOn p m)
+abbrev pub slotEndOn : List ℕ → (p m : ℕ) → Arrays → SlotEnd
+slotEndOn w p m d = endOn (serveOn w d .byte) (opensOn m) (leftOn p m)
 
-abbrev pub afterOn : (n w : List ℕ) → ℕ → Arrays → Arrays
-afterOn n w m d = openOn (opensOn m) (serveOn n w d .arrays)
+abbrev pub afterOn : List ℕ → ℕ → Arrays → Arrays
+afterOn w m d = openOn (opensOn m) (serveOn w d .arrays)
 
 abbrev pub agoIn : ℕ → List ℕ → ℕ
 agoIn d bs = pick (ltb (length bs) d) 255 (getD bs (length bs - d) 255)

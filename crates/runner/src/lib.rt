@@ -16,7 +16,6 @@ use steps::home_of;
 use steps::is_done;
 use steps::turns_of;
 use trace::read_requests;
-use turns::next_ports;
 use waiting::number_asked;
 use waiting::tell;
 ghost use mathlib.Core.Path.{_≡_};
@@ -104,7 +103,6 @@ fn run_slots(t: Tree, fresh: State, trace: &[u8], a: u8, k: u32, out: &mut [u8])
     ensures wait { λ r. ⌜ waitOf (r .wait) ≡ waitsAfter t (start t (leftAt (now (trace .entry)) 0)) (usedBy t (leftAt (now (trace .entry)) 0) (length (now (out .entry)))) a k ⌝ }
 {
     let table = table_of(t);
-    let next = next_ports();
     let last = fresh.last;
     let mut blocks = [0u32; 96];
     let mut under = [0u16; 120];
@@ -136,7 +134,6 @@ fn run_slots(t: Tree, fresh: State, trace: &[u8], a: u8, k: u32, out: &mut [u8])
             &mut turns,
         );
         past = after_slot(
-            &next,
             &table,
             window,
             past.left,

@@ -91,14 +91,14 @@ pub fn is_done(trace: &[u8], at: usize, blocks: &[u32; 96], turns: &[u8; 45]) ->
 }
 
 // Serves the transaction whose turn it is, and answers its accelerator, or that the slot is idle. It is outstanding as before.
-fn serve(next: &[u8; 2048], table: &[u16; 246], under: &mut [u16; 120], turns: &mut [u8; 45]) -> u8
+fn serve(table: &[u16; 246], under: &mut [u16; 120], turns: &mut [u8; 45]) -> u8
     ensures { λ r. ⌜ ((b : List ℕ) → slotOn r (arraysOf b (now (under .exit)) (now (turns .exit)))
-        ≡ serveOn (now (next .entry)) (now (table .entry)) (arraysOf b (now (under .entry)) (now (turns .entry)))) ⌝ }
+        ≡ serveOn (now (table .entry)) (arraysOf b (now (under .entry)) (now (turns .entry)))) ⌝ }
 {
     if turns[LIVE] == 0 {
         return IDLE;
     }
-    let a = choose(next, table, under, 4, 0, turns);
+    let a = choose(table, under, 4, 0, turns);
     let i = a as usize;
     if 31 < i {
         return IDLE;
@@ -195,7 +195,6 @@ pub fn before_slot(
 // One slot is run once the offers are made: the service, and the end of a window of which so many slots are left, this one
 // counted.
 pub fn after_slot(
-    next: &[u8; 2048],
     table: &[u16; 246],
     window: u32,
     left: u32,
@@ -203,11 +202,11 @@ pub fn after_slot(
     under: &mut [u16; 120],
     turns: &mut [u8; 45],
 ) -> SlotEnd
-    ensures end { λ r. ⌜ r ≡ slotEndOn (now (next .entry)) (now (table .entry)) window left (arraysOf (now (blocks .entry)) (now (under .entry)) (now (turns .entry))) ⌝ }
+    ensures end { λ r. ⌜ r ≡ slotEndOn (now (table .entry)) window left (arraysOf (now (blocks .entry)) (now (under .entry)) (now (turns .entry))) ⌝ }
     ensures arrays { λ r. ⌜ arraysOf (now (blocks .exit)) (now (under .exit)) (now (turns .exit))
-        ≡ afterOn (now (next .entry)) (now (table .entry)) left (arraysOf (now (blocks .entry)) (now (under .entry)) (now (turns .entry))) ⌝ }
+        ≡ afterOn (now (table .entry)) left (arraysOf (now (blocks .entry)) (now (under .entry)) (now (turns .entry))) ⌝ }
 {
-    let served = serve(next, table, under, turns);
+    let served = serve(table, under, turns);
     let opened = left == 1;
     open_window(opened, blocks);
     SlotEnd {

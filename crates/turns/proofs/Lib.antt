@@ -1,5 +1,5 @@
 pub mod Allowance
 pub mod Next
-pub mod Rule
+pub mod Circle
 pub mod Steps
 pub mod Descent

@@ -29,16 +29,6 @@ turn-far s j port allowance l o h =
     ap₂ (withTurns s)
     (sym (set-out (s .last) j port (omega arith))) (sym (set-out (s .allowance) j allowance (omega arith)))
 
--- the table's index is set and last port
-pub index-small : (s r : ℕ) → s < 256 → r < 8 → s * 8 + r < 2048
-index-small s r h k = omega arith
-
-pub index-set : (s r : ℕ) → r < 8 → (s * 8 + r) / 8 ≡ s
-index-set s r h = omega arith
-
-pub index-last : (s r : ℕ) → r < 8 → (s * 8 + r) % 8 ≡ r
-index-last s r h = omega arith
-
 -- one more port of the live set: its bit is above all that stand there
 bit-small : (c : Bool) → pick {A = ℕ} c 1 0 < 2 ^ 1
 bit-small true = lit< tt

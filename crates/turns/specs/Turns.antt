@@ -6,8 +6,6 @@
 -- seek n set k         the first of the ports k, k + 1, .., n of them, 7 followed by 0, that is in the set; 8 if none is
 -- nextPort set last    "the first live port .. after the last one, circling 7 to 0 and ending with the last one itself",
 --                      8 for the empty set
--- NextPorts n          n is "a constant table of 2,048 entries (256 sets by 8 last ports; the empty set gives 8)": each
---                      entry is the next port of its set and last port
 -- goesOn s j           "if its allowance is above 0, the last port goes on"
 -- turnPort t s j       the port whose turn it is at interconnect j in this slot
 -- turnAllowance t s j  the allowance of that turn before this slot takes one off: what it was if the last port goes on,
@@ -21,11 +19,9 @@
 --                      interconnect
 -- after n t s j        the state once each interconnect on the way down from j has the port and the allowance, less one,
 --                      of its turn ("One is taken off the allowance", "Interconnects off the path do not change")
-use Prim.Native.Nat.{ℕ, zero, suc, _+_, _*_, _-_, _/_, _%_, _^_, _<_, min}
+use Prim.Native.Nat.{ℕ, zero, suc, _+_, _-_, _/_, _%_, _^_, min}
 use mathlib.Core.Bool.{Bool}
-use mathlib.Core.List.{List}
-use mathlib.Core.Path.{_≡_}
-use lib.ListN.{getD, set}
+use lib.ListN.{set}
 use lib.Dec.{ltb, eqb}
 use Rattle.model.specs.declared.Tree.{Tree}
 use Rattle.model.specs.declared.State.{State}
@@ -52,9 +48,6 @@ seek (suc n) set k = pick (hasPort set (k % 8)) (k % 8) (seek n set (suc k))
 
 abbrev pub nextPort : ℕ → ℕ → ℕ
 nextPort set last = seek 8 set (suc (last % 8))
-
-pub record NextPorts (n : List ℕ) : Type 0 where
-  pub entry : (set last : ℕ) → set < 256 → last < 8 → getD n (set * 8 + last) 0 ≡ nextPort set last
 
 abbrev pub goesOn : State → ℕ → Bool
 goesOn s j = ltb 0 (allowanceOf s j)

@@ -1,7 +1,4 @@
 // The turn rule: which port an interconnect serves in a slot, and the choice from the root down to an accelerator.
-mod table;
-
-use crate::table::NEXT;
 use model::Port;
 use model::State;
 use model::Tree;
@@ -12,11 +9,10 @@ use model::access::port_at;
 use model::access::waits_under;
 use rules::less_one;
 ghost use mathlib.Core.Path.{_≡_};
-ghost use Prim.Native.Nat.{_+_, _*_, _%_, min};
+ghost use Prim.Native.Nat.{min};
 ghost use lib.Dec.{ltb};
-ghost use lib.ListN.{getD};
 ghost use Rattle.folds.specs.Fold.{pick};
-ghost use Rattle.turns.specs.Turns.{liveSet, nextPort, NextPorts, turnPort, turnAllowance, reached, who, withTurn, turned, after};
+ghost use Rattle.turns.specs.Turns.{liveSet, nextPort, turnPort, turnAllowance, reached, who, withTurn, turned, after};
 
 // The turn at an interconnect in a slot: its port, and the allowance before this slot takes one off.
 pub struct Turn {
@@ -30,27 +26,18 @@ pub struct Choice {
     pub state: State,
 }
 
-// The table of next ports, for a caller that keeps it.
-pub fn next_ports() -> [u8; 2048]
-    ensures { λ r. ⌜ NextPorts r ⌝ }
-{
-    NEXT
-}
-
-// The entry of a set and a last port in a table of next ports.
-pub fn next_in(table: &[u8; 2048], set: u8, last: u8) -> u8
-    ensures { λ r. ⌜ r ≡ getD (now (table .entry)) (set * 8 + last % 8) 0 ⌝ }
-{
-    let i = set as usize * 8 + last as usize % 8;
-    table[i]
-}
-
-// The next port after the last one among the live ports, 7 followed by 0; 8 if none is live.
+// The next port after the last one among the live ports, 7 followed by 0; 8 if none is live. The set stands twice, one after
+// the other, and is moved so that bit 0 is the port after the last one: its lowest bit tells how many ports lie before the next.
 pub fn next_port(set: u8, last: u8) -> u8
     ensures { λ r. ⌜ r ≡ nextPort set last ⌝ }
 {
-    let table = next_ports();
-    next_in(&table, set, last)
+    if set == 0 {
+        return 8;
+    }
+    let first = last % 8 + 1;
+    let twice = set as u32 * 257;
+    let ahead = u32::trailing_zeros(twice >> first);
+    ((ahead + first as u32) % 8) as u8
 }
 
 fn live_bit(waiting: u32) -> u8

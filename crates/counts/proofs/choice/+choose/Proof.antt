@@ -17,14 +17,14 @@ use Rattle.counts.proofs.choice.turn_of.Reads as turn-of-reads
 use Rattle.counts.proofs.choice.+choose.{statement}
 use Rattle.counts.proofs.choice.+choose.Tie.{close}
 
-abbrev μ : Measures 4 choose-kinds.ps ℕ
-μ κs a = a .1 .1 .1 .0
+abbrev μ : Measures 3 choose-kinds.ps ℕ
+μ κs a = a .1 .1 .0
 
-abbrev at : ℕ → In 4 choose-kinds.ps
-at t = and 4 choose-kinds.ps (is 4 choose-kinds.ps μ t) choose.Pre
+abbrev at : ℕ → In 3 choose-kinds.ps
+at t = and 3 choose-kinds.ps (is 3 choose-kinds.ps μ t) choose.Pre
 
-abbrev below : ℕ → In 4 choose-kinds.ps
-below t = and 4 choose-kinds.ps (falls 4 choose-kinds.ps _<_ μ t) choose.Pre
+abbrev below : ℕ → In 3 choose-kinds.ps
+below t = and 3 choose-kinds.ps (falls 3 choose-kinds.ps _<_ μ t) choose.Pre
 
 abbrev calls : ℕ → lts.Claims
 calls t = (byte-of-reads.Asked, byte-of-reads.Learnt, turn-of-reads.Asked, turn-of-reads.Learnt, carried-at-reads.Asked, carried-at-reads.Learnt, take-turn-reads.Asked, take-turn-reads.Learnt, below t, choose.Post)
@@ -35,7 +35,7 @@ module _ (t : ℕ) where
   left c = within (c .before .args .levels) (c .before .args .j) (c .if1 .left)
 
   returns : lts.Need-returns (calls t) (at t) choose.Post
-  returns c = (on-none _ _ _ _ _ _ _ _ (c .if1 .taken), refl)
+  returns c = (on-none _ _ _ _ _ _ _ (c .if1 .taken), refl)
 
   take-turn-requires : lts.Need-take-turn-requires (calls t) (at t) choose.Post
   take-turn-requires c κs = left (c .before .before .before .before .before .before .before .before) .1
@@ -46,9 +46,9 @@ module _ (t : ℕ) where
       let h = left (c .before .before .before .before .before .before .before .before .before .before) in
       let turn = c .before .before .before .before .turn-of in
       let store = c .before .take-turn in (
-        stored-own (x .next .now) (x .table .now) (x .under .now) (x .turns .now) (x .levels) (x .j) _ h (c .before .before .before .before .before .before .before .before .byte-of .ensures)
+        stored-own (x .table .now) (x .under .now) (x .turns .now) (x .levels) (x .j) _ h (c .before .before .before .before .before .before .before .before .byte-of .ensures)
             (turn .result) _ (turn .ensures) (c .before .before .before .carried-at .ensures) _ (store .ensures) (c .if2 .taken),
-        stored-lives (x .next .now) (x .table .now) (x .under .now) (x .turns .now) (x .levels) (x .j) _ h (c .before .before .before .before .before .before .before .before .byte-of .ensures)
+        stored-lives (x .table .now) (x .under .now) (x .turns .now) (x .levels) (x .j) _ h (c .before .before .before .before .before .before .before .before .byte-of .ensures)
             (turn .result) _ (turn .ensures) (c .before .before .before .carried-at .ensures) _ (store .ensures),
       )
 
@@ -58,9 +58,9 @@ module _ (t : ℕ) where
       let h = left (c .before .before .before .before .before .before .before .before .before .before .before) in
       let turn = c .before .before .before .before .before .turn-of in
       let store = c .before .before .take-turn in (
-        stored-none (x .next .now) (x .table .now) (x .under .now) (x .turns .now) (x .levels) (x .j) _ h (c .before .before .before .before .before .before .before .before .before .byte-of .ensures)
+        stored-none (x .table .now) (x .under .now) (x .turns .now) (x .levels) (x .j) _ h (c .before .before .before .before .before .before .before .before .before .byte-of .ensures)
             (turn .result) _ (turn .ensures) (c .before .before .before .before .carried-at .ensures) _ (store .ensures) (c .if3 .taken),
-        stored-lives (x .next .now) (x .table .now) (x .under .now) (x .turns .now) (x .levels) (x .j) _ h (c .before .before .before .before .before .before .before .before .before .byte-of .ensures)
+        stored-lives (x .table .now) (x .under .now) (x .turns .now) (x .levels) (x .j) _ h (c .before .before .before .before .before .before .before .before .before .byte-of .ensures)
             (turn .result) _ (turn .ensures) (c .before .before .before .before .carried-at .ensures) _ (store .ensures),
       )
 
@@ -76,11 +76,11 @@ module _ (t : ℕ) where
       let h = left (c .before .before .before .before .before .before .before .before .before .before .before .before .before) in
       let turn = c .before .before .before .before .before .before .before .turn-of in
       let store = c .before .before .before .before .take-turn in (
-        stored-int (x .next .now) (x .table .now) (x .under .now) (x .turns .now) (x .levels) (x .j) _ h (c .before .before .before .before .before .before .before .before .before .before .before .byte-of .ensures)
+        stored-int (x .table .now) (x .under .now) (x .turns .now) (x .levels) (x .j) _ h (c .before .before .before .before .before .before .before .before .before .before .before .byte-of .ensures)
             (turn .result) _ (turn .ensures) (c .before .before .before .before .before .before .carried-at .ensures) _ (store .ensures)
             (c .before .before .before .if2 .left) (c .before .before .if3 .left) _ (c .choose .ensures .0),
         c .choose .ensures .1
-            ∙ stored-lives (x .next .now) (x .table .now) (x .under .now) (x .turns .now) (x .levels) (x .j) _ h (c .before .before .before .before .before .before .before .before .before .before .before .byte-of .ensures)
+            ∙ stored-lives (x .table .now) (x .under .now) (x .turns .now) (x .levels) (x .j) _ h (c .before .before .before .before .before .before .before .before .before .before .before .byte-of .ensures)
             (turn .result) _ (turn .ensures) (c .before .before .before .before .before .before .carried-at .ensures) _ (store .ensures),
       )
 

@@ -19,7 +19,7 @@ returns-2 : tie.Need-returns-2
 returns-2 c =
     let a = c .before .before .before .before .args in
     let h = le-ltb _ _ (c .before .before .before .if1 .left) in
-    let e = c .before .before .next-in .ensures ∙ sym (passed _ _ _ h) in
+    let e = c .before .before .next-port .ensures ∙ sym (passed _ _ _ h) in
     ap₂ turn e (c .grant .ensures ∙ ap (min (a .granularity)) (c .before .count-at .ensures ∙ ap (countAt (a .under .now) (a .j)) e) ∙ sym (passed _ _ _ h))
 
 pub turn-of-spec : {M : Type 1} → statement M

@@ -15,7 +15,7 @@ returns c =
     let w = o .ensures in
     let served = q .ensures (x .blocks .now) in (
       ap₂ (λ (b m : ℕ). endOn b (opensOn (x .left)) m) (ap (λ (y : Slot). y .byte) served) (c .left-after .ensures),
-      opened-arrays (x .blocks .now) (o .last .1 .0) (q .last .1 .1 .0) (q .last .1 .1 .1 .0) (opensOn (x .left)) (w .0) (w .1 .0) (w .1 .1)
+      opened-arrays (x .blocks .now) (o .last .1 .0) (q .last .1 .0) (q .last .1 .1 .0) (opensOn (x .left)) (w .0) (w .1 .0) (w .1 .1)
           ∙ ap (λ (y : Slot). openOn (opensOn (x .left)) (y .arrays)) served,
     )
 
