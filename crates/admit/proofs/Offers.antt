@@ -1,15 +1,18 @@
 -- Laws of the offers on a run's arrays, by their definitions.
-use Prim.Native.Nat.{ℕ, zero, suc, _+_, _-_, _<_, min}
-use mathlib.Core.Bool.{Bool, true, false}
+use Prim.Native.Nat.{ℕ, zero, suc, _+_, _*_, _-_, _^_, _≤_, _<_}
+use mathlib.Core.Bool.{Bool, true, false, _||_, not}
 use mathlib.Core.List.{List}
 use mathlib.Core.Path.{_≡_, refl, sym, _∙_, ap, ap₂}
 use native.Mathlib.Omega.{arith}
-use native.Mathlib.Decide.{decLt}
+use native.Mathlib.Decide.{decLt, ℕ-discrete}
 use lib.ListN.{getD, set, take, drop, length, List·getD-eq-default}
 use lib.Seq.{getD-take, getD-drop, take-set-le, take-set-lt, drop-set-add, drop-set-lt, getD-set-same}
-use borrow.Author.Tests.{lt-ltb, le-ltb}
+use lib.Bits.{bitAnd, and-zero-l}
+use lib.Count.{trailingZeros, trailing-of-zero}
+use lib.Dec.{ltb, eqb}
+use borrow.Author.Tests.{lt-ltb, le-ltb, ltb-false, eq-eqb, eqb-true}
 use Rattle.folds.specs.Fold.{pick}
-use Rattle.folds.proofs.Folds.{picked, passed}
+use Rattle.folds.proofs.Folds.{picked, passed, clash}
 use Rattle.machine.specs.declared.OfferAnswer.{OfferAnswer}
 use Rattle.machine.specs.declared.OfferAnswer.the-variants.{Admitted}
 use Rattle.machine.specs.Machine.{admitted, refused, limitsAnswer, onAdmitted}
@@ -18,7 +21,8 @@ use Rattle.machine.proofs.Steps.{limits-room}
 use Rattle.counts.specs.Table.{limits, budgets, parentPorts}
 use Rattle.counts.specs.Counts.{lives, up, raised, opened}
 use Rattle.admit.proofs.Kept.{first-kept, second-kept}
-use Rattle.admit.specs.Admitting.{Arrays, arrays, outstandings, admitteds, helds, arraysOf, answerOn, admitOn, offeredOn, offersFor, offersOf, offersBelow, offersBefore}
+use Rattle.admit.proofs.Sets.{in-none, lowest}
+use Rattle.admit.specs.Admitting.{Arrays, arrays, outstandings, admitteds, helds, arraysOf, answerOn, admitOn, offeredOn, offersFor, offersOf, isIn, offersIn}
 
 -- one offer, by its answer
 module _ (w : List ℕ) (a : ℕ) (d : Arrays) where
@@ -136,41 +140,98 @@ module _ (b : List ℕ) (a : ℕ) (h : a < 32) where
         (er ∙ ap (λ (p : ℕ). opened (up 4 (parentPorts w) p) (lives r₀)) port)
         (first-kept 15 15 r r₀ k) (second-kept 15 15 r r₀ k)
 
--- the offers of k accelerators from number a on, the first of them first
-module _ (w : List ℕ) where
-  unfoldable pub offersFrom : ℕ → ℕ → Arrays → Arrays
-  offersFrom zero a d = d
-  offersFrom (suc k) a d = offersFrom k (a + 1) (offersOf w a d)
-
-  -- one more at the end
-  from-next : (k a : ℕ) (d : Arrays) → offersFrom (suc k) a d ≡ offersOf w (a + k) (offersFrom k a d)
-  unfolding offersFrom
-  from-next zero a d = let e : a ≡ a + 0 = omega arith in ap (λ i. offersOf w i d) e
-  from-next (suc k) a d =
-      let e : a + 1 + k ≡ a + suc k = omega arith in
-      from-next k (a + 1) (offersOf w a d) ∙ ap (λ i. offersOf w i (offersFrom k (a + 1) (offersOf w a d))) e
-
-  from-below : (n : ℕ) (d : Arrays) → offersFrom n 0 d ≡ offersBelow w n d
-  unfolding offersFrom offersBelow
-  from-below zero d = refl
-  from-below (suc n) d =
-      let e : 0 + n ≡ n = omega arith in
-      from-next n 0 d ∙ ap₂ (offersOf w) e (from-below n d)
-
-  pub from-none : (k a : ℕ) (d : Arrays) → k ≡ 0 → offersFrom k a d ≡ d
-  unfolding offersFrom
-  from-none k a d e = ap (λ i. offersFrom i a d) e
-
-  pub from-turn : (n k a : ℕ) (d : Arrays) → n ≡ suc k → offersFrom n a d ≡ offersFrom k (a + 1) (offersOf w a d)
-  unfolding offersFrom
-  from-turn n k a d e = ap (λ i. offersFrom i a d) e
-
-  -- from the first that offers to the last, those are the offers before a slot
-  pub from-first : (e : Bool) (x n : ℕ) (d : Arrays)
-      → offersFrom (pick e n (min 255 (x + 1)) - pick e 0 x) (pick e 0 x) d ≡ offersBefore w e x n d
-  unfolding offersFrom
-  from-first true x n d = let e : n - 0 ≡ n = omega arith in ap (λ k. offersFrom k 0 d) e ∙ from-below n d
-  from-first false x n d = elim (decLt x 255) [
-    | yes h ↦ let i : min 255 (x + 1) - x ≡ 1 = omega arith in ap (λ k. offersFrom k x d) i
-    | no h ↦ from-none (min 255 (x + 1) - x) x d (omega arith) ∙ sym (offers-unknown w x d (omega arith))
+-- the offers of those of which f holds
+module _ (w : List ℕ) (f : ℕ → Bool) (d : Arrays) where
+  -- those of which it does not hold are passed over
+  pub in-passes : (n m : ℕ) → n ≤ m → ((a : ℕ) → n ≤ a → a < m → f a ≡ false) → offersIn w f m d ≡ offersIn w f n d
+  unfolding offersIn
+  in-passes n m l h = elim (ℕ-discrete n m) [
+    | yes e ↦ ap (λ k. offersIn w f k d) (sym e)
+    | no e ↦ past m (omega arith) h
   ]
+    where
+      past : (m : ℕ) → n < m → ((a : ℕ) → n ≤ a → a < m → f a ≡ false) → offersIn w f m d ≡ offersIn w f n d
+      past zero l h = absurd (omega arith)
+      past (suc m) l h =
+          passed _ _ _ (h m (omega arith) (omega arith)) ∙ elim (ℕ-discrete n m) [
+            | yes e ↦ ap (λ k. offersIn w f k d) (sym e)
+            | no e ↦ past m (omega arith) (λ a p q. h a p (omega arith))
+          ]
+
+  in-none-before : (n : ℕ) → ((a : ℕ) → a < n → f a ≡ false) → offersIn w f n d ≡ d
+  unfolding offersIn
+  in-none-before n h = in-passes 0 n (omega arith) (λ a _ l. h a l)
+
+  -- and of those of which g holds, if it holds of the same
+  pub in-same : (g : ℕ → Bool) → ((a : ℕ) → f a ≡ g a) → (n : ℕ) → offersIn w f n d ≡ offersIn w g n d
+  unfolding offersIn
+  in-same g e zero = refl
+  in-same g e (suc n) = ap₂ (λ (b : Bool) (x : Arrays). pick b (offersOf w n x) x) (e n) (in-same g e n)
+
+-- the first of those of which f holds, z, offers, and then those of which g holds: the others
+module _ (w : List ℕ) (f g : ℕ → Bool) (z : ℕ) (own : f z ≡ true) (before : (a : ℕ) → a < z → f a ≡ false) (cleared : g z ≡ false)
+    (kept : (a : ℕ) → (a ≡ z → ⊥) → g a ≡ f a) (d : Arrays) where
+  pub in-first : (n : ℕ) → z < n → offersIn w f n d ≡ offersIn w g n (offersOf w z d)
+  unfolding offersIn
+  in-first zero l = absurd (omega arith)
+  in-first (suc n) l = elim (ℕ-discrete n z) [
+    | yes e ↦
+        let later : (a : ℕ) → a < n → g a ≡ false = λ a b. kept a (λ q. omega arith) ∙ before a (omega arith) in
+        picked _ _ _ (ap f e ∙ own) ∙ ap₂ (offersOf w) e (in-none-before w f d n (λ a b. before a (omega arith)))
+        ∙ sym (passed _ _ _ (ap g e ∙ cleared) ∙ in-none-before w g (offersOf w z d) n later)
+    | no q ↦ ap₂ (λ (b : Bool) (x : Arrays). pick b (offersOf w n x) x) (sym (kept n q)) (in-first n (omega arith))
+  ]
+
+-- the lowest of a set of thirty-two offers, nobody where the set is empty, and then the others
+module _ (w : List ℕ) (x y : ℕ) (h : x < 2 ^ 32) (e : y ≡ x - 1) where
+  pub in-lowest : (d : Arrays) → offersIn w (isIn (bitAnd x y)) 32 (offersOf w (trailingZeros 32 x) d) ≡ offersIn w (isIn x) 32 d
+  in-lowest d = elim (ℕ-discrete x 0) [
+    | yes q ↦
+        let rest : bitAnd x y ≡ x = ap (λ n. bitAnd n y) q ∙ and-zero-l y ∙ sym q in
+        ap₂ (λ (n : ℕ) (b : Arrays). offersIn w (isIn n) 32 b) rest
+        (offers-unknown w (trailingZeros 32 x) d (omega (arith, ap (trailingZeros 32) q, trailing-of-zero 32)))
+    | no q ↦
+        let L = lowest 32 x (omega arith) h in
+        let one : ℕ → Bool = λ n. eqb n 1 in
+        ap (λ n. offersIn w (isIn (bitAnd x n)) 32 (offersOf w (trailingZeros 32 x) d)) e
+        ∙ sym (in-first w (isIn x) (isIn (bitAnd x (x - 1))) (trailingZeros 32 x) (ap one (L .own)) (λ a b. ap one (L .before a b)) (ap one (L .cleared))
+        (λ a i. ap one (L .kept a i)) d 32 (L .below))
+  ]
+
+  -- less is left then
+  pub left-less : (a : ℕ) → (ltb a 32 || not (eqb x 0)) ≡ true
+      → 2 * bitAnd x y + pick (ltb (trailingZeros 32 x) 32) 1 0 < 2 * x + pick (ltb a 32) 1 0
+  left-less a f = elim (ℕ-discrete x 0) [
+    | yes q ↦
+        let first : ltb a 32 ≡ true = cases (ltb a 32) (eqb x 0) f (eq-eqb x 0 q) in
+        omega (
+          arith,
+          ap (λ n. bitAnd n y) q ∙ and-zero-l y,
+          picked {A = ℕ} (ltb a 32) 1 0 first,
+          passed {A = ℕ} (ltb (trailingZeros 32 x) 32) 1 0 (le-ltb (trailingZeros 32 x) 32 (omega (arith, ap (trailingZeros 32) q, trailing-of-zero 32))),
+        )
+    | no q ↦
+        let L = lowest 32 x (omega arith) h in
+        omega (arith, ap (bitAnd x) e, L .less, at-most (ltb (trailingZeros 32 x) 32))
+  ]
+    where
+      cases : (b c : Bool) → (b || not c) ≡ true → c ≡ true → b ≡ true
+      cases true c f g = refl
+      cases false true f g = f
+      cases false false f g = g
+
+      at-most : (b : Bool) → pick {A = ℕ} b 1 0 ≤ 1
+      at-most true = omega arith
+      at-most false = omega arith
+
+-- nobody is left
+pub in-empty : (w : List ℕ) (x a : ℕ) (d : Arrays) → (ltb a 32 || not (eqb x 0)) ≡ false → offersIn w (isIn x) 32 (offersOf w a d) ≡ d
+in-empty w x a d f =
+    let q = neither (ltb a 32) (eqb x 0) f in
+    ap (λ n. offersIn w (isIn n) 32 (offersOf w a d)) (eqb-true x 0 (q .1)) ∙ in-none-before w (isIn 0) (offersOf w a d) 32 (λ i _. in-none i)
+    ∙ offers-unknown w a d (omega (arith, ltb-false a 32 (q .0)))
+  where
+    neither : (b c : Bool) → (b || not c) ≡ false → (b ≡ false) × (c ≡ true)
+    neither true c f = clash cc
+    neither false true f = (refl, refl)
+    neither false false f = clash cc

@@ -10,14 +10,16 @@
 -- offeredOn w a d       the arrays after one offer: a refusal leaves them, and the held request first in line
 -- offersFor k w a d     accelerator a offers at most k transactions, until one is refused
 -- offersOf w a d        the offers of accelerator a, of all that it holds; a number that no accelerator has offers nothing
--- offersBelow w n d     those of the accelerators below n, in rising number
--- offersBefore w e x n d   those below n if e, else those of x alone
+-- isIn x a              accelerator a is in the set x, of which bit a stands for accelerator a
+-- offersIn w f n d      those of the accelerators below n of which f holds, in rising number
+-- offersBefore w x f d  those of x, and then those of the accelerators of which f holds
 use Prim.Native.Nat.{ℕ, zero, suc, _+_, _-_}
 use mathlib.Core.Bool.{Bool}
 use mathlib.Core.List.{List}
-use lib.Dec.{ltb}
+use lib.Dec.{eqb, ltb}
 use lib.ListN.{getD, set, take, drop}
 use Rattle.folds.specs.Fold.{pick}
+use Rattle.model.specs.Tree.{bit}
 use Rattle.machine.specs.Machine.{Answer, limitsAnswer, onAdmitted}
 use Rattle.counts.specs.Table.{limits, budgets}
 use Rattle.counts.specs.Counts.{lasts, allowances, lives, pathPorts, raised, opened}
@@ -72,9 +74,12 @@ offersFor (suc k) w a d = onAdmitted (answerOn w a d) (offersFor k w a (offeredO
 abbrev pub offersOf : List ℕ → ℕ → Arrays → Arrays
 offersOf w a d = pick (ltb 31 a) d (offersFor (getD (d .held) a 0) w a d)
 
-unfoldable pub offersBelow : List ℕ → ℕ → Arrays → Arrays
-offersBelow w zero d = d
-offersBelow w (suc n) d = offersOf w n (offersBelow w n d)
+abbrev pub isIn : ℕ → ℕ → Bool
+isIn x a = eqb (bit a x) 1
 
-abbrev pub offersBefore : List ℕ → Bool → (x n : ℕ) → Arrays → Arrays
-offersBefore w e x n d = pick e (offersBelow w n d) (offersOf w x d)
+unfoldable pub offersIn : List ℕ → (ℕ → Bool) → ℕ → Arrays → Arrays
+offersIn w f zero d = d
+offersIn w f (suc n) d = pick (f n) (offersOf w n (offersIn w f n d)) (offersIn w f n d)
+
+abbrev pub offersBefore : List ℕ → ℕ → (ℕ → Bool) → Arrays → Arrays
+offersBefore w x f d = offersIn w f 32 (offersOf w x d)

@@ -7,10 +7,9 @@ use machine::OfferAnswer;
 use machine::limits_answer;
 use rules::less_one;
 ghost use mathlib.Core.Path.{_≡_};
-ghost use Prim.Native.Nat.{_+_, _<_, min};
-ghost use Rattle.folds.specs.Fold.{pick};
+ghost use Prim.Native.Nat.{_+_, _<_};
 ghost use Rattle.machine.specs.Answers.{offerMeans};
-ghost use Rattle.admit.specs.Admitting.{arraysOf, answerOn, offeredOn, offersOf, offersBefore};
+ghost use Rattle.admit.specs.Admitting.{arraysOf, answerOn, offeredOn, offersOf, isIn, offersBefore};
 
 // In the array of the counts of each accelerator, after the outstanding counts: the admitted counts.
 pub const ADMITTED: usize = 32;
@@ -76,47 +75,24 @@ fn offer_held(
     }
 }
 
-// The first accelerator that offers.
-fn first_of(every: bool, home: u8) -> u8
-    ensures { λ r. ⌜ r ≡ pick every 0 home ⌝ }
-{
-    if every {
-        return 0;
-    }
-    home
-}
-
-// The number after the last accelerator that offers.
-fn end_of(every: bool, home: u8, accs: u8) -> u8
-    ensures { λ r. ⌜ r ≡ pick every accs (min 255 (home + 1)) ⌝ }
-{
-    if every {
-        return accs;
-    }
-    if home == 255 {
-        return home;
-    }
-    home + 1
-}
-
-// The offers before a slot, in rising number: of every accelerator, or only of the one whose answer has come home, where no other
-// may have more admitted; of none, where that is 255.
-pub fn offer_before_slot(
-    every: bool,
-    home: u8,
-    accs: u8,
+// Accelerator `first` offers, nobody where it is 255, and then those of a set in rising number; bit a of the set stands for
+// accelerator a.
+pub fn offer_each(
+    first: u8,
+    others: u32,
     table: &[u16; 246],
     blocks: &mut [u32; 96],
     under: &mut [u16; 120],
     turns: &mut [u8; 45],
 )
     ensures offers { λ _. ⌜ arraysOf (now (blocks .exit)) (now (under .exit)) (now (turns .exit))
-        ≡ offersBefore (now (table .entry)) every home accs (arraysOf (now (blocks .entry)) (now (under .entry)) (now (turns .entry))) ⌝ }
+        ≡ offersBefore (now (table .entry)) first (isIn others) (arraysOf (now (blocks .entry)) (now (under .entry)) (now (turns .entry))) ⌝ }
 {
-    let mut a = first_of(every, home);
-    let end = end_of(every, home, accs);
-    while a < end {
-        offer_held(a, table, blocks, under, turns);
-        a += 1;
+    let mut a = first as u32;
+    let mut rest = others;
+    while (a < 32) | (rest != 0) {
+        offer_held(a as u8, table, blocks, under, turns);
+        a = u32::trailing_zeros(rest);
+        rest = rest & less_one(rest);
     }
 }

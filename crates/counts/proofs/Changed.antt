@@ -1,7 +1,7 @@
 -- The updates of the counts along a list of crossings as one fold: each crossing's entry is updated, and where no two
 -- crossings have one place, an entry is as it was or updated once. By induction on the list.
 use Prim.Native.Nat.{ℕ, _+_, _-_, _<_, min}
-use mathlib.Core.List.{List, [], _∷_}
+use mathlib.Core.List.{List, [], _∷_, _++_}
 use mathlib.Core.Path.{_≡_, refl, sym, _∙_, ap, ap₂, subst}
 use native.Mathlib.Decide.{ℕ-discrete}
 use native.Mathlib.Omega.{arith}
@@ -12,13 +12,37 @@ use Rattle.folds.specs.Fold.{pick}
 use Rattle.model.specs.Tree.{Crossing}
 use Rattle.rules.proofs.Beneath.{On, here, there, no-crossing}
 use Rattle.counts.specs.Table.{portNumber}
-use Rattle.counts.specs.Counts.{withPort, withoutPort, raised, opened, lower, lowered, closed}
+use Rattle.counts.specs.Counts.{withPort, withoutPort, raised, opened, lower, closePort}
 use Rattle.counts.proofs.Steps.{number-interconnect, number-port}
 
 -- the port numbers of the crossings of a list
 abbrev pub numbers : List Crossing → List ℕ
 numbers [] = []
 numbers (c ∷ l) = portNumber (c .interconnect) (c .port) ∷ numbers l
+
+pub numbers-more : (l : List Crossing) (c : Crossing) → numbers (l ++ c ∷ []) ≡ numbers l ++ portNumber (c .interconnect) (c .port) ∷ []
+numbers-more [] c = refl
+numbers-more (k ∷ l) c = ap (λ r. portNumber (k .interconnect) (k .port) ∷ r) (numbers-more l c)
+
+-- the counts u with one less at each port of a list, one after the other, and the sets v without those ports of which the count is 0 then
+unfoldable pub lowered : List ℕ → List ℕ → List ℕ
+lowered [] u = u
+lowered (c ∷ l) u = lowered l (lower c u)
+
+unfoldable pub closed : List ℕ → List ℕ → List ℕ → List ℕ
+closed [] u v = v
+closed (c ∷ l) u v = closed l (lower c u) (closePort c (getD u c 0 - 1) v)
+
+-- one more at the end
+pub lowered-more : (l : List ℕ) (c : ℕ) (u : List ℕ) → lowered (l ++ c ∷ []) u ≡ lower c (lowered l u)
+unfolding lowered
+lowered-more [] c u = refl
+lowered-more (k ∷ l) c u = lowered-more l c (lower k u)
+
+pub closed-more : (l : List ℕ) (c : ℕ) (u v : List ℕ) → closed (l ++ c ∷ []) u v ≡ closePort c (getD (lowered l u) c 0 - 1) (closed l u v)
+unfolding lowered closed
+closed-more [] c u v = refl
+closed-more (k ∷ l) c u v = closed-more l c (lower k u) _
 
 -- the entry of each crossing of a list, at its place `at`, updated by g
 module _ (at : ℕ → ℕ → ℕ) (g : ℕ → ℕ → ℕ → ℕ) where

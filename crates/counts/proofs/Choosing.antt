@@ -1,9 +1,9 @@
 -- The choice from the kept arrays is the choice of the definition: the turn read from them is the turn of the interconnect,
 -- something waits under its port, so that it carries an accelerator, or an interconnect with something waiting inside.
-use Prim.Native.Nat.{ℕ, zero, suc, _+_, _*_, _-_, _%_, _≤_, _<_, min}
+use Prim.Native.Nat.{ℕ, zero, suc, _+_, _-_, _≤_, _<_, min}
 use mathlib.Core.Bool.{Bool, true, false, _||_}
-use mathlib.Core.List.{List}
-use mathlib.Core.Path.{_≡_, refl, sym, _∙_, ap, ap₂, subst}
+use mathlib.Core.List.{List, [], _∷_, _++_, append-assoc, append-nil}
+use mathlib.Core.Path.{_≡_, refl, sym, _∙_, ap, ap₂, subst, subst₂}
 use native.Mathlib.Decide.{decLt}
 use native.Mathlib.Omega.{arith}
 use lib.ListN.{getD, set, drop}
@@ -15,30 +15,29 @@ use Rattle.model.specs.declared.State.{State}
 use Rattle.model.specs.declared.Port.{Port}
 use Rattle.model.specs.declared.Port.the-variants.{Empty, Acc, Int}
 use Rattle.folds.specs.Fold.{pick}
-use Rattle.model.specs.Tree.{portOf, granularityOf, waitingOf, lastOf, allowanceOf}
+use Rattle.model.specs.Tree.{Crossing, portOf, granularityOf, parentOf, parentPortOf, homeOf, homePortOf, above, path, levelOf, waitingOf, lastOf, allowanceOf}
 use Rattle.model.specs.Beneath.{under, inside}
 use Rattle.folds.proofs.Folds.{picked, passed, clash}
 use Rattle.rules.specs.Rules.{keeps}
-use Rattle.rules.proofs.Sound.{Sound, Kept, sound-of, kept-of}
-use Rattle.rules.proofs.Beneath.{at-port, child-level, settled}
+use Rattle.rules.proofs.Sound.{Sound, Kept, sound-of, kept-of, above-root}
+use Rattle.rules.proofs.Beneath.{only, lane, at-port, child-level, child-lane, settled}
 use Rattle.turns.specs.declared.Turn.{Turn}
 use Rattle.turns.specs.Turns.{liveSet, nextPort, goesOn, turnPort, turnAllowance, reached, who, turned, after}
 use Rattle.turns.proofs.Descent as Descent
 use Rattle.turns.proofs.Steps.{who-step, after-step}
-use Rattle.counts.specs.Table.{interconnects, empty, carriedNumber, granularities}
-use Rattle.counts.specs.Counts.{lasts, allowances, lives}
-use Rattle.counts.specs.Choice.{countAt, carriedAt, portOn, turnOn, turnAt, Choice, choice, lastWith, allowanceWith, belowOn, onwardOn, chooseOn}
-use Rattle.counts.proofs.Steps.{turn-last, turn-allowance, turn-lives}
+use Rattle.counts.specs.Table.{portNumber, interconnects, carriedNumber, granularities}
+use Rattle.counts.specs.Counts.{lives, lower, closePort}
+use Rattle.counts.specs.Choice.{Ports, portsIn, countAt, portOn, turnOn, turnAt, pass, Choice, choice, belowOn, chooseOn}
 use Rattle.counts.proofs.Table.{TableOf}
-use Rattle.counts.proofs.Counted.{Counted}
-use Rattle.counts.proofs.Backward.{below-own, below-none, below-int, takenOn, backOn, back-step, same-back}
+use Rattle.counts.proofs.Counted.{Counted, counted-less}
+use Rattle.counts.proofs.Changed.{numbers, numbers-more, lowered, closed, lowered-more, closed-more}
+use Rattle.counts.proofs.Backward.{below-own, below-int, passedOn, carriedBy, backOn, back-step, same-back}
 
 -- the turn by the granularity g and the array r of last ports, allowances and live ports
 abbrev turnRead : (u r : List ℕ) (j g : ℕ) → Turn
 turnRead u r j g = turnOn u j g (getD r (30 + j) 0) (getD r j 0) (getD r (15 + j) 0)
 
-turn-parts : (w u r : List ℕ) (j g : ℕ) → j < 15 → g ≡ min 255 (getD w (120 + j) 0)
-    → turnRead u r j g ≡ turnAt w u (lives r) (lasts r) (allowances r) j
+turn-parts : (w u r : List ℕ) (j g : ℕ) → j < 15 → g ≡ min 255 (getD w (120 + j) 0) → turnRead u r j g ≡ turnAt w (portsIn u r) j
 turn-parts w u r j g h e =
     ap₂ (λ (i v : ℕ). turnOn u j i v (getD r j 0) (getD r (15 + j) 0)) (e ∙ ap (min 255) (sym (getD-drop 120 w j 0))) (sym (getD-drop 30 r j 0))
     ∙ ap₂ (λ (l o : ℕ). turnOn u j (min 255 (getD (granularities w) j 0)) (getD (lives r) j 0) l o)
@@ -56,75 +55,56 @@ within m j e =
     (omega arith, omega (arith, ltb-false 14 j (h .1)))
 
 -- the steps of the choice on any arrays
-module _ (w u v l o : List ℕ) where
-  -- the choice over one level less, on the arrays as they are then
-  abbrev pub lowerChoice : ℕ → ℕ → (l o : List ℕ) → Choice
-  lowerChoice m k l₁ o₁ = chooseOn (m - 1) w u v k l₁ o₁
-
-  pub on-none : (m j : ℕ) → (eqb m 0 || ltb 14 j) ≡ true → choice 255 l o ≡ chooseOn m w u v j l o
+module _ (w : List ℕ) (d : Ports) where
+  pub on-none : (m j : ℕ) → (eqb m 0 || ltb 14 j) ≡ true → choice 255 d ≡ chooseOn m w j d
   unfolding chooseOn
   on-none zero j e = refl
   on-none (suc m) j e = sym (picked _ _ _ (sym (ap (λ (b : Bool). b || ltb 14 j) (ne-eqb (suc m) 0 (λ i. omega arith))) ∙ e))
 
-  on-step : (m j : ℕ) → 0 < m → j < 15
-      → onwardOn (lowerChoice m) j (turnAt w u v l o j) (carriedAt w j (turnAt w u v l o j .port)) l o ≡ chooseOn m w u v j l o
+  on-portless : (m j : ℕ) → 0 < m → j < 15 → 7 < turnAt w d j .port → choice 255 d ≡ chooseOn m w j d
   unfolding chooseOn
-  on-step zero j d h = absurd (omega arith)
-  on-step (suc m) j d h =
-      let x = turnAt w u v l o j in
+  on-portless zero j z h b = absurd (omega arith)
+  on-portless (suc m) j z h b = sym (passed _ _ _ (le-ltb 14 j (omega arith)) ∙ picked _ _ _ (lt-ltb _ _ b))
+
+  on-step : (m j : ℕ) → 0 < m → j < 15 → turnAt w d j .port < 8
+      → belowOn (chooseOn (m - 1) w) (carriedBy w j (turnAt w d j)) (pass j (turnAt w d j) d) ≡ chooseOn m w j d
+  unfolding chooseOn
+  on-step zero j z h b = absurd (omega arith)
+  on-step (suc m) j z h b =
+      let x = turnAt w d j in
       let e : suc m - 1 ≡ m = omega arith in
-      ap (λ (i : ℕ). onwardOn (chooseOn i w u v) j x (carriedAt w j (x .port)) l o) e ∙ sym (passed _ _ _ (le-ltb 14 j (omega arith)))
+      ap (λ (i : ℕ). belowOn (chooseOn i w) (carriedBy w j x) (pass j x d)) e
+      ∙ sym (passed _ _ _ (le-ltb 14 j (omega arith)) ∙ passed _ _ _ (le-ltb 7 (x .port) (omega arith)))
 
-  on-turn : (m j : ℕ) → 0 < m → j < 15 → (x : Turn) (y : ℕ) → x ≡ turnAt w u v l o j → y ≡ carriedAt w j (x .port)
-      → onwardOn (lowerChoice m) j x y l o ≡ chooseOn m w u v j l o
-  on-turn m j d h x y e f =
-      ap (λ (i : ℕ). onwardOn (lowerChoice m) j x i l o) f
-      ∙ ap (λ (z : Turn). onwardOn (lowerChoice m) j z (carriedAt w j (z .port)) l o) e ∙ on-step m j d h
+-- the turn x of interconnect j is read from the arrays u and r
+module _ (w u r : List ℕ) (m j g : ℕ) (h : (0 < m) × (j < 15)) (i : g ≡ min 255 (getD w (120 + j) 0)) (x : Turn) (e : x ≡ turnRead u r j g) where
+  is-turn : x ≡ turnAt w (portsIn u r) j
+  is-turn = e ∙ turn-parts w u r j g (h .1) i
 
--- the turn x of interconnect j is read from the array r and stored in r₁; the choice goes on there by what its port carries, y
-module _ (w u r : List ℕ) (m j g : ℕ) (h : (0 < m) × (j < 15)) (i : g ≡ min 255 (getD w (120 + j) 0)) (x : Turn) (y : ℕ)
-    (e : x ≡ turnRead u r j g) (f : y ≡ carriedAt w j (x .port)) (r₁ : List ℕ)
-    (s : r₁ ≡ set (set r j (x .port)) (15 + j) (x .allowance - 1)) where
-  pub stored-lives : lives r₁ ≡ lives r
-  stored-lives = ap lives s ∙ turn-lives r j _ _ (h .1)
+  pub stored-portless : 7 < x .port → choice 255 (portsIn u r) ≡ chooseOn m w j (portsIn u r)
+  stored-portless b = on-portless w (portsIn u r) m j (h .0) (h .1) (subst (λ (z : Turn). 7 < z .port) is-turn b)
 
-  stored-as : choice 0 (lasts r₁) (allowances r₁) ≡ choice 0 (lastWith j x (lasts r)) (allowanceWith j x (allowances r))
-  stored-as = ap₂ (choice 0) (ap lasts s ∙ turn-last r _ _ _ (h .1)) (ap allowances s ∙ turn-allowance r _ _ _ (h .1))
+  -- one transaction has passed in this turn; the choice goes on by what its port carries, y
+  module _ (b : x .port ≤ 7) (y : ℕ) (f : y ≡ carriedBy w j x) (d : Ports) (s : d ≡ pass j x (portsIn u r)) where
+    pub stored-goes : (c : Choice) → c ≡ belowOn (chooseOn (m - 1) w) y d → c ≡ chooseOn m w j (portsIn u r)
+    stored-goes c q =
+        q ∙ ap₂ (λ (n : ℕ) (e : Ports). belowOn (chooseOn (m - 1) w) n e) f s
+        ∙ ap (λ (z : Turn). belowOn (chooseOn (m - 1) w) (carriedBy w j z) (pass j z (portsIn u r))) is-turn
+        ∙ on-step w (portsIn u r) m j (h .0) (h .1) (subst (λ (z : Turn). z .port < 8) is-turn (omega arith))
 
-  goes : (c : Choice)
-      → c ≡ belowOn (λ k. chooseOn (m - 1) w u (lives r) k (lasts r₁) (allowances r₁)) y (lasts r₁) (allowances r₁)
-      → c ≡ chooseOn m w u (lives r) j (lasts r) (allowances r)
-  goes c q =
-      q ∙ ap (λ (d : Choice). belowOn (λ k. chooseOn (m - 1) w u (lives r) k (d .last) (d .allowance)) y (d .last) (d .allowance)) stored-as
-      ∙ on-turn w u (lives r) (lasts r) (allowances r) m j (h .0) (h .1) x y (e ∙ turn-parts w u r j g (h .1) i) f
-
-  pub stored-own : y < interconnects → choice y (lasts r₁) (allowances r₁) ≡ chooseOn m w u (lives r) j (lasts r) (allowances r)
-  stored-own b = goes _ (below-own (λ k. chooseOn (m - 1) w u (lives r) k (lasts r₁) (allowances r₁)) _ _ _ b)
-
-  pub stored-none : empty ≤ y → choice 255 (lasts r₁) (allowances r₁) ≡ chooseOn m w u (lives r) j (lasts r) (allowances r)
-  stored-none b = goes _ (below-none (λ k. chooseOn (m - 1) w u (lives r) k (lasts r₁) (allowances r₁)) _ _ _ b)
-
-  pub stored-int : interconnects ≤ y → y < empty → (c : Choice)
-      → c ≡ chooseOn (m - 1) w u (lives r₁) (y - interconnects) (lasts r₁) (allowances r₁)
-      → c ≡ chooseOn m w u (lives r) j (lasts r) (allowances r)
-  stored-int a b c q =
-      goes c (q ∙ ap (λ (v : List ℕ). chooseOn (m - 1) w u v (y - interconnects) (lasts r₁) (allowances r₁)) stored-lives
-      ∙ below-int (λ k. chooseOn (m - 1) w u (lives r) k (lasts r₁) (allowances r₁)) y (lasts r₁) (allowances r₁) a b)
-
--- the arrays of a run at state s of configuration t, which keep their rules: the configuration's table w, what waits under
--- each port u, the live ports v, the last ports l and the allowances o
-pub record Matches (t : Tree) (s : State) (w u v l o : List ℕ) : Type 0 where
+-- d is what a run keeps at state s of configuration t, which keep their rules, and w is the configuration's table
+pub record Matches (t : Tree) (s : State) (w : List ℕ) (d : Ports) : Type 0 where
   pub rules : keeps t s ≡ true
   pub table : TableOf t w
-  pub counts : Counted t (waitingOf s) u v
-  pub last : l ≡ s .last
-  pub allowance : o ≡ s .allowance
+  pub counts : Counted t (waitingOf s) (d .under) (d .live)
+  pub last : d .last ≡ s .last
+  pub allowance : d .allowance ≡ s .allowance
 
 -- from interconnect j, over at most n levels, the choice of the definitions comes to c
 pub record Chosen (t : Tree) (s : State) (n j : ℕ) (c : Choice) : Type 0 where
   pub served : c .served ≡ who n t s j
-  pub last : c .last ≡ after n t s j .last
-  pub allowance : c .allowance ≡ after n t s j .allowance
+  pub last : c .ports .last ≡ after n t s j .last
+  pub allowance : c .ports .allowance ≡ after n t s j .allowance
 
 -- z and number x are the turn of interconnect j and of what its port carries
 record Read (t : Tree) (s : State) (j : ℕ) (z : Turn) (x : ℕ) : Type 0 where
@@ -150,9 +130,9 @@ own n t s (Int k) h = absurd (omega arith)
 -- the turn of interconnect j is taken in what the way down has left
 taken : (t : Tree) (s : State) (m j : ℕ) (z : Turn) (x : ℕ) (c : Choice) → 0 < m → Read t s j z x
     → c .served ≡ reached (who (m - 1) t s) (portOf t j (turnPort t s j))
-    → c .last ≡ turned s (after (m - 1) t s) (portOf t j (turnPort t s j)) .last
-    → c .allowance ≡ turned s (after (m - 1) t s) (portOf t j (turnPort t s j)) .allowance
-    → Chosen t s m j (takenOn j z c)
+    → c .ports .last ≡ turned s (after (m - 1) t s) (portOf t j (turnPort t s j)) .last
+    → c .ports .allowance ≡ turned s (after (m - 1) t s) (portOf t j (turnPort t s j)) .allowance
+    → Chosen t s m j (passedOn j z c)
 taken t s m j z x c b R q e f =
     let d : m ≡ 0 → ⊥ = λ i. omega arith in
     record {
@@ -161,7 +141,7 @@ taken t s m j z x c b R q e f =
       allowance = ap₂ (λ (k : List ℕ) (i : ℕ). set k j (i - 1)) f (R .allowance) ∙ ap (λ (k : State). k .allowance) (after-step m t s j d);
     }
 
-module _ (t : Tree) (s : State) (w u v l o : List ℕ) (M : Matches t s w u v l o) where
+module _ (t : Tree) (s : State) (w : List ℕ) (d : Ports) (M : Matches t s w d) where
   S : Sound t
   S = sound-of t s (M .rules)
 
@@ -175,19 +155,19 @@ module _ (t : Tree) (s : State) (w u v l o : List ℕ) (M : Matches t s w u v l 
     lj : j < 15
     lj = omega (arith, S .most-ints)
 
-    last-same : getD l j 0 ≡ lastOf s j
+    last-same : getD (d .last) j 0 ≡ lastOf s j
     last-same = ap (λ (x : List ℕ). getD x j 0) (M .last)
 
-    allowance-same : getD o j 0 ≡ allowanceOf s j
+    allowance-same : getD (d .allowance) j 0 ≡ allowanceOf s j
     allowance-same = ap (λ (x : List ℕ). getD x j 0) (M .allowance)
 
-    next-same : nextPort (getD v j 0) (getD l j 0) ≡ nextPort (liveSet t s j) (lastOf s j)
+    next-same : nextPort (getD (d .live) j 0) (getD (d .last) j 0) ≡ nextPort (liveSet t s j) (lastOf s j)
     next-same = ap₂ nextPort (M .counts .live j h) last-same
 
-    port-from : turnAt w u v l o j .port ≡ turnPort t s j
+    port-from : turnAt w d j .port ≡ turnPort t s j
     unfolding turnPort
     port-from =
-        ap (portOn (getD v j 0) (getD l j 0)) allowance-same
+        ap (portOn (getD (d .live) j 0) (getD (d .last) j 0)) allowance-same
         ∙ ap₂ (λ (x y : ℕ). pick (goesOn s j) x y) last-same next-same
 
     granularity-same : min 255 (getD (granularities w) j 0) ≡ granularityOf t j
@@ -195,25 +175,27 @@ module _ (t : Tree) (s : State) (w u v l o : List ℕ) (M : Matches t s w u v l 
 
     -- the allowance of the turn, were its port p
     abbrev allowanceBy : ℕ → ℕ
-    allowanceBy p = pick (ltb 0 (getD o j 0)) (getD o j 0) (min (min 255 (getD (granularities w) j 0)) (countAt u j p))
+    allowanceBy p = pick (ltb 0 (getD (d .allowance) j 0)) (getD (d .allowance) j 0) (min (min 255 (getD (granularities w) j 0)) (countAt (d .under) j p))
 
     allowance-from : allowanceBy (turnPort t s j) ≡ turnAllowance t s j
     unfolding turnAllowance
     allowance-from =
-        ap (λ (a : ℕ). pick (ltb 0 a) a (min (min 255 (getD (granularities w) j 0)) (countAt u j (turnPort t s j)))) allowance-same
+        ap (λ (a : ℕ). pick (ltb 0 a) a (min (min 255 (getD (granularities w) j 0)) (countAt (d .under) j (turnPort t s j)))) allowance-same
         ∙ ap₂ (λ (x y : ℕ). pick (goesOn s j) (allowanceOf s j) (min x y)) granularity-same
         (passed _ _ _ (le-ltb 7 (turnPort t s j) (omega (arith, T .port))) ∙ M .counts .count j (turnPort t s j) h (T .port))
 
-    read : Read t s j (turnAt w u v l o j) (carriedAt w j (turnAt w u v l o j .port))
+    port-known : turnAt w d j .port < 8
+    port-known = omega (arith, port-from, T .port)
+
+    read : Read t s j (turnAt w d j) (carriedBy w j (turnAt w d j))
     read = record {
       port = port-from;
       allowance = ap allowanceBy port-from ∙ allowance-from;
-      carried = ap (carriedAt w j) port-from ∙ passed _ _ _ (le-ltb 7 (turnPort t s j) (omega (arith, T .port)))
-          ∙ M .table .carried j (turnPort t s j) lj (T .port);
+      carried = ap (λ (p : ℕ). getD w (portNumber j p) 0) port-from ∙ M .table .carried j (turnPort t s j) lj (T .port);
     }
 
-    lower : interconnects ≤ carriedNumber (portOf t j (turnPort t s j)) → Lower t s (portOf t j (turnPort t s j))
-    lower f = at-port t S Q j (turnPort t s j) h (T .port)
+    lower-of : interconnects ≤ carriedNumber (portOf t j (turnPort t s j)) → Lower t s (portOf t j (turnPort t s j))
+    lower-of f = at-port t S Q j (turnPort t s j) h (T .port)
         (λ b d. absurd (omega arith))
         (λ a la _ _ b d. absurd (omega (arith, S .most-accs)))
         (λ k z lk e _ b d.
@@ -231,31 +213,31 @@ module _ (t : Tree) (s : State) (w u v l o : List ℕ) (M : Matches t s w u v l 
 
   -- the choice on a run's arrays is the choice of the definition, from any interconnect with something waiting inside
   abbrev ChosenFrom : ℕ → ℕ → Type 0
-  ChosenFrom m j = j < t .ints → 0 < inside 4 t (waitingOf s) j → Chosen t s m j (backOn m w u v j l o)
+  ChosenFrom m j = j < t .ints → 0 < inside 4 t (waitingOf s) j → Chosen t s m j (backOn m w j d)
 
   step : (m j : ℕ) → 0 < m → ((k : ℕ) → ChosenFrom (m - 1) k) → ChosenFrom m j
-  step m j d F h k =
+  step m j z F h k =
       let R = read j h k in
-      let turn = turnAt w u v l o j in
-      let x = carriedAt w j (turn .port) in
-      let f : ℕ → Choice = λ i. backOn (m - 1) w u v i l o in
-      let by : (c : Choice) → c ≡ belowOn f x l o → takenOn j turn c ≡ backOn m w u v j l o =
-      λ c q. ap (takenOn j turn) q ∙ back-step w u v m j l o d (lj j h k) in
+      let turn = turnAt w d j in
+      let x = carriedBy w j turn in
+      let f : ℕ → Ports → Choice = backOn (m - 1) w in
+      let by : (c : Choice) → c ≡ belowOn f x d → passedOn j turn c ≡ backOn m w j d =
+      λ c q. ap (passedOn j turn) q ∙ back-step w m j d z (lj j h k) (port-known j h k) in
       elim (decLt x interconnects) [
         | yes b ↦
             let r = own (m - 1) t s (portOf t j (turnPort t s j)) (omega (arith, R .carried)) in
-            subst (Chosen t s m j) (by (choice x l o) (below-own f x l o b))
-            (taken t s m j _ x (choice x l o) d R (R .carried ∙ r .0) (M .last ∙ ap (λ (i : State). i .last) (r .1))
+            subst (Chosen t s m j) (by (choice x d) (below-own f x d b))
+            (taken t s m j _ x (choice x d) z R (R .carried ∙ r .0) (M .last ∙ ap (λ (i : State). i .last) (r .1))
             (M .allowance ∙ ap (λ (i : State). i .allowance) (r .1)))
         | no b ↦
-            let L = lower j h k (omega (arith, R .carried)) in
+            let L = lower-of j h k (omega (arith, R .carried)) in
             let e : x ≡ L .int + interconnects = R .carried ∙ L .number in
             let i : x - interconnects ≡ L .int = omega arith in
             let N = F (L .int) (L .used) (L .waits) in
             let down = sym (ap (turned s (after (m - 1) t s)) (L .carries)) in
             subst (Chosen t s m j)
-            (by (f (L .int)) (ap f (sym i) ∙ below-int f x l o (omega arith) (omega (arith, L .used, S .most-ints))))
-            (taken t s m j _ x (f (L .int)) d R (N .served ∙ sym (ap (reached (who (m - 1) t s)) (L .carries)))
+            (by (f (L .int) d) (ap (λ (n : ℕ). f n d) (sym i) ∙ below-int f x d (omega arith) (omega (arith, L .used, S .most-ints))))
+            (taken t s m j _ x (f (L .int) d) z R (N .served ∙ sym (ap (reached (who (m - 1) t s)) (L .carries)))
             (N .last ∙ ap (λ (y : State). y .last) down) (N .allowance ∙ ap (λ (y : State). y .allowance) down))
       ]
 
@@ -266,5 +248,98 @@ module _ (t : Tree) (s : State) (w u v l o : List ℕ) (M : Matches t s w u v l 
       let e : suc m - 1 ≡ m = omega arith in
       step (suc m) j (omega arith) (subst (λ (i : ℕ). (k : ℕ) → ChosenFrom i k) (sym e) (comes-back m)) h k
 
-  pub chooses : (m j : ℕ) → j < t .ints → 0 < inside 4 t (waitingOf s) j → Chosen t s m j (chooseOn m w u v j l o)
-  chooses m j h k = subst (Chosen t s m j) (sym (same-back t S w u v (M .table) m j l o h)) (comes-back m j h k)
+  pub chooses : (m j : ℕ) → j < t .ints → 0 < inside 4 t (waitingOf s) j → Chosen t s m j (chooseOn m w j d)
+  chooses m j h k = subst (Chosen t s m j) (sym (same-back t S w (M .table) m j d h)) (comes-back m j h k)
+
+  -- e is what is kept once one transaction has passed the crossings of accelerator a but for those above, from its own on
+  record Way (above : List Crossing) (a : ℕ) (e : Ports) : Type 0 where
+    crossings : List Crossing
+    path-is : crossings ++ above ≡ path t a
+    under-is : e .under ≡ lowered (numbers crossings) (d .under)
+    live-is : e .live ≡ closed (numbers crossings) (d .under) (d .live)
+
+  way-none : (a : ℕ) → Way (path t a) a d
+  unfolding lowered closed
+  way-none a = record { crossings = []; path-is = refl; under-is = refl; live-is = refl }
+
+  -- one more
+  way-more : (a j : ℕ) (x : Turn) (e : Ports) (q r : List Crossing) → q ≡ record { interconnect = j; port = x .port } ∷ r → Way q a e
+      → Way r a (pass j x e)
+  way-more a j x e q r i R =
+      let c : Crossing = record { interconnect = j; port = x .port } in
+      let n = portNumber j (x .port) in
+      let l = R .crossings in
+      let more = sym (numbers-more l c) in
+      record {
+        crossings = l ++ c ∷ [];
+        path-is = append-assoc l (c ∷ []) r ∙ ap (λ (y : List Crossing). l ++ y) (sym i) ∙ R .path-is;
+        under-is = ap (lower n) (R .under-is) ∙ sym (lowered-more (numbers l) n (d .under)) ∙ ap (λ (y : List ℕ). lowered y (d .under)) more;
+        live-is =
+            ap₂ (λ (u v : List ℕ). closePort n (getD u n 0 - 1) v) (R .under-is) (R .live-is)
+            ∙ sym (closed-more (numbers l) n (d .under) (d .live)) ∙ ap (λ (y : List ℕ). closed y (d .under) (d .live)) more;
+      }
+
+  -- from any interconnect with something waiting inside, over enough levels
+  abbrev WayFrom : ℕ → ℕ → Type 0
+  WayFrom m j = j < t .ints → 5 ≤ m + levelOf t j → 0 < inside 4 t (waitingOf s) j → Way (above 15 t j) (who m t s j) (backOn m w j d .ports)
+
+  -- a port leads to its accelerator, or to an interconnect from which the way goes on
+  module _ (m j : ℕ) (h : j < t .ints) (k : 0 < inside 4 t (waitingOf s) j) where
+    abbrev x : Turn
+    x = turnAt w d j
+
+    abbrev y : ℕ
+    y = carriedBy w j x
+
+    abbrev f : ℕ → Ports → Choice
+    f = backOn (m - 1) w
+
+    abbrev WayTo : ℕ → Choice → Type 0
+    WayTo a c = Way (above 15 t j) a (pass j x (c .ports))
+
+    leaf : (a : ℕ) → a < t .accs → homeOf t a ≡ j → homePortOf t a ≡ turnPort t s j → y ≡ a → WayTo a (belowOn f y d)
+    leaf a la e g c =
+        subst (WayTo a) (below-own f y d (omega (arith, S .most-accs)))
+        (way-more a j x d (path t a) (above 15 t j) (ap₂ (lane t) e (g ∙ sym (read j h k .port))) (way-none a))
+
+    inner : (i : ℕ) → 0 < i → i < t .ints → parentOf t i ≡ j → parentPortOf t i ≡ turnPort t s j → y ≡ i + interconnects
+        → Way (above 15 t i) (who (m - 1) t s i) (f i d .ports) → WayTo (who (m - 1) t s i) (belowOn f y d)
+    inner i z li e g c N =
+        let n : i ≡ y - interconnects = omega arith in
+        subst (WayTo (who (m - 1) t s i)) (ap (λ (b : ℕ). f b d) n ∙ below-int f y d (omega arith) (omega (arith, S .most-ints)))
+        (way-more _ j x (f i d .ports) (above 15 t i) (above 15 t j) (child-lane t S i j (x .port) z li e (g ∙ sym (read j h k .port))) N)
+
+    to-port : ((i : ℕ) → WayFrom (m - 1) i) → 5 ≤ m + levelOf t j → WayTo (reached (who (m - 1) t s) (portOf t j (turnPort t s j))) (belowOn f y d)
+    to-port F q =
+        at-port t S Q j (turnPort t s j) h (T j h k .port) (λ c b. absurd (omega arith)) (λ a la e g c b. leaf a la e g c)
+        (λ i z li e g c b.
+        let v = child-level t S i j z li e in
+        inner i z li e g c (F i li (omega arith) (omega (arith, settled t S 3 (waitingOf s) i li (omega arith)))))
+        (read j h k .carried) (omega (arith, T j h k .some, T j h k .covered))
+      where
+        Q : Port → Type 0
+        Q P = y ≡ carriedNumber P → 0 < under (waitingOf s) (inside 3 t (waitingOf s)) P → WayTo (reached (who (m - 1) t s) P) (belowOn f y d)
+
+  way-step : (m j : ℕ) → 0 < m → ((i : ℕ) → WayFrom (m - 1) i) → WayFrom m j
+  way-step m j z F h q k =
+      subst₂ (λ (a : ℕ) (c : Choice). Way (above 15 t j) a (c .ports)) (who-step m t s j (λ e. omega arith))
+      (back-step w m j d z (lj j h k) (port-known j h k)) (to-port m j h k F q)
+
+  way : (m j : ℕ) → WayFrom m j
+  way zero j h q k = absurd (omega (arith, S .level j h))
+  way (suc m) j h q k =
+      let e : suc m - 1 ≡ m = omega arith in
+      way-step (suc m) j (omega arith) (subst (λ (i : ℕ). (k : ℕ) → WayFrom i k) (sym e) (way m)) h q k
+
+  -- one transaction has passed the whole path of the accelerator that is served
+  pub passes : 0 < inside 4 t (waitingOf s) 0 → (r : ℕ → ℕ) → ((b : ℕ) → waitingOf s b ≡ r b + only (who 4 t s 0) b) → who 4 t s 0 < t .accs
+      → Counted t r (chooseOn 4 w 0 d .ports .under) (chooseOn 4 w 0 d .ports .live)
+  passes k r e l =
+      let a = who 4 t s 0 in
+      let R = way 4 0 (S .some-ints) (omega arith) k in
+      let all : R .crossings ≡ path t a = sym (append-nil (R .crossings)) ∙ ap (λ (q : List Crossing). R .crossings ++ q) (sym (above-root t S)) ∙ R .path-is in
+      let c = backOn 4 w 0 d .ports in
+      subst (λ (c : Choice). Counted t r (c .ports .under) (c .ports .live)) (sym (same-back t S w (M .table) 4 0 d (S .some-ints)))
+      (subst₂ (Counted t r) (sym (R .under-is ∙ ap (λ (q : List Crossing). lowered (numbers q) (d .under)) all))
+      (sym (R .live-is ∙ ap (λ (q : List Crossing). closed (numbers q) (d .under) (d .live)) all))
+      (counted-less t S a l (waitingOf s) r e (d .under) (d .live) (M .counts)))

@@ -21,10 +21,10 @@ use Rattle.rules.proofs.Beneath.{only, On, there, lane, at-port, port-le, insid
 use Rattle.turns.specs.Turns.{bitsBelow, hasPort}
 use Rattle.turns.proofs.Next.{bit-of}
 use Rattle.counts.specs.Table.{portNumber, parentPorts}
-use Rattle.counts.specs.Counts.{up, pathPorts, withPort, raised, opened, lowered, closed}
+use Rattle.counts.specs.Counts.{up, pathPorts, withPort, raised, opened}
 use Rattle.counts.proofs.Table.{TableOf}
 use Rattle.counts.proofs.Steps.{number-interconnect, up-root, up-next}
-use Rattle.counts.proofs.Changed.{numbers, changed, changed-size, Apart, changed-at, own, shuts, raised-changed, lowered-changed, Ported, opened-changed, closed-changed}
+use Rattle.counts.proofs.Changed.{numbers, lowered, closed, changed, changed-size, Apart, changed-at, own, shuts, raised-changed, lowered-changed, Ported, opened-changed, closed-changed}
 
 -- u has the sum of the weight w beneath each port of t, and v the set of the ports of each interconnect beneath which it is
 -- above 0; with what waits for the weight: the number waiting under each port, and the live ports
@@ -183,16 +183,15 @@ module _ (t : Tree) (S : Sound t) where
           ∙ ap (λ k. s + pick k (2 ^ p) 0) (lt-ltb 0 (weightUnder t w′ j p) (omega (arith, on j p o))))
 
   -- one less at accelerator a
-  pub counted-less : (g : List ℕ) → TableOf t g → (a : ℕ) → a < t .accs → (w w′ : ℕ → ℕ)
+  pub counted-less : (a : ℕ) → a < t .accs → (w w′ : ℕ → ℕ)
       → ((b : ℕ) → w b ≡ w′ b + only a b)
       → (c v : List ℕ) → Counted t w c v
-      → Counted t w′ (lowered (pathPorts g a) c) (closed (pathPorts g a) c v)
-  counted-less g T a la w w′ e c v C =
-      subst (λ l. Counted t w′ (lowered l c) (closed l c v)) (sym (up-path a la g T))
-      (subst₂ (Counted t w′) (sym (lowered-changed (path t a) c))
+      → Counted t w′ (lowered (numbers (path t a)) c) (closed (numbers (path t a)) c v)
+  counted-less a la w w′ e c v C =
+      subst₂ (Counted t w′) (sym (lowered-changed (path t a) c))
       (sym (closed-changed (weightUnder t w) (path t a) (ported a la) (ports-apart a la) c v
       (λ j p o. let b = path-bounds t S a la j p o in C .count j p (b .0) (b .1))))
-      (counted-along a la w w′ off _ _ (λ j p o. omega (arith, on j p o)) set-on c v C))
+      (counted-along a la w w′ off _ _ (λ j p o. omega (arith, on j p o)) set-on c v C)
     where
       same : (j p : ℕ) → weightUnder t w j p ≡ weightUnder t (λ b. w′ b + only a b) j p
       same j p = ap (λ f. weightUnder t f j p) (fun-ext e)

@@ -14,7 +14,9 @@ use borrow.Author.Tests.{eqb-true, eq-eqb, ne-eqb, le-ltb, lt-ltb}
 use Rattle.folds.specs.Fold.{pick, all}
 use Rattle.folds.proofs.Folds.{both, all-at, picked, passed}
 use Rattle.counts.specs.Table.{portNumber}
-use Rattle.counts.specs.Counts.{lasts, allowances, lives, up, withPort, withoutPort, raised, opened, lowered, closed}
+use Rattle.counts.specs.Choice.{Ports, ports, portsIn, pass}
+use Rattle.turns.specs.declared.Turn.{Turn}
+use Rattle.counts.specs.Counts.{lasts, allowances, lives, up, withPort, withoutPort, raised, opened}
 
 -- the number of a port tells its interconnect and the port
 pub number-interconnect : (j p : ℕ) → p < 8 → portNumber j p / 8 ≡ j
@@ -97,39 +99,48 @@ raises-port {c} {a} {b} {l} {k} {u} {r} e d f R = record {
   rest = take-set-le 30 r (30 + c / 8) b (omega arith) ∙ R .rest;
 }
 
--- along the ports l, one less makes x of the counts u and y of the live sets in r, and leaves z before them
-pub record Lowers (l u r x y z : List ℕ) : Type 0 where
-  pub counts : lowered l u ≡ x
-  pub sets : closed l u (lives r) ≡ y
-  pub rest : take 30 r ≡ z
+-- the turn of interconnect j stored, by the parts of the array: its port p, its allowance q and the live ports v
+abbrev pub turnStored : List ℕ → (j p v q : ℕ) → List ℕ
+turnStored r j p v q = set (set (set r (30 + j) v) j p) (15 + j) q
 
-pub lowers-none : {l u r x y z : List ℕ} → l ≡ [] → Lowers l u r x y z → (u ≡ x) × ((lives r ≡ y) × (take 30 r ≡ z))
-unfolding lowered closed
-lowers-none {l} {u} {r} e R = (ap (λ (k : List ℕ). lowered k u) (sym e) ∙ R .counts, (ap (λ (k : List ℕ). closed k u (lives r)) (sym e) ∙ R .sets, R .rest))
+module _ (r : List ℕ) (j p v q : ℕ) (h : j < 15) where
+  stored-last : lasts (turnStored r j p v q) ≡ set (lasts r) j p
+  stored-last =
+      take-set-le 15 (set (set r (30 + j) v) j p) (15 + j) q (omega arith) ∙ take-set-lt 15 (set r (30 + j) v) j p h
+      ∙ ap (λ (l : List ℕ). set l j p) (take-set-le 15 r (30 + j) v (omega arith))
 
-pub lowers-port : {c a b : ℕ} {l k u r x y z : List ℕ} → l ≡ c ∷ k → a ≡ getD u c 0 - 1 → b ≡ pick (eqb a 0) (withoutPort (getD r (30 + c / 8) 0) (c % 8 % 8)) (getD r (30 + c / 8) 0)
-    → Lowers l u r x y z → Lowers k (set u c a) (set r (30 + c / 8) b) x y z
-unfolding lowered closed
-lowers-port {c} {a} {b} {l} {k} {u} {r} e d f R = record {
-  counts = ap (λ (m : ℕ). lowered k (set u c m)) d ∙ ap (λ (j : List ℕ). lowered j u) (sym e) ∙ R .counts;
-  sets =
-      ap (closed k (set u c a)) (drop-set-add 30 r (c / 8) b)
-      ∙ ap₂ (λ (m i : ℕ). closed k (set u c m) (set (lives r) (c / 8) i)) d
-      (f ∙ ap₂ (λ (m i : ℕ). pick (eqb m 0) (withoutPort i (c % 8 % 8)) i) d (sym (getD-drop 30 r (c / 8) 0))
-      ∙ ap (λ (p : ℕ). pick (eqb (getD u c 0 - 1) 0) (withoutPort (getD (lives r) (c / 8) 0) p) (getD (lives r) (c / 8) 0)) (port-again c))
-      ∙ ap (λ (j : List ℕ). closed j u (lives r)) (sym e) ∙ R .sets;
-  rest = take-set-le 30 r (30 + c / 8) b (omega arith) ∙ R .rest;
-}
+  stored-allowance : allowances (turnStored r j p v q) ≡ set (allowances r) j q
+  stored-allowance =
+      let e : 30 + j ≡ 15 + (15 + j) = omega arith in
+      ap (take 15) (drop-set-add 15 (set (set r (30 + j) v) j p) j q)
+      ∙ take-set-lt 15 (drop 15 (set (set r (30 + j) v) j p)) j q h
+      ∙ ap (λ (l : List ℕ). set (take 15 l) j q)
+      (drop-set-lt 15 (set r (30 + j) v) j p h ∙ ap (λ (k : ℕ). drop 15 (set r k v)) e ∙ drop-set-add 15 r (15 + j) v)
+      ∙ ap (λ (l : List ℕ). set l j q) (take-set-le 15 (drop 15 r) (15 + j) v (omega arith))
 
--- a turn stored at interconnect j, by the parts of the array
-module _ (r : List ℕ) (j p x : ℕ) (h : j < 15) where
-  pub turn-last : lasts (set (set r j p) (15 + j) x) ≡ set (lasts r) j p
-  turn-last = take-set-le 15 (set r j p) (15 + j) x (omega arith) ∙ take-set-lt 15 r j p h
+  stored-lives : lives (turnStored r j p v q) ≡ set (lives r) j v
+  stored-lives =
+      drop-set-lt 30 (set (set r (30 + j) v) j p) (15 + j) q (omega arith)
+      ∙ drop-set-lt 30 (set r (30 + j) v) j p (omega arith) ∙ drop-set-add 30 r j v
 
-  pub turn-allowance : allowances (set (set r j p) (15 + j) x) ≡ set (allowances r) j x
-  turn-allowance =
-      ap (take 15) (drop-set-add 15 (set r j p) j x) ∙ take-set-lt 15 (drop 15 (set r j p)) j x h
-      ∙ ap (λ (l : List ℕ). set (take 15 l) j x) (drop-set-lt 15 r j p h)
+-- what is kept is the same by its parts
+pub ports-same : (d e : Ports) → d .under ≡ e .under → d .live ≡ e .live → d .last ≡ e .last → d .allowance ≡ e .allowance → d ≡ e
+ports-same d e p q r s =
+    ap₂ (λ (x y : List ℕ). ports x y (d .last) (d .allowance)) p q ∙ ap₂ (λ (x y : List ℕ). ports (e .under) (e .live) x y) r s
 
-  pub turn-lives : lives (set (set r j p) (15 + j) x) ≡ lives r
-  turn-lives = drop-set-lt 30 (set r j p) (15 + j) x (omega arith) ∙ drop-set-lt 30 r j p (omega arith)
+-- one transaction has passed interconnect j in its turn x
+pub stored-pass : (u r : List ℕ) (j : ℕ) (x : Turn) (n v q : ℕ) → j < 15 → x .port < 8
+    → n ≡ getD u (portNumber j (x .port)) 0 - 1 → v ≡ pick (eqb n 0) (withoutPort (getD r (30 + j) 0) (x .port % 8)) (getD r (30 + j) 0)
+    → q ≡ x .allowance - 1
+    → portsIn (set u (portNumber j (x .port)) n) (turnStored r j (x .port) v q) ≡ pass j x (portsIn u r)
+stored-pass u r j x n v q h b en ev eq =
+    let c = portNumber j (x .port) in
+    let m : ℕ = getD u c 0 - 1 in
+    let p : x .port % 8 ≡ c % 8 = omega (arith, number-port j (x .port) b) in
+    ports-same _ _ (ap (set u c) en)
+    (stored-lives r j (x .port) v q h
+    ∙ ap (set (lives r) j) (ev ∙ ap₂ (λ (k i : ℕ). pick (eqb k 0) (withoutPort i (x .port % 8)) i) en (sym (getD-drop 30 r j 0))
+    ∙ ap (λ (k : ℕ). pick (eqb m 0) (withoutPort (getD (lives r) j 0) k) (getD (lives r) j 0)) p)
+    ∙ ap (λ (i : ℕ). set (lives r) i (pick (eqb m 0) (withoutPort (getD (lives r) i 0) (c % 8)) (getD (lives r) i 0)))
+    (sym (number-interconnect j (x .port) b)))
+    (stored-last r j (x .port) v q h) (stored-allowance r j (x .port) v q h ∙ ap (set (allowances r) j) eq)

@@ -9,9 +9,8 @@
 -- withPort v p          the set v with port p in it; withoutPort v p: the set v without port p
 -- raise c u             the counts u with one more at port c, at most 65,535; raised l u: at each port of l
 -- openPort c v          the sets v with port c in its interconnect's set; opened l v: with each port of l
--- lower c u             the counts u with one less at port c; lowered l u: at each port of l
+-- lower c u             the counts u with one less at port c
 -- closePort c n v       the sets v without port c where n is 0
--- closed l u v          the sets v without those ports of l of which the count in u, less one, is 0
 use Prim.Native.Nat.{ℕ, zero, suc, _+_, _-_, _/_, _%_, _^_, min}
 use mathlib.Core.List.{List, [], _∷_}
 use lib.ListN.{getD, set, take, drop}
@@ -59,13 +58,5 @@ opened (c ∷ l) v = opened l (openPort c v)
 abbrev pub lower : ℕ → List ℕ → List ℕ
 lower c u = set u c (getD u c 0 - 1)
 
-unfoldable pub lowered : List ℕ → List ℕ → List ℕ
-lowered [] u = u
-lowered (c ∷ l) u = lowered l (lower c u)
-
 abbrev pub closePort : ℕ → ℕ → List ℕ → List ℕ
 closePort c n v = set v (c / 8) (pick (eqb n 0) (withoutPort (getD v (c / 8) 0) (c % 8)) (getD v (c / 8) 0))
-
-unfoldable pub closed : List ℕ → List ℕ → List ℕ → List ℕ
-closed [] u v = v
-closed (c ∷ l) u v = closed l (lower c u) (closePort c (getD u c 0 - 1) v)

@@ -1,30 +1,17 @@
-// The counts and the live ports brought up to date along a path, from a port up to the root.
+// The counts and the live ports brought up to date where one more waits: along a path, from a port up to the root.
 use crate::LIVE;
 use crate::PARENT_PORT;
-use rules::less_one;
 ghost use mathlib.Core.Path.{_≡_};
-ghost use Prim.Native.Nat.{_+_, _%_, _-_, min};
-ghost use lib.Dec.{eqb};
-ghost use Rattle.folds.specs.Fold.{pick};
+ghost use Prim.Native.Nat.{_+_, _%_, min};
 ghost use lib.ListN.{take};
 ghost use Rattle.counts.specs.Table.{parentPorts};
-ghost use Rattle.counts.specs.Counts.{lives, up, withPort, withoutPort, raised, opened, lowered, closed};
+ghost use Rattle.counts.specs.Counts.{lives, up, withPort, raised, opened};
 
 // The set with port p in it.
 fn with_port(set: u8, p: u8) -> u8
     ensures { λ r. ⌜ r ≡ withPort set (p % 8) ⌝ }
 {
     set | (1 << (p % 8))
-}
-
-// The set without port p where nothing waits under it any longer.
-fn if_waiting(set: u8, p: u8, waiting: u16) -> u8
-    ensures { λ r. ⌜ r ≡ pick (eqb waiting 0) (withoutPort set (p % 8)) set ⌝ }
-{
-    if waiting == 0 {
-        return set & (255 - (1 << (p % 8)));
-    }
-    set
 }
 
 // The count with one more, at most 65,535.
@@ -35,13 +22,6 @@ fn one_more(waiting: u16) -> u16
         return waiting;
     }
     waiting + 1
-}
-
-// The count with one less, 0 for 0.
-fn one_less(waiting: u16) -> u16
-    ensures { λ r. ⌜ r ≡ waiting - 1 ⌝ }
-{
-    less_one(waiting as u32) as u16
 }
 
 // A port's number as an index.
@@ -66,31 +46,6 @@ pub fn add_along(table: &[u16; 246], place: u16, under: &mut [u16; 120], turns: 
         let j = c / 8;
         under[c] = one_more(under[c]);
         turns[LIVE + j] = with_port(turns[LIVE + j], (c % 8) as u8);
-        if j == 0 {
-            return;
-        }
-        c = wide(table[PARENT_PORT + j]);
-        left -= 1;
-    }
-}
-
-// One less waits under the ports from `place` up to the root.
-pub fn take_along(table: &[u16; 246], place: u16, under: &mut [u16; 120], turns: &mut [u8; 45])
-    ensures counts { λ _. ⌜ now (under .exit) ≡ lowered (up 4 (parentPorts (now (table .entry))) place) (now (under .entry)) ⌝ }
-    ensures sets { λ _. ⌜ lives (now (turns .exit))
-        ≡ closed (up 4 (parentPorts (now (table .entry))) place) (now (under .entry)) (lives (now (turns .entry))) ⌝ }
-    ensures rest { λ _. ⌜ take 30 (now (turns .exit)) ≡ take 30 (now (turns .entry)) ⌝ }
-{
-    let mut c = place as usize;
-    let mut left: u8 = 4;
-    while 0 < left {
-        if 119 < c {
-            return;
-        }
-        let j = c / 8;
-        let waiting = one_less(under[c]);
-        under[c] = waiting;
-        turns[LIVE + j] = if_waiting(turns[LIVE + j], (c % 8) as u8, waiting);
         if j == 0 {
             return;
         }

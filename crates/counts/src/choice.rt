@@ -9,10 +9,11 @@ use turns::Turn;
 use turns::grant;
 use turns::next_port;
 ghost use mathlib.Core.Path.{_≡_};
-ghost use Prim.Native.Nat.{_+_, _-_, _<_, min};
-ghost use lib.ListN.{set};
-ghost use Rattle.counts.specs.Counts.{lives};
-ghost use Rattle.counts.specs.Choice.{countAt, carriedAt, turnOn, choiceIn, chooseIn};
+ghost use Prim.Native.Nat.{_<_, _-_, _%_, min};
+ghost use lib.Dec.{eqb};
+ghost use Rattle.folds.specs.Fold.{pick};
+ghost use Rattle.counts.specs.Counts.{withoutPort};
+ghost use Rattle.counts.specs.Choice.{portsIn, countAt, turnOn, pass, choice, chooseOn};
 
 // What waits under port p of interconnect j; nothing under a port past the eighth.
 fn count_at(under: &[u16; 120], j: u8, p: u8) -> u16
@@ -25,17 +26,6 @@ fn count_at(under: &[u16; 120], j: u8, p: u8) -> u16
     under[j as usize * 8 + p as usize]
 }
 
-// What port p of interconnect j carries; a port past the eighth is empty.
-fn carried_at(table: &[u16; 246], j: u8, p: u8) -> u16
-    requires { ⌜ j < 15 ⌝ }
-    ensures { λ r. ⌜ r ≡ carriedAt (now (table .entry)) j p ⌝ }
-{
-    if 7 < p {
-        return EMPTY;
-    }
-    table[j as usize * 8 + p as usize]
-}
-
 // A granularity as a byte, at most 255.
 fn byte_of(granularity: u16) -> u8
     ensures { λ r. ⌜ r ≡ min 255 granularity ⌝ }
@@ -44,6 +34,23 @@ fn byte_of(granularity: u16) -> u8
         return 255;
     }
     granularity as u8
+}
+
+// The set without port p where nothing waits under it any longer.
+fn if_waiting(set: u8, p: u8, waiting: u16) -> u8
+    ensures { λ r. ⌜ r ≡ pick (eqb waiting 0) (withoutPort set (p % 8)) set ⌝ }
+{
+    if waiting == 0 {
+        return set & (255 - (1 << (p % 8)));
+    }
+    set
+}
+
+// The count with one less, 0 for 0.
+fn one_less(waiting: u16) -> u16
+    ensures { λ r. ⌜ r ≡ waiting - 1 ⌝ }
+{
+    less_one(waiting as u32) as u16
 }
 
 // The turn of interconnect j: its last port goes on where its allowance is above 0, else the next live port has it.
@@ -64,43 +71,60 @@ fn turn_of(under: &[u16; 120], j: u8, granularity: u8, set: u8, last: u8, allowa
     }
 }
 
-// Takes one off the allowance of the turn at interconnect j.
-fn take_turn(turns: &mut [u8; 45], j: u8, port: u8, left: u8)
-    requires { ⌜ j < 15 ⌝ }
-    ensures { λ _. ⌜ now (turns .exit) ≡ set (set (now (turns .entry)) j port) (15 + j) (left - 1) ⌝ }
+// One transaction passes interconnect j in its turn: it waits no longer under the turn's port, and one is taken off the allowance.
+fn pass_down(j: u8, turn: Turn, under: &mut [u16; 120], turns: &mut [u8; 45])
+    requires { ⌜ (j < 15) × (turn .port < 8) ⌝ }
+    ensures { λ _. ⌜ portsIn (now (under .exit)) (now (turns .exit)) ≡ pass j turn (portsIn (now (under .entry)) (now (turns .entry))) ⌝ }
 {
     let i = j as usize;
-    turns[i] = port;
-    turns[ALLOWANCE + i] = less_one(left as u32) as u8;
+    let c = i * 8 + turn.port as usize;
+    let left = one_less(under[c]);
+    under[c] = left;
+    turns[LIVE + i] = if_waiting(turns[LIVE + i], turn.port, left);
+    turns[i] = turn.port;
+    turns[ALLOWANCE + i] = less_one(turn.allowance as u32) as u8;
 }
 
 // The choice from interconnect j, over at most `levels` levels: the accelerator served, 255 for none, where an empty port
-// leads. The turn of each interconnect on the way down is taken there.
-pub fn choose(table: &[u16; 246], under: &[u16; 120], levels: u8, j: u8, turns: &mut [u8; 45]) -> u8
-    ensures chosen { λ r. ⌜ choiceIn r (now (turns .exit)) ≡ chooseIn levels (now (table .entry)) (now (under .entry)) j (now (turns .entry)) ⌝ }
-    ensures sets { λ r. ⌜ lives (now (turns .exit)) ≡ lives (now (turns .entry)) ⌝ }
+// leads. One transaction passes each interconnect on the way down.
+pub fn choose(
+    table: &[u16; 246],
+    levels: u8,
+    j: u8,
+    under: &mut [u16; 120],
+    turns: &mut [u8; 45],
+) -> u8
+    ensures { λ r. ⌜ choice r (portsIn (now (under .exit)) (now (turns .exit)))
+        ≡ chooseOn levels (now (table .entry)) j (portsIn (now (under .entry)) (now (turns .entry))) ⌝ }
 {
     let i = j as usize;
     if (levels == 0) | (14 < i) {
         return 255;
     }
-    let granularity = byte_of(table[GRANULARITY + i]);
     let turn = turn_of(
         under,
         j,
-        granularity,
+        byte_of(table[GRANULARITY + i]),
         turns[LIVE + i],
         turns[i],
         turns[ALLOWANCE + i],
     );
-    let carried = carried_at(table, j, turn.port);
-    take_turn(turns, j, turn.port, turn.allowance);
+    if 7 < turn.port {
+        return 255;
+    }
+    let carried = table[i * 8 + turn.port as usize];
+    pass_down(j, turn, under, turns);
     if carried < INTERCONNECTS {
         return carried as u8;
     }
     if EMPTY <= carried {
         return 255;
     }
-    let below = (carried - INTERCONNECTS) as u8;
-    choose(table, under, levels - 1, below, turns)
+    choose(
+        table,
+        levels - 1,
+        (carried - INTERCONNECTS) as u8,
+        under,
+        turns,
+    )
 }

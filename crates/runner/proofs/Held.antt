@@ -30,6 +30,14 @@ by-answer Q (refused n) y z p q = q (λ e. clash cc)
 pub either : {A : Type 0} (Q : A → Type 0) (x : Answer) (y z : A) → Q y → Q z → Q (onAdmitted x y z)
 either Q x y z p q = by-answer Q x y z (λ _. p) (λ _. q)
 
+-- both of two ways after an offer that answers the same
+pub alike : {A B : Type 0} (Q : A → B → Type 0) (x y : Answer) (p o : A) (q d : B) → y ≡ x → (y ≡ admitted → Q p q) → Q o d
+    → Q (onAdmitted x p o) (onAdmitted y q d)
+alike Q admitted y p o q d e f g = subst (λ (z : Answer). Q p (onAdmitted z q d)) (sym e) (f e)
+alike Q (served a) y p o q d e f g = subst (λ (z : Answer). Q o (onAdmitted z q d)) (sym e) g
+alike Q idle y p o q d e f g = subst (λ (z : Answer). Q o (onAdmitted z q d)) (sym e) g
+alike Q (refused n) y p o q d e f g = subst (λ (z : Answer). Q o (onAdmitted z q d)) (sym e) g
+
 -- offers leave what they do not name
 held-same : {A : Type 0} (f : State → A) (t : Tree) → ((s : State) (a : ℕ) → f (offered t s a .state) ≡ f s) → (k : ℕ) (o : Offering) (a : ℕ)
     → f (offerHeld k t o a .state) ≡ f (o .state)

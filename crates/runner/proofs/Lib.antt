@@ -1,5 +1,6 @@
 pub mod Held
 pub mod Due
+pub mod Ready
 pub mod Trace
 pub mod Slots
 pub mod Telling
@@ -8,6 +9,7 @@ pub mod Laws
 pub mod Asked
 pub mod Parts
 pub mod Settled
+pub mod First
 pub mod Service
 pub mod Returns
 pub mod Stored

@@ -9,13 +9,10 @@ use lib.ListN.{length, getD, take, drop, set, replicate, length-drop}
 use lib.Seq.{getD-take, getD-drop, take-set-le, take-set-lt, drop-set-lt, drop-set-add, take-suc-set, take-suc, drop-drop}
 use Rattle.trace.specs.declared.Request.{Request}
 use Rattle.folds.specs.Fold.{pick}
-use Rattle.counts.specs.Table.{parentPorts}
-use Rattle.counts.specs.Counts.{lasts, allowances, lives, up, lowered, closed}
-use Rattle.counts.specs.Choice.{Choice, choice}
 use Rattle.admit.specs.Admitting.{arraysOf, outstandings, admitteds, helds}
 use Rattle.admit.proofs.Kept.{first-kept, second-kept}
 use Rattle.admit.proofs.Offers.{arrays-same}
-use Rattle.runner.specs.Arrays.{turnedOn, takeOn, openOn, homeOn, withHeld}
+use Rattle.runner.specs.Arrays.{openOn, homeOn, withHeld}
 use Rattle.runner.specs.Due.{holdOn}
 
 -- a list of equal numbers with one more at its end
@@ -78,20 +75,3 @@ due-arrays b b₁ c r h e k = arrays-same _ _ (first-kept 32 32 b₁ b k) (secon
 pub opened-arrays : (b b₁ c r : List ℕ) (q : Bool) → outstandings b₁ ≡ outstandings b
     → admitteds b₁ ≡ pick q (replicate 32 0) (admitteds b) → helds b₁ ≡ helds b → arraysOf b₁ c r ≡ openOn q (arraysOf b c r)
 opened-arrays b b₁ c r q e f g = arrays-same _ _ e f g refl refl refl refl
-
--- the choice is made, and its turns are stored
-pub turned-arrays : (b c r r₁ : List ℕ) (a : ℕ) (x : Choice) → choice a (lasts r₁) (allowances r₁) ≡ x → lives r₁ ≡ lives r
-    → arraysOf b c r₁ ≡ turnedOn x (arraysOf b c r)
-turned-arrays b c r r₁ a x e f =
-    arrays-same _ _ refl refl refl refl f (ap (λ (y : Choice). y .last) e) (ap (λ (y : Choice). y .allowance) e)
-
--- one transaction of accelerator a is served, and its path brought up to date
-pub taken-arrays : (w b c c₁ r r₁ : List ℕ) (a : ℕ)
-    → c₁ ≡ lowered (up 4 (parentPorts w) (getD w (150 + a) 0)) c
-    → lives r₁ ≡ closed (up 4 (parentPorts w) (getD w (150 + a) 0)) c (lives r) → take 30 r₁ ≡ take 30 r
-    → arraysOf b c₁ r₁ ≡ takeOn w a (arraysOf b c r)
-taken-arrays w b c c₁ r r₁ a f g k =
-    let port = sym (getD-drop 150 w a 0) in
-    arrays-same _ _ refl refl refl
-    (f ∙ ap (λ (i : ℕ). lowered (up 4 (parentPorts w) i) c) port) (g ∙ ap (λ (i : ℕ). closed (up 4 (parentPorts w) i) c (lives r)) port)
-    (first-kept 15 15 r₁ r k) (second-kept 15 15 r₁ r k)

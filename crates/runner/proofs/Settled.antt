@@ -3,7 +3,7 @@
 use Prim.Native.Nat.{ℕ, zero, suc, _+_, _-_, _≤_, _<_}
 use mathlib.Core.Bool.{true}
 use mathlib.Core.List.{List}
-use mathlib.Core.Path.{_≡_, refl, sym, _∙_, ap, ap₂, subst}
+use mathlib.Core.Path.{_≡_, refl, sym, _∙_, ap₂, subst}
 use native.Mathlib.Decide.{decLt, ℕ-discrete}
 use native.Mathlib.Omega.{arith}
 use lib.ListN.{getD, length, List·getD-eq-default}
@@ -31,19 +31,19 @@ not-past : (l : List ℕ) (i : ℕ) → 0 < getD l i 0 → i < length l
 not-past l i h = elim (decLt i (length l)) [ yes b ↦ b | no d ↦ absurd (omega (arith, List·getD-eq-default l 0 {n = i} (omega arith))) ]
 
 -- accelerator a has the same record and held count in p as in o
-record Leaves (o p : Offering) (a : ℕ) : Type 0 where
-  outstanding : outstandingOf (p .state) a ≡ outstandingOf (o .state) a
-  admitted : admittedOf (p .state) a ≡ admittedOf (o .state) a
-  held : heldOf (p .held) a ≡ heldOf (o .held) a
+pub record Leaves (o p : Offering) (a : ℕ) : Type 0 where
+  pub outstanding : outstandingOf (p .state) a ≡ outstandingOf (o .state) a
+  pub admitted : admittedOf (p .state) a ≡ admittedOf (o .state) a
+  pub held : heldOf (p .held) a ≡ heldOf (o .held) a
 
 module _ (t : Tree) where
-  idles-still : (o p : Offering) (a : ℕ) → keeps t (o .state) ≡ true → keeps t (p .state) ≡ true → Leaves o p a
+  pub idles-still : (o p : Offering) (a : ℕ) → keeps t (o .state) ≡ true → keeps t (p .state) ≡ true → Leaves o p a
       → Idles t (o .state) (o .held) a → Idles t (p .state) (p .held) a
   idles-still o p a k l L e h f =
       e (omega (arith, L .held)) (offer-own t t (o .state) (p .state) a k l refl refl (sym (L .outstanding)) (sym (L .admitted)) ∙ f)
 
   -- the offers of a leave the record of any other
-  for-others : (k : ℕ) (o : Offering) (a b : ℕ) → (b ≡ a → ⊥) → Leaves o (offerHeld k t o a) b
+  pub for-others : (k : ℕ) (o : Offering) (a b : ℕ) → (b ≡ a → ⊥) → Leaves o (offerHeld k t o a) b
   unfolding offerHeld
   for-others zero o a b d = record { outstanding = refl; admitted = refl; held = refl }
   for-others (suc k) o a b d =
@@ -59,7 +59,7 @@ module _ (t : Tree) where
       (record { outstanding = refl; admitted = refl; held = refl })
 
   -- and after all of them it idles
-  for-idles : (k : ℕ) (o : Offering) (a : ℕ) → heldOf (o .held) a ≡ k → Idles t (offerHeld k t o a .state) (offerHeld k t o a .held) a
+  pub for-idles : (k : ℕ) (o : Offering) (a : ℕ) → heldOf (o .held) a ≡ k → Idles t (offerHeld k t o a .state) (offerHeld k t o a .held) a
   unfolding offerHeld
   for-idles zero o a e = λ h. absurd (omega arith)
   for-idles (suc k) o a e =
@@ -69,7 +69,7 @@ module _ (t : Tree) where
       (λ d _. d)
 
   -- one that idles offers nothing
-  for-none : (k : ℕ) (o : Offering) (a : ℕ) → heldOf (o .held) a ≡ k → Idles t (o .state) (o .held) a → offerHeld k t o a ≡ o
+  pub for-none : (k : ℕ) (o : Offering) (a : ℕ) → heldOf (o .held) a ≡ k → Idles t (o .state) (o .held) a → offerHeld k t o a ≡ o
   unfolding offerHeld
   for-none zero o a e i = refl
   for-none (suc k) o a e i =
@@ -91,37 +91,22 @@ module _ (t : Tree) where
               (each-idles n (omega arith) a (omega arith))
         ]
 
-    module _ (x : ℕ) (S : Settled t s h x) where
-      each-before : (n : ℕ) → n ≤ t .accs → n ≤ x → offerEach n t (offering s h) ≡ offering s h
-      unfolding offerEach
-      each-before zero l b = refl
-      each-before (suc n) l b =
-          ap (λ (p : Offering). offerAll t p n) (each-before n (omega arith) (omega arith))
-          ∙ for-none (heldOf h n) (offering s h) n refl (S n (omega arith) (λ e. omega arith))
+    -- the offers of those below leave the record of the next
+    each-leaves : (n a : ℕ) → n ≤ a → Leaves (offering s h) (offerEach n t (offering s h)) a
+    unfolding offerEach
+    each-leaves zero a l = record { outstanding = refl; admitted = refl; held = refl }
+    each-leaves (suc n) a l =
+        let o = offerEach n t (offering s h) in
+        let L = each-leaves n a (omega arith) in
+        let M = for-others (heldOf (o .held) n) o n a (λ e. omega arith) in
+        record { outstanding = M .outstanding ∙ L .outstanding; admitted = M .admitted ∙ L .admitted; held = M .held ∙ L .held }
 
-      each-past : (n : ℕ) → n ≤ t .accs → x < n → offerEach n t (offering s h) ≡ offerAll t (offering s h) x
-      unfolding offerEach
-      each-past zero l b = absurd (omega arith)
-      each-past (suc n) l b = elim (ℕ-discrete n x) [
-        | yes e ↦
-            ap (λ (p : Offering). offerAll t p n) (each-before n (omega arith) (omega arith)) ∙ ap (offerAll t (offering s h)) e
-        | no d ↦
-            let p = offerAll t (offering s h) x in
-            ap (λ (q : Offering). offerAll t q n) (each-past n (omega arith) (omega arith))
-            ∙ for-none (heldOf (p .held) n) p n refl
-            (idles-still (offering s h) p n k (held-kept (heldOf h x) t (offering s h) x k) (for-others (heldOf h x) (offering s h) x n d)
-            (S n (omega arith) d))
-      ]
-
--- all of x's offers are all the offers there are
-pub settled-one : (t : Tree) (s : State) (h : List ℕ) (x : ℕ) → keeps t s ≡ true → Settled t s h x → x < t .accs
-    → offerEach (t .accs) t (offering s h) ≡ offerAll t (offering s h) x
-settled-one t s h x k S l = each-past t s h k x S (t .accs) (omega arith) l
-
--- and where x is no accelerator, there are none
-pub settled-none : (t : Tree) (s : State) (h : List ℕ) (x : ℕ) → keeps t s ≡ true → Settled t s h x → t .accs ≤ x
-    → offerEach (t .accs) t (offering s h) ≡ offering s h
-settled-none t s h x k S l = each-before t s h k x S (t .accs) (omega arith) l
+    -- so one that idles offers nothing in its turn
+    pub each-none : (n : ℕ) → Idles t s h n → offerAll t (offerEach n t (offering s h)) n ≡ offerEach n t (offering s h)
+    each-none n i =
+        let o = offerEach n t (offering s h) in
+        for-none (heldOf (o .held) n) o n refl
+        (idles-still (offering s h) o n k (each-kept n t (offering s h) k) (each-leaves n n (omega arith)) i)
 
 -- once each has offered, no held transaction would be admitted
 pub settled-each : (t : Tree) (s : State) (h : List ℕ) → keeps t s ≡ true → (a : ℕ) → a < t .accs

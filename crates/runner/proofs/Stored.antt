@@ -8,32 +8,34 @@ use native.Mathlib.Decide.{decLt, ℕ-discrete}
 use native.Mathlib.Omega.{arith}
 use lib.Dec.{eqb}
 use lib.ListN.{getD, length, set, length-set}
-use borrow.Author.Tests.{eq-eqb, ne-eqb, eqb-true, lt-ltb, le-ltb}
+use borrow.Author.Tests.{eq-eqb, ne-eqb, eqb-true}
 use Rattle.model.specs.declared.Tree.{Tree}
 use Rattle.model.specs.declared.State.{State}
+use Rattle.folds.specs.Fold.{pick}
 use Rattle.model.specs.Tree.{limitOf, budgetOf, waitingOf, outstandingOf, admittedOf}
 use Rattle.model.specs.Beneath.{inside}
 use Rattle.rules.specs.Rules.{keeps}
-use Rattle.folds.proofs.Folds.{picked, passed, at-all, all-at, clash}
+use Rattle.folds.proofs.Folds.{picked, passed, at-all, all-at}
 use Rattle.rules.proofs.Sound.{Sound, Kept, sound-of, kept-of}
 use Rattle.rules.proofs.Beneath.{root-zero}
 use Rattle.turns.specs.Turns.{who, after}
-use Rattle.machine.specs.Machine.{Answer, Outcome, admitted, served, idle, refused, admit, limitsAnswer, onAdmitted, offered, noneWaits, serve}
-use Rattle.machine.proofs.Cases.{zero-all, Offered, refuses, admits, offer-cases}
+use Rattle.machine.specs.Machine.{admitted, served, idle, admit, limitsAnswer, offered, noneWaits, serve}
+use Rattle.machine.proofs.Cases.{zero-all}
 use Rattle.machine.proofs.Laws.{offer-keeps, offer-verdict}
 use Rattle.machine.proofs.Steps.{verdict-known}
 use Rattle.turns.proofs.Descent.{Choice as Choice-of, choice}
 use Rattle.machine.proofs.Keeps.{stored, admit-waiting, take-waiting}
-use Rattle.counts.specs.Counts.{pathPorts, lowered, closed}
-use Rattle.counts.specs.Choice.{Choice}
+use Rattle.counts.specs.Choice.{ports, Choice}
 use Rattle.counts.proofs.Table.{TableOf}
-use Rattle.counts.proofs.Choosing.{Chosen, chooses}
-use Rattle.counts.proofs.Counted.{Counted, counted-more, counted-less, none-live, weight-small}
+use Rattle.counts.proofs.Choosing.{Matches, Chosen, chooses, passes}
+use Rattle.counts.proofs.Counted.{Counted, counted-more, none-live, weight-small}
 use Rattle.runner.specs.Offers.{Offering, heldOf, release, offering, offerHeld, offerAll, offerEach}
-use Rattle.admit.specs.Admitting.{Arrays, answerOn, offeredOn, offersFor, offersOf, offersBelow, offersBefore}
-use Rattle.admit.proofs.Offers.{on-admitted, offers-known, offers-unknown}
-use Rattle.runner.specs.Arrays.{Slot, slotOn, chosenOn, turnedOn, takeOn, serveOn}
-use Rattle.runner.proofs.Settled.{Settled, settled-one, settled-none}
+use Rattle.admit.specs.Admitting.{Arrays, answerOn, offeredOn, offersFor, offersOf, offersIn, offersBefore}
+use Rattle.admit.proofs.Offers.{on-admitted, offers-known, offers-unknown, in-passes}
+use Rattle.runner.specs.Arrays.{Slot, slotOn, chosenOn, withPorts, serveOn}
+use Rattle.runner.proofs.Settled.{Idles, each-none}
+use Rattle.runner.proofs.First.{admits-one, idles-then, first-past}
+use Rattle.runner.proofs.Held.{alike}
 use Rattle.runner.proofs.Service.{servedFrom, byteFrom}
 
 -- d are the arrays of state s, which keeps its rules, and has what waits under each port there and the live ports
@@ -50,14 +52,6 @@ pub record Stored (t : Tree) (s : State) (d : Arrays) : Type 0 where
 pub record StoredOffering (t : Tree) (x : Offering) (d : Arrays) : Type 0 where
   pub stored : Stored t (x .state) d
   pub held : d .held ≡ x .held
-
--- both ways after an offer that answers the same
-both : {A B : Type 0} (Q : A → B → Type 0) (x y : Answer) (p o : A) (q d : B) → y ≡ x → (y ≡ admitted → Q p q) → Q o d
-    → Q (onAdmitted x p o) (onAdmitted y q d)
-both Q admitted y p o q d e f g = subst (λ (z : Answer). Q p (onAdmitted z q d)) (sym e) (f e)
-both Q (served a) y p o q d e f g = subst (λ (z : Answer). Q o (onAdmitted z q d)) (sym e) g
-both Q idle y p o q d e f g = subst (λ (z : Answer). Q o (onAdmitted z q d)) (sym e) g
-both Q (refused n) y p o q d e f g = subst (λ (z : Answer). Q o (onAdmitted z q d)) (sym e) g
 
 -- the arrays' offers are those of the machine
 module _ (t : Tree) (g : List ℕ) (W : TableOf t g) where
@@ -81,16 +75,9 @@ module _ (t : Tree) (g : List ℕ) (W : TableOf t g) where
           ∙ ap₂ (λ (o m : ℕ). limitsAnswer (limitOf t a) o (budgetOf t a) m) (O .stored .outstanding a la) counts
           ∙ verdict-known t (x .state) a la ∙ sym (offer-verdict t (x .state) a (O .stored .rules))
 
-      admits-one : offered t (x .state) a .answer ≡ admitted → offered t (x .state) a .state ≡ admit (x .state) a
-      admits-one = go (offered t (x .state) a) (offer-cases t (x .state) a)
-        where
-          go : (o : Outcome) → Offered t (x .state) a o → o .answer ≡ admitted → o .state ≡ admit (x .state) a
-          go o (refuses w) e = clash cc
-          go o (admits l h m) e = refl
-
       next-offered : answerOn g a d ≡ admitted → StoredOffering t (offering (offered t (x .state) a .state) (release (x .held) a)) (offeredOn g a d)
       next-offered e =
-          let f = admits-one (sym same-answer ∙ e) in
+          let f = admits-one t (x .state) a (sym same-answer ∙ e) in
           let k : keeps t (admit (x .state) a) ≡ true = subst (λ (s : State). keeps t s ≡ true) f (offer-keeps t (x .state) a (O .stored .rules)) in
           subst₂ (λ (s : State) (b : Arrays). StoredOffering t (offering s (release (x .held) a)) b) (sym f) (sym (on-admitted g a d e))
           (record {
@@ -119,7 +106,7 @@ module _ (t : Tree) (g : List ℕ) (W : TableOf t g) where
     unfolding offerHeld offersFor
     for-offered zero x d O = O
     for-offered (suc k) x d O =
-        both (StoredOffering t) (offered t (x .state) a .answer) (answerOn g a d) _ x _ d (same-answer x d O)
+        alike (StoredOffering t) (offered t (x .state) a .answer) (answerOn g a d) _ x _ d (same-answer x d O)
         (λ e. for-offered k (offering (offered t (x .state) a .state) (release (x .held) a)) (offeredOn g a d) (next-offered x d O e)) O
 
     -- accelerator a has offered
@@ -128,30 +115,41 @@ module _ (t : Tree) (g : List ℕ) (W : TableOf t g) where
         subst (StoredOffering t (offerAll t x a)) (sym (offers-known g a d (known x d O)))
         (subst (λ (h : List ℕ). StoredOffering t (offerAll t x a) (offersFor (getD h a 0) g a d)) (sym (O .held)) (for-offered (heldOf (x .held) a) x d O))
 
-  module _ (x : Offering) (d : Arrays) (O : StoredOffering t x d) where
-    -- the accelerators below n have offered
-    below-offered : (n : ℕ) → n ≤ t .accs → StoredOffering t (offerEach n t x) (offersBelow g n d)
-    unfolding offerEach offersBelow
+  -- the accelerators below n have offered: those of which f does not hold would have none admitted
+  module _ (x : Offering) (d : Arrays) (O : StoredOffering t x d) (f : ℕ → Bool)
+      (idle : (a : ℕ) → a < t .accs → f a ≡ false → Idles t (x .state) (x .held) a) where
+    next-below : (n : ℕ) → n < t .accs → (b : Bool) → f n ≡ b → StoredOffering t (offerEach n t x) (offersIn g f n d)
+        → StoredOffering t (offerAll t (offerEach n t x) n) (pick b (offersOf g n (offersIn g f n d)) (offersIn g f n d))
+    next-below n l true e B = one-offered n l (offerEach n t x) (offersIn g f n d) B
+    next-below n l false e B =
+        subst (λ (o : Offering). StoredOffering t o (offersIn g f n d))
+        (sym (each-none t (x .state) (x .held) (O .stored .rules) n (idle n l e))) B
+
+    below-offered : (n : ℕ) → n ≤ t .accs → StoredOffering t (offerEach n t x) (offersIn g f n d)
+    unfolding offerEach offersIn
     below-offered zero z = O
-    below-offered (suc n) z = one-offered n (omega arith) (offerEach n t x) (offersBelow g n d) (below-offered n (omega arith))
+    below-offered (suc n) z = next-below n (omega arith) (f n) refl (below-offered n (omega arith))
 
-    -- where only accelerator y may have more admitted, its offers are all offers; where y is 255, there are none
-    one-or-none : (y : ℕ) → ((y ≡ 255 → ⊥) → y < t .accs) → Settled t (x .state) (x .held) y
-        → StoredOffering t (offerEach (t .accs) t x) (offersOf g y d)
-    one-or-none y k S = elim (ℕ-discrete y 255) [
+    all-offered : ((a : ℕ) → t .accs ≤ a → f a ≡ false) → StoredOffering t (offerEach (t .accs) t x) (offersIn g f 32 d)
+    all-offered past =
+        subst (StoredOffering t (offerEach (t .accs) t x))
+        (sym (in-passes g f d (t .accs) 32 (sound-of t (x .state) (O .stored .rules) .most-accs) (λ a l _. past a l)))
+        (below-offered (t .accs) (omega arith))
+
+  -- the offers before a slot: accelerator y first, or nobody where it is 255, and then those of which f holds
+  module _ (x : Offering) (d : Arrays) (O : StoredOffering t x d) (y : ℕ) (k : (y ≡ 255 → ⊥) → y < t .accs) (f : ℕ → Bool)
+      (idle : (a : ℕ) → a < t .accs → f a ≡ false → (a ≡ y → ⊥) → Idles t (x .state) (x .held) a)
+      (past : (a : ℕ) → t .accs ≤ a → f a ≡ false) where
+    pub before-offered : StoredOffering t (offerEach (t .accs) t x) (offersBefore g y f d)
+    before-offered = elim (ℕ-discrete y 255) [
       | yes e ↦
-          let l : t .accs ≤ y = omega (arith, sound-of t (x .state) (O .stored .rules) .most-accs) in
-          subst₂ (StoredOffering t) (sym (settled-none t (x .state) (x .held) y (O .stored .rules) S l)) (sym (offers-unknown g y d (omega arith))) O
+          subst (λ (b : Arrays). StoredOffering t (offerEach (t .accs) t x) (offersIn g f 32 b)) (sym (offers-unknown g y d (omega arith)))
+          (all-offered x d O f (λ a l q. idle a l q (λ i. omega (arith, sound-of t (x .state) (O .stored .rules) .most-accs))) past)
       | no n ↦
-          subst (λ (o : Offering). StoredOffering t o (offersOf g y d)) (sym (settled-one t (x .state) (x .held) y (O .stored .rules) S (k n)))
-          (one-offered y (k n) x d O)
+          subst (λ (o : Offering). StoredOffering t o (offersBefore g y f d)) (first-past t x y (O .stored .rules) (t .accs) (k n))
+          (all-offered (offerAll t x y) (offersOf g y d) (one-offered y (k n) x d O) f
+          (λ a l q. idles-then t x y (O .stored .rules) a (idle a l q)) past)
     ]
-
-    -- the offers before a slot
-    pub before-offered : (e : Bool) (y : ℕ) → ((y ≡ 255 → ⊥) → y < t .accs) → (e ≡ false → Settled t (x .state) (x .held) y)
-        → StoredOffering t (offerEach (t .accs) t x) (offersBefore g e y (t .accs) d)
-    before-offered true y k f = below-offered (t .accs) (omega arith)
-    before-offered false y k f = one-or-none y k (f refl)
 
 -- nothing waits exactly if no port of the root is live
 module _ (t : Tree) (s : State) (k : keeps t s ≡ true) (c v : List ℕ) (C : Counted t (waitingOf s) c v) where
@@ -191,19 +189,9 @@ module _ (w : List ℕ) (d : Arrays) where
   unfolding serveOn
   serve-none e = sym (picked _ _ _ (eq-eqb _ _ e))
 
-  module _ (e : getD (d .live) 0 0 ≡ 0 → ⊥) where
-    pub serve-unknown : (x : Choice) → x ≡ chosenOn w d → 31 < x .served → slotOn 255 (turnedOn x d) ≡ serveOn w d
-    unfolding serveOn
-    serve-unknown x f h =
-        ap (λ (z : Choice). slotOn 255 (turnedOn z d)) f
-        ∙ sym (passed _ _ _ (ne-eqb _ _ e) ∙ picked _ _ _ (lt-ltb _ _ (subst (λ (z : Choice). 31 < z .served) f h)))
-
-    pub serve-known : (x : Choice) → x ≡ chosenOn w d → x .served < 32 → slotOn (x .served) (takeOn w (x .served) (turnedOn x d)) ≡ serveOn w d
-    unfolding serveOn
-    serve-known x f h =
-        let g : chosenOn w d .served < 32 = subst (λ (z : Choice). z .served < 32) f h in
-        ap (λ (z : Choice). slotOn (z .served) (takeOn w (z .served) (turnedOn z d))) f
-        ∙ sym (passed _ _ _ (ne-eqb _ _ e) ∙ passed _ _ _ (le-ltb 31 (chosenOn w d .served) (omega arith)))
+  pub serve-some : (getD (d .live) 0 0 ≡ 0 → ⊥) → (x : Choice) → x ≡ chosenOn w d → slotOn (x .served) (withPorts (x .ports) d) ≡ serveOn w d
+  unfolding serveOn
+  serve-some e x f = ap (λ (z : Choice). slotOn (z .served) (withPorts (z .ports) d)) f ∙ sym (passed _ _ _ (ne-eqb _ _ e))
 
 -- x is what the slot comes to from state s and its arrays d
 pub record StoredSlot (t : Tree) (s : State) (d : Arrays) (x : Slot) : Type 0 where
@@ -237,14 +225,13 @@ module _ (t : Tree) (g : List ℕ) (W : TableOf t g) (s : State) (d : Arrays) (R
     turn : Choice-of t s (who 4 t s 0) (after 4 t s 0)
     turn = choice t (sound-of t s (R .rules)) s (kept-of t s (R .rules)) inner
 
+    matches : Matches t s g (ports (d .under) (d .live) (d .last) (d .allowance))
+    matches = record { rules = R .rules; table = W; counts = R .counts; last = R .last; allowance = R .allowance }
+
     chosen : Chosen t s 4 0 (chosenOn g d)
-    chosen = chooses t s g (d .under) (d .live) (d .last) (d .allowance)
-        (record { rules = R .rules; table = W; counts = R .counts; last = R .last; allowance = R .allowance }) 4 0 (sound-of t s (R .rules) .some-ints) inner
+    chosen = chooses t s g (ports (d .under) (d .live) (d .last) (d .allowance)) matches 4 0 (sound-of t s (R .rules) .some-ints) inner
 
-    chosen-known : chosenOn g d .served < 32
-    chosen-known = omega (arith, chosen .served, turn .acc, sound-of t s (R .rules) .most-accs)
-
-    served-one : StoredSlot t s d (slotOn (chosenOn g d .served) (takeOn g (chosenOn g d .served) (turnedOn (chosenOn g d) d)))
+    served-one : StoredSlot t s d (slotOn (chosenOn g d .served) (withPorts (chosenOn g d .ports) d))
     served-one =
         let z = some-live t s (R .rules) (d .under) (d .live) (R .counts) e in
         let same : servedFrom t s ≡ serve t s = passed _ _ _ z in
@@ -255,14 +242,14 @@ module _ (t : Tree) (g : List ℕ) (W : TableOf t g) (s : State) (d : Arrays) (R
           held = refl;
           last = chosen .last ∙ sym (ap (λ (x : State). x .last) same);
           allowance = chosen .allowance ∙ sym (ap (λ (x : State). x .allowance) same);
-          counts = subst₂ (λ (x : State) (a : ℕ). Counted t (waitingOf x) (lowered (pathPorts g a) (d .under)) (closed (pathPorts g a) (d .under) (d .live))) (sym same) (sym (chosen .served))
-              (counted-less t (sound-of t s (R .rules)) g W (who 4 t s 0) (turn .acc) (waitingOf s) (waitingOf (serve t s))
-              (take-waiting t (sound-of t s (R .rules)) s (kept-of t s (R .rules)) (who 4 t s 0) (after 4 t s 0) turn) (d .under) (d .live) (R .counts));
+          counts = subst (λ (x : State). Counted t (waitingOf x) (chosenOn g d .ports .under) (chosenOn g d .ports .live)) (sym same)
+              (passes t s g (ports (d .under) (d .live) (d .last) (d .allowance)) matches inner (waitingOf (serve t s))
+              (take-waiting t (sound-of t s (R .rules)) s (kept-of t s (R .rules)) (who 4 t s 0) (after 4 t s 0) turn) (turn .acc));
         }
 
   -- the service on the arrays of a state is that of the definition
   pub serves : StoredSlot t s d (serveOn g d)
   serves = elim (ℕ-discrete (getD (d .live) 0 0) 0) [
     | yes e ↦ subst (StoredSlot t s d) (serve-none g d e) (served-none e)
-    | no e ↦ subst (StoredSlot t s d) (serve-known g d e (chosenOn g d) refl (chosen-known e)) (served-one e)
+    | no e ↦ subst (StoredSlot t s d) (serve-some g d e (chosenOn g d) refl) (served-one e)
   ]

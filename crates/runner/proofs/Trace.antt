@@ -24,7 +24,7 @@ use Rattle.runner.specs.Offers.{heldOf}
 use Rattle.runner.specs.Run.{hold, heldWith, leftAfter}
 use Rattle.runner.specs.declared.NextLine.{NextLine}
 use Rattle.runner.specs.Places.{leftAt, Accepts}
-use Rattle.runner.specs.Due.{lineAt, Taken, taken, holdOn, dueFrom, dueOn}
+use Rattle.runner.specs.Due.{lineAt, Taken, taken, holdOn, joinOn, dueOn}
 use Rattle.runner.proofs.Due.{found, left, left-none, left-later, left-step, on-none, on-some}
 
 -- the slot of the first line of rs; none is due in any slot of a run where no line is left
@@ -157,38 +157,38 @@ module _ (n : ℕ) (s : List ℕ) (h₀ : List ℕ) (at₀ : ℕ) where
     pub held : heldWith n h₀ (leftAt s at₀) ≡ heldWith n h (leftAt s at)
     pub left : leftAfter n (leftAt s at₀) ≡ leftAfter n (leftAt s at)
 
-  ends : (h : List ℕ) (at n′ : ℕ) → Taking h at → n′ ≤ dueOf (leftAt s at)
-      → (heldWith n h (leftAt s at) ≡ h) × (leftAfter n (leftAt s at) ≡ leftAt s at) → NextOf n s h₀ at₀ (taken h (lineAt at n′))
-  ends h at n′ T d e = record {
+  ends : (h : List ℕ) (z at n′ : ℕ) → Taking h at → n′ ≤ dueOf (leftAt s at)
+      → (heldWith n h (leftAt s at) ≡ h) × (leftAfter n (leftAt s at) ≡ leftAt s at) → NextOf n s h₀ at₀ (taken h z (lineAt at n′))
+  ends h z at n′ T d e = record {
     held = sym (T .held ∙ e .0);
     left = sym (T .left ∙ e .1);
     line = record { accepts = T .accepts; room = T .room; due = d };
   }
 
-  all-taken : (h : List ℕ) (at : ℕ) → Taking h at → length s ≤ at → NextOf n s h₀ at₀ (taken h (lineAt at lastSlot))
-  all-taken h at T l =
+  all-taken : (h : List ℕ) (z at : ℕ) → Taking h at → length s ≤ at → NextOf n s h₀ at₀ (taken h z (lineAt at lastSlot))
+  all-taken h z at T l =
       let e = walk-end s at l .1 in
-      ends h at lastSlot T (subst (λ (rs : List Request). lastSlot ≤ dueOf rs) (sym e) (omega arith)) (none-due n h (leftAt s at) e)
+      ends h z at lastSlot T (subst (λ (rs : List Request). lastSlot ≤ dueOf rs) (sym e) (omega arith)) (none-due n h (leftAt s at) e)
 
   -- one line of the walk; what follows a request that is due is left to the caller
-  walk-one : (h : List ℕ) (at : ℕ) → Taking h at → (q : NextRequest) → requestAt s at ≡ q
-      → ((r : Request) (p : ℕ) → Next s at r p → Taking (hold h r) p → NextOf n s h₀ at₀ (left n s p (hold h r)))
-      → NextOf n s h₀ at₀ (left n s at h)
-  walk-one h at T Done e f = elim (decLt at (length s)) [
+  walk-one : (h : List ℕ) (z at : ℕ) → Taking h at → (q : NextRequest) → requestAt s at ≡ q
+      → ((r : Request) (p : ℕ) → Next s at r p → Taking (hold h r) p → NextOf n s h₀ at₀ (left n s p (hold h r) (joinOn z r)))
+      → NextOf n s h₀ at₀ (left n s at h z)
+  walk-one h z at T Done e f = elim (decLt at (length s)) [
     | yes l ↦ absurd (line-some s at (T .accepts) l e)
-    | no d ↦ subst (NextOf n s h₀ at₀) (sym (left-none n s at h e)) (all-taken h at T (omega arith))
+    | no d ↦ subst (NextOf n s h₀ at₀) (sym (left-none n s at h z e)) (all-taken h z at T (omega arith))
   ]
-  walk-one h at T (Due r p) e f =
+  walk-one h z at T (Due r p) e f =
       let F = found s at r p e in
       let N = line-next s at (T .accepts) (omega (arith, F .later, F .inside)) r p e in
       elim (decLt n (r .slot)) [
         | yes l ↦
-            subst (NextOf n s h₀ at₀) (sym (left-later n s at h r p e l))
-            (ends h at (r .slot) T (subst (λ (rs : List Request). r .slot ≤ dueOf rs) (sym (N .left)) (omega arith)) (later-due n h (leftAt s at) (leftAt s p) r (N .left) l))
+            subst (NextOf n s h₀ at₀) (sym (left-later n s at h z r p e l))
+            (ends h z at (r .slot) T (subst (λ (rs : List Request). r .slot ≤ dueOf rs) (sym (N .left)) (omega arith)) (later-due n h (leftAt s at) (leftAt s p) r (N .left) l))
         | no d ↦
             let m = now-due n h (leftAt s at) (leftAt s p) r (N .left) (omega arith) in
             let fits = hold-same h at r (T .room) (omega (arith, T .accepts .inside, T .accepts .short)) (omega (arith, F .few)) in
-            subst (NextOf n s h₀ at₀) (sym (left-step n s at h r p e (omega arith) ∙ ap (left n s p) fits))
+            subst (NextOf n s h₀ at₀) (sym (left-step n s at h z r p e (omega arith) ∙ ap (λ (l : List ℕ). left n s p l (joinOn z r)) fits))
             (f r p N
             (record {
               accepts = N .accepts;
@@ -198,9 +198,9 @@ module _ (n : ℕ) (s : List ℕ) (h₀ : List ℕ) (at₀ : ℕ) where
             }))
       ]
 
-  walked : (k : ℕ) (h : List ℕ) (at : ℕ) → length s - at ≤ k → Taking h at → NextOf n s h₀ at₀ (left n s at h)
-  walked zero h at m T = subst (NextOf n s h₀ at₀) (sym (left-none n s at h (walk-end s at (omega arith) .0))) (all-taken h at T (omega arith))
-  walked (suc k) h at m T = walk-one h at T (requestAt s at) refl (λ r p N T₁. walked k (hold h r) p (omega (arith, N .later)) T₁)
+  walked : (k : ℕ) (h : List ℕ) (z at : ℕ) → length s - at ≤ k → Taking h at → NextOf n s h₀ at₀ (left n s at h z)
+  walked zero h z at m T = subst (NextOf n s h₀ at₀) (sym (left-none n s at h z (walk-end s at (omega arith) .0))) (all-taken h z at T (omega arith))
+  walked (suc k) h z at m T = walk-one h z at T (requestAt s at) refl (λ r p N T₁. walked k (hold h r) (joinOn z r) p (omega (arith, N .later)) T₁)
 
 -- before the slot of the next line none is due
 pub not-due : (n : ℕ) (h : List ℕ) (rs : List Request) → n < dueOf rs → (heldWith n h rs ≡ h) × (leftAfter n rs ≡ rs)
@@ -216,5 +216,5 @@ due-taken n s h x A = elim (decLt n (x .due)) [
       subst (NextOf n s h (x .at)) (sym (on-none n s x h l)) (record { held = sym (e .0); left = sym (e .1); line = A })
   | no d ↦
       subst (NextOf n s h (x .at)) (sym (on-some n s x h (omega arith)))
-      (walked n s h (x .at) (length s) h (x .at) (omega arith) (record { accepts = A .accepts; room = A .room; held = refl; left = refl }))
+      (walked n s h (x .at) (length s) h 0 (x .at) (omega arith) (record { accepts = A .accepts; room = A .room; held = refl; left = refl }))
 ]

@@ -1,5 +1,5 @@
 -- A loop over the two calls of a slot: its arrays are those of the run of the definition, the counts beside them are kept, and
--- but for the accelerator served last none would have a held transaction admitted. Each call's contract gives one step.
+-- but for the accelerator whose answer comes home none would have a held transaction admitted. Each call's contract gives one step.
 use Prim.Native.Nat.{ℕ, _+_, _-_, _%_, _^_, _≤_, _<_}
 use mathlib.Core.Bool.{Bool, true, false, _&&_, _||_}
 use mathlib.Core.List.{List, [], _∷_, _++_}
@@ -7,10 +7,10 @@ use mathlib.Core.Path.{_≡_, refl, sym, _∙_, ap, ap₂, subst, subst₂}
 use native.Mathlib.Decide.{ℕ-discrete}
 use native.Mathlib.Nat.{zero-div, mod-eq-of-lt}
 use native.Mathlib.Omega.{arith}
-use lib.Dec.{leb, eqb, lit<}
+use lib.Dec.{eqb, ltb, lit<}
 use lib.ListN.{getD, length, set, replicate, length-set}
 use lib.Seq.{set-out, getD-set-same, getD-set-other}
-use borrow.Author.Tests.{leb-false}
+use borrow.Author.Tests.{lt-ltb, le-ltb}
 use Rattle.model.specs.declared.Tree.{Tree}
 use Rattle.model.specs.declared.State.{State}
 use Rattle.folds.specs.Fold.{pick}
@@ -29,16 +29,18 @@ use Rattle.counts.specs.Table.{portNumber, ownPorts}
 use Rattle.counts.proofs.Table.{TableOf}
 use Rattle.counts.proofs.Counted.{Counted, counted-none}
 use Rattle.trace.specs.declared.Request.{Request}
-use Rattle.admit.specs.Admitting.{Arrays, arrays}
+use Rattle.admit.specs.Admitting.{Arrays, arrays, isIn}
+use Rattle.admit.proofs.Sets.{none-of}
 use Rattle.runner.specs.declared.NextLine.{NextLine}
 use Rattle.runner.specs.declared.SlotEnd.{SlotEnd}
 use Rattle.runner.specs.Offers.{heldOf, offering, offerEach}
 use Rattle.runner.specs.Run.{Run, heldWith, leftAfter, withDue, beforeSlot, byteOf, lastByte, next, noneHeld, isDone, start}
 use Rattle.runner.specs.Places.{leftAt, Accepts}
 use Rattle.runner.specs.Due.{dueOn}
-use Rattle.runner.specs.Arrays.{serveOn, opensOn, leftOn, endOn, slotEndOn, afterOn, homeIn, homeOn, everyOn, withHeld, beforeOn}
+use Rattle.runner.proofs.Due.{due-others}
+use Rattle.runner.specs.Arrays.{serveOn, opensOn, leftOn, endOn, slotEndOn, afterOn, homeIn, homeOn, readyOn, withHeld, beforeOn}
 use Rattle.runner.proofs.Held.{each-same, each-less}
-use Rattle.runner.proofs.Trace.{Room, AtLine, NextOf, left-ends, not-due, due-taken}
+use Rattle.runner.proofs.Trace.{Room, AtLine, NextOf, left-ends, due-taken}
 use Rattle.runner.proofs.Settled.{Idles, Settled, settled-each, settled-home}
 use Rattle.runner.proofs.Service.{servedFrom, slotAnswer, served-frame, served-answer, served-outcome, served-known, leftIn, left-first, left-next, left-opens}
 use Rattle.runner.proofs.Returns.{ago-none, Past, past-none, past-same, home-one, past-next}
@@ -47,18 +49,6 @@ use Rattle.runner.proofs.Stored.{Stored, StoredOffering, StoredSlot, li
 -- from a later place on, a byte written, less of the buffer is left
 pub fewer : (d : List ℕ) (n b m : ℕ) → n < length d → n < m → length (set d n b) - m < length d - n
 fewer d n b m h l = omega (arith, length-set d n b)
-
--- neither of two tests holds
-none-of : (x y : Bool) → (x || y) ≡ false → (x ≡ false) × (y ≡ false)
-none-of false false e = (refl, refl)
-none-of true y e = clash cc
-none-of false true e = clash cc
-
--- no window has opened and no line is due
-quiet : (q : Bool) (d n : ℕ) → (q || leb d n) ≡ false → (q ≡ false) × (d ≤ n → ⊥)
-quiet q d n e =
-    let x = none-of q (leb d n) e in
-    (x .0, λ h. omega (arith, leb-false d n (x .1)))
 
 -- where a run of trace s stands whose state is z, whose arrays are d and whose next line is x
 abbrev pub runOf : List ℕ → State → Arrays → NextLine → Run
@@ -88,10 +78,11 @@ pub record Shows (t : Tree) (s : List ℕ) (z : State) (bs : List ℕ) (d : Arra
   pub past : Past t z bs
   pub settled : e .opened ≡ false → Settled t z (d .held) (homeIn (delayOf t) bs)
 
--- what a run does not change: w is the table of t
-pub record Fixed (t : Tree) (w : List ℕ) : Type 0 where
+-- what a run does not change: w is the table of t, and k the set of its accelerators
+pub record Fixed (t : Tree) (w : List ℕ) (k : ℕ) : Type 0 where
   pub rules : treeKeeps t ≡ true
   pub table : TableOf t w
+  pub accelerators : (a : ℕ) → isIn k a ≡ ltb a (t .accs)
 
 -- after n slots, whose bytes are bs, the arrays d, the next line x and the end e of the slot before are those of a run of which Q holds
 pub record Walk (t : Tree) (s : List ℕ) (Q : Run → Type 0) (bs : List ℕ) (d : Arrays) (x : NextLine) (e : SlotEnd) (n : ℕ) : Type 0 where
@@ -143,7 +134,7 @@ module _ (t : Tree) (s : List ℕ) (z : State) (bs : List ℕ) (d : Arrays) (x :
       q ∙ ap₂ (λ (y z : Bool). y && noneHeld (d .held) && z) (left-ends s (x .at) (H .line .accepts))
       (live-none t z (H .stored .rules) (d .under) (d .live) (H .stored .counts))
 
-  module _ (w : List ℕ) (F : Fixed t w) (n : ℕ) (N : z .slot ≡ n) where
+  module _ (w : List ℕ) (k : ℕ) (F : Fixed t w k) (n : ℕ) (N : z .slot ≡ n) where
     abbrev due : List ℕ
     due = dueOn n s x (d .held) .held
 
@@ -157,14 +148,21 @@ module _ (t : Tree) (s : List ℕ) (z : State) (bs : List ℕ) (d : Arrays) (x :
     home = homeIn (delayOf t) bs
 
     abbrev before : Arrays
-    before = beforeOn s n x (e .opened) home (t .accs) w d
+    before = beforeOn s n x (e .opened) k home w d
 
-    -- where no window has opened and no line is due, only the one whose answer comes home may have more admitted
-    only-home : everyOn (e .opened) x n ≡ false → Settled t z due home
-    only-home f =
-        let q = quiet (e .opened) (x .due) n f in
-        let none = not-due n (d .held) (leftAt s (x .at)) (omega (arith, H .line .due, q .1)) .0 in
-        subst (λ (h : List ℕ). Settled t z h home) (sym (T .held ∙ none)) (H .settled (q .0))
+    abbrev ready : ℕ → Bool
+    ready = readyOn (e .opened) k (dueOn n s x (d .held) .accelerators)
+
+    -- those that offer are accelerators
+    ready-known : (a : ℕ) → t .accs ≤ a → ready a ≡ false
+    ready-known a l = ap (λ (b : Bool). b && (e .opened || isIn (dueOn n s x (d .held) .accelerators) a)) (F .accelerators a ∙ le-ltb _ _ l)
+
+    -- where no window has opened, only the one whose answer comes home may have more admitted, and those whose lines are due
+    rest-idles : (a : ℕ) → a < t .accs → ready a ≡ false → (a ≡ home → ⊥) → Idles t z due a
+    rest-idles a l f o h =
+        let z = dueOn n s x (d .held) .accelerators in
+        let q = none-of (e .opened) (isIn z a) (sym (ap (λ (b : Bool). b && (e .opened || isIn z a)) (F .accelerators a ∙ lt-ltb _ _ l)) ∙ f) in
+        H .settled (q .0) a l o (omega (arith, h, due-others n s x (d .held) a (q .1)))
 
     same-before : offerEach (t .accs) t (offering z due) ≡ beforeSlot t run
     same-before =
@@ -187,7 +185,7 @@ module _ (t : Tree) (s : List ℕ) (z : State) (bs : List ℕ) (d : Arrays) (x :
     before-shown =
         subst (λ (o : _). StoredOffering t o before) same-before
         (before-offered t w (F .table) (offering z due) (withHeld due (homeOn home d)) (record { stored = due-stored; held = refl })
-        (everyOn (e .opened) x n) home (H .past .known (delayOf t + 1)) only-home)
+        home (H .past .known (delayOf t + 1)) ready rest-idles ready-known)
 
     abbrev mid : State
     mid = beforeSlot t run .state
@@ -356,7 +354,7 @@ module _ (t : Tree) (s : List ℕ) (z : State) (bs : List ℕ) (d : Arrays) (x :
       }
 
 -- the test before each slot, and one slot, for any loop over a run
-module _ (t : Tree) (w s : List ℕ) (F : Fixed t w) (Q : Run → Type 0) (bs : List ℕ) (d : Arrays) (x : NextLine) (e : SlotEnd)
+module _ (t : Tree) (w : List ℕ) (k : ℕ) (s : List ℕ) (F : Fixed t w k) (Q : Run → Type 0) (bs : List ℕ) (d : Arrays) (x : NextLine) (e : SlotEnd)
     (n : ℕ) (G : Walk t s Q bs d x e n) where
   abbrev pub here : Run
   here = runOf s (G .state) d x
@@ -370,7 +368,7 @@ module _ (t : Tree) (w s : List ℕ) (F : Fixed t w) (Q : Run → Type 0) (bs : 
     pub home-is : home ≡ homeIn (delayOf t) bs
     pub line : x₁ ≡ dueOn n s x (d .held) .line
     pub mid : Arrays
-    pub before : mid ≡ beforeOn s n x (e .opened) home (t .accs) w d
+    pub before : mid ≡ beforeOn s n x (e .opened) k home w d
     pub window : ℕ
     pub window-is : window ≡ t .bus .window
     pub ends : e₂ ≡ slotEndOn w window (e .left) mid
@@ -379,10 +377,10 @@ module _ (t : Tree) (w s : List ℕ) (F : Fixed t w) (Q : Run → Type 0) (bs : 
   pub walk-next : (x₁ : NextLine) (e₂ : SlotEnd) (d₂ : Arrays) → Step x₁ e₂ d₂ → n < lastSlot → (bs₂ : List ℕ) → bs₂ ≡ bs ++ e₂ .served ∷ []
       → (P : Run → Type 0) → (e₂ .served ≡ lastByte t here → P (next t here)) → Walk t s P bs₂ d₂ x₁ e₂ (n + 1)
   walk-next x₁ e₂ d₂ S g bs₂ B P f =
-      let first = S .before ∙ ap (λ (h : ℕ). beforeOn s n x (e .opened) h (t .accs) w d) (S .home-is) in
+      let first = S .before ∙ ap (λ (h : ℕ). beforeOn s n x (e .opened) k h w d) (S .home-is) in
       let end = S .ends ∙ ap₂ (λ (i : ℕ) (y : Arrays). slotEndOn w i (e .left) y) (S .window-is) first in
       let byte = ap (λ (i : SlotEnd). i .served) end in
-      let W = walked t s (G .state) bs d x e (G .shows) w F n (G .slot) g (G .left) P (λ b. f (byte ∙ b)) in
+      let W = walked t s (G .state) bs d x e (G .shows) w k F n (G .slot) g (G .left) P (λ b. f (byte ∙ b)) in
       subst₂ (λ (l : NextLine) (b : List ℕ). Walk t s P b d₂ l e₂ (n + 1)) (sym (S .line)) (sym B)
       (subst₂ (λ (y : Arrays) (i : SlotEnd). Walk t s P (bs ++ i .served ∷ []) y (dueOn n s x (d .held) .line) i (n + 1))
       (sym (S .after ∙ ap (afterOn w (e .left)) first)) (sym end) W)

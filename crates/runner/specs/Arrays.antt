@@ -2,10 +2,8 @@
 --
 -- Slot                  a slot's byte and the arrays after it; slotOn b d: these two
 -- chosenOn w d          the choice from the root, by the table w of the configuration
--- turnedOn x d          the arrays d with the last ports and the allowances of the choice x
--- takeOn w a d          one transaction of accelerator a is served: it counts no longer under each port from its own up to the root, and
---                       it is outstanding as before
--- serveOn w d           the slot serves, or is idle
+-- withPorts p d         the arrays d with what is kept of the ports, p
+-- serveOn w d           the slot serves, or is idle; what it serves is outstanding as before
 -- openOn b d            the arrays d where a window opens if b: the admitted counts return to 0
 -- opensOn m             the next slot begins a window where m slots of this one are left, this slot counted
 -- leftOn p m            how many slots are left then after this slot, in windows of p slots
@@ -17,20 +15,19 @@
 --                       the return delay: the one served in the slot r + 1 slots before (document 02, item 2: "A transaction served in
 --                       slot s stops being outstanding at the start of slot s + 1 + r"); 255 for none
 -- homeOn h d            one transaction of accelerator h stops being outstanding
--- everyOn b x n         every accelerator may have a transaction admitted in slot n, which opens a window if b, and not only the one whose
---                       transaction stops being outstanding
+-- readyOn b k z a       accelerator a, one of the set k, may have a transaction admitted before a slot, which opens a window if b: then any
+--                       one may, else those of the set z, whose lines are due
 -- withHeld h d          the arrays d with the held counts h
--- beforeOn s n x b h k w d  what comes before slot n, which opens a window if b: a transaction of accelerator h stops being outstanding,
---                       the lines due from the place of x in the trace s are held, and the k accelerators offer
+-- beforeOn s n x b k h w d  what comes before slot n, which opens a window if b: a transaction of accelerator h stops being outstanding,
+--                       the lines due from the place of x in the trace s are held, and h offers, and then those of the set k that may
 use Prim.Native.Nat.{ℕ, _+_, _-_}
-use mathlib.Core.Bool.{Bool, _||_}
+use mathlib.Core.Bool.{Bool, _&&_, _||_}
 use mathlib.Core.List.{List}
-use lib.Dec.{eqb, ltb, leb}
+use lib.Dec.{eqb, ltb}
 use lib.ListN.{getD, length, set, replicate}
 use Rattle.folds.specs.Fold.{pick}
-use Rattle.counts.specs.Counts.{pathPorts, lowered, closed}
-use Rattle.counts.specs.Choice.{Choice, chooseOn}
-use Rattle.admit.specs.Admitting.{Arrays, offersBefore}
+use Rattle.counts.specs.Choice.{Ports, ports, Choice, chooseOn}
+use Rattle.admit.specs.Admitting.{Arrays, isIn, offersBefore}
 use Rattle.runner.specs.declared.NextLine.{NextLine}
 use Rattle.runner.specs.declared.SlotEnd.{SlotEnd}
 use Rattle.runner.specs.Due.{dueOn}
@@ -43,37 +40,23 @@ abbrev pub slotOn : ℕ → Arrays → Slot
 slotOn b d = record { byte = b; arrays = d }
 
 abbrev pub chosenOn : List ℕ → Arrays → Choice
-chosenOn w d = chooseOn 4 w (d .under) (d .live) 0 (d .last) (d .allowance)
+chosenOn w d = chooseOn 4 w 0 (ports (d .under) (d .live) (d .last) (d .allowance))
 
-abbrev pub turnedOn : Choice → Arrays → Arrays
-turnedOn x d =
+abbrev pub withPorts : Ports → Arrays → Arrays
+withPorts p d =
     record {
       outstanding = d .outstanding;
       admitted = d .admitted;
       held = d .held;
-      under = d .under;
-      live = d .live;
-      last = x .last;
-      allowance = x .allowance;
-    }
-
-abbrev pub takeOn : List ℕ → ℕ → Arrays → Arrays
-takeOn w a d =
-    record {
-      outstanding = d .outstanding;
-      admitted = d .admitted;
-      held = d .held;
-      under = lowered (pathPorts w a) (d .under);
-      live = closed (pathPorts w a) (d .under) (d .live);
-      last = d .last;
-      allowance = d .allowance;
+      under = p .under;
+      live = p .live;
+      last = p .last;
+      allowance = p .allowance;
     }
 
 unfoldable pub serveOn : List ℕ → Arrays → Slot
 serveOn w d =
-    pick (eqb (getD (d .live) 0 0) 0) (slotOn 255 d)
-    (pick (ltb 31 (chosenOn w d .served)) (slotOn 255 (turnedOn (chosenOn w d) d))
-    (slotOn (chosenOn w d .served) (takeOn w (chosenOn w d .served) (turnedOn (chosenOn w d) d))))
+    pick (eqb (getD (d .live) 0 0) 0) (slotOn 255 d) (slotOn (chosenOn w d .served) (withPorts (chosenOn w d .ports) d))
 
 abbrev pub openOn : Bool → Arrays → Arrays
 openOn b d =
@@ -120,8 +103,8 @@ homeOn h d =
       allowance = d .allowance;
     }
 
-abbrev pub everyOn : Bool → NextLine → ℕ → Bool
-everyOn b x n = b || leb (x .due) n
+abbrev pub readyOn : Bool → (k z : ℕ) → ℕ → Bool
+readyOn b k z a = isIn k a && (b || isIn z a)
 
 abbrev pub withHeld : List ℕ → Arrays → Arrays
 withHeld h d =
@@ -135,5 +118,6 @@ withHeld h d =
       allowance = d .allowance;
     }
 
-abbrev pub beforeOn : (s : List ℕ) (n : ℕ) → NextLine → Bool → ℕ → ℕ → List ℕ → Arrays → Arrays
-beforeOn s n x b h k w d = offersBefore w (everyOn b x n) h k (withHeld (dueOn n s x (d .held) .held) (homeOn h d))
+abbrev pub beforeOn : (s : List ℕ) (n : ℕ) → NextLine → Bool → (k h : ℕ) → List ℕ → Arrays → Arrays
+beforeOn s n x b k h w d =
+    offersBefore w h (readyOn b k (dueOn n s x (d .held) .accelerators)) (withHeld (dueOn n s x (d .held) .held) (homeOn h d))

@@ -12,6 +12,7 @@ use model::State;
 use model::Tree;
 use steps::after_slot;
 use steps::before_slot;
+use steps::below;
 use steps::home_of;
 use steps::is_done;
 use steps::turns_of;
@@ -45,6 +46,12 @@ pub enum RunAnswer {
 pub struct NextLine {
     pub at: usize,
     pub due: u32,
+}
+
+// The lines due in a slot, taken: the next line, and the accelerators that they are of, bit a for accelerator a.
+pub struct DueLines {
+    pub next: NextLine,
+    pub accelerators: u32,
 }
 
 // How a slot ends: its byte, whether a window opens then, and how many slots of the window are left from there on.
@@ -108,6 +115,7 @@ fn run_slots(t: Tree, fresh: State, trace: &[u8], a: u8, k: u32, out: &mut [u8])
     let mut under = [0u16; 120];
     let mut turns = turns_of(last);
     let mut line = NextLine { at: 0, due: 0 };
+    let accs = below(t.accs);
     let window = t.bus.window as u32;
     let mut past = SlotEnd {
         served: IDLE,
@@ -126,8 +134,8 @@ fn run_slots(t: Tree, fresh: State, trace: &[u8], a: u8, k: u32, out: &mut [u8])
             used as u32,
             line,
             past.opened,
+            accs,
             home_of(&out[0..used], t.bus.delay),
-            t.accs,
             &table,
             &mut blocks,
             &mut under,

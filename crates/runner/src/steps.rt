@@ -1,29 +1,28 @@
 // What a run does in one slot beside the offers: who comes home, the lines due, the service, and the window's end.
+use crate::DueLines;
 use crate::IDLE;
 use crate::NextLine;
 use crate::SlotEnd;
 use admit::ADMITTED;
 use admit::HELD;
-use admit::offer_before_slot;
+use admit::offer_each;
 use counts::LIVE;
-use counts::OWN_PORT;
-use counts::along::take_along;
 use counts::choice::choose;
 use rules::less_one;
 use trace::NextRequest;
 use trace::request_at;
 ghost use mathlib.Core.Path.{_≡_};
 ghost use mathlib.Core.Bool.{_&&_};
-ghost use Prim.Native.Nat.{ℕ, _<_, _+_, _-_, min};
+ghost use Prim.Native.Nat.{ℕ, _<_, _+_, _-_, _^_, min};
 ghost use lib.Dec.{eqb};
 ghost use lib.ListN.{length, getD, set, take, drop, replicate};
 ghost use mathlib.Core.List.{List};
 ghost use Rattle.counts.specs.Counts.{lasts, allowances, lives};
-ghost use Rattle.admit.specs.Admitting.{outstandings, admitteds, helds, arraysOf};
+ghost use Rattle.admit.specs.Admitting.{outstandings, admitteds, helds, arraysOf, isIn};
 ghost use Rattle.folds.specs.Fold.{pick};
 ghost use Rattle.runner.specs.Run.{noneHeld};
 ghost use Rattle.runner.specs.Due.{taken, dueOn};
-ghost use Rattle.runner.specs.Arrays.{slotOn, serveOn, leftOn, slotEndOn, afterOn, homeIn, beforeOn};
+ghost use Rattle.runner.specs.Arrays.{slotOn, serveOn, leftOn, slotEndOn, afterOn, homeIn, readyOn, beforeOn};
 
 // What an accelerator holds with a line's count added: no more than the type has.
 fn more_held(held: u32, count: u8) -> u32
@@ -37,34 +36,48 @@ fn more_held(held: u32, count: u8) -> u32
 }
 
 // Adds the lines due in this slot to the held counts.
-fn take_due(trace: &[u8], slot: u32, line: NextLine, blocks: &mut [u32; 96]) -> NextLine
-    ensures due { λ r. ⌜ taken (helds (now (blocks .exit))) r ≡ dueOn slot (now (trace .entry)) line (helds (now (blocks .entry))) ⌝ }
+fn take_due(trace: &[u8], slot: u32, line: NextLine, blocks: &mut [u32; 96]) -> DueLines
+    ensures due { λ r. ⌜ taken (helds (now (blocks .exit))) (r .accelerators) (r .next) ≡ dueOn slot (now (trace .entry)) line (helds (now (blocks .entry))) ⌝ }
     ensures rest { λ _. ⌜ take 64 (now (blocks .exit)) ≡ take 64 (now (blocks .entry)) ⌝ }
 {
+    let mut accelerators: u32 = 0;
     if slot < line.due {
-        return line;
+        return DueLines {
+            next: line,
+            accelerators: accelerators,
+        };
     }
     let mut place = line.at;
     while place < trace.len() {
         let NextRequest::Due(request, next) = request_at(trace, place) else {
-            return NextLine {
-                at: place,
-                due: 4294967295,
+            return DueLines {
+                next: NextLine {
+                    at: place,
+                    due: 4294967295,
+                },
+                accelerators: accelerators,
             };
         };
         if slot < request.slot {
-            return NextLine {
-                at: place,
-                due: request.slot,
+            return DueLines {
+                next: NextLine {
+                    at: place,
+                    due: request.slot,
+                },
+                accelerators: accelerators,
             };
         }
         let a = HELD + request.accelerator as usize;
         blocks[a] = more_held(blocks[a], request.count);
+        accelerators = accelerators | (1 << request.accelerator);
         place = next;
     }
-    NextLine {
-        at: place,
-        due: 4294967295,
+    DueLines {
+        next: NextLine {
+            at: place,
+            due: 4294967295,
+        },
+        accelerators: accelerators,
     }
 }
 
@@ -98,13 +111,7 @@ fn serve(table: &[u16; 246], under: &mut [u16; 120], turns: &mut [u8; 45]) -> u8
     if turns[LIVE] == 0 {
         return IDLE;
     }
-    let a = choose(table, under, 4, 0, turns);
-    let i = a as usize;
-    if 31 < i {
-        return IDLE;
-    }
-    take_along(table, table[OWN_PORT + i], under, turns);
-    a
+    choose(table, 4, 0, under, turns)
 }
 
 // The counts with no transaction admitted.
@@ -167,29 +174,55 @@ fn come_home(home: u8, blocks: &mut [u32; 96])
     }
 }
 
-// What comes before a slot: an answer comes home, the lines due are held, and the accelerators offer. Where no window opens and no
-// line is due, only the accelerator whose answer came home may have more admitted.
+// The accelerators of a number below n, bit a for accelerator a; at most thirty-two.
+pub fn below(n: u8) -> u32
+    ensures { λ r. ⌜ r ≡ 2 ^ min 32 n - 1 ⌝ }
+{
+    if 31 < n {
+        return 4294967295;
+    }
+    (1 << n) - 1
+}
+
+// Who may have a transaction admitted before a slot, beside the one whose answer has come home: where a window opens, any of the
+// accelerators, else those whose lines are due.
+fn ready(opened: bool, accs: u32, due: u32) -> u32
+    ensures { λ r. ⌜ ((a : ℕ) → isIn r a ≡ readyOn opened accs due a) ⌝ }
+{
+    if opened {
+        return accs;
+    }
+    accs & due
+}
+
+// What comes before a slot: an answer comes home, the lines due are held, and those offer that may have a transaction admitted.
 pub fn before_slot(
     trace: &[u8],
     slot: u32,
     line: NextLine,
     opened: bool,
+    accs: u32,
     home: u8,
-    accs: u8,
     table: &[u16; 246],
     blocks: &mut [u32; 96],
     under: &mut [u16; 120],
     turns: &mut [u8; 45],
 ) -> NextLine
     ensures arrays { λ r. ⌜ arraysOf (now (blocks .exit)) (now (under .exit)) (now (turns .exit))
-        ≡ beforeOn (now (trace .entry)) slot line opened home accs (now (table .entry)) (arraysOf (now (blocks .entry)) (now (under .entry)) (now (turns .entry))) ⌝ }
+        ≡ beforeOn (now (trace .entry)) slot line opened accs home (now (table .entry)) (arraysOf (now (blocks .entry)) (now (under .entry)) (now (turns .entry))) ⌝ }
     ensures line { λ r. ⌜ r ≡ dueOn slot (now (trace .entry)) line (helds (now (blocks .entry))) .line ⌝ }
 {
     come_home(home, blocks);
-    let every = opened | (line.due <= slot);
-    let next = take_due(trace, slot, line, blocks);
-    offer_before_slot(every, home, accs, table, blocks, under, turns);
-    next
+    let due = take_due(trace, slot, line, blocks);
+    offer_each(
+        home,
+        ready(opened, accs, due.accelerators),
+        table,
+        blocks,
+        under,
+        turns,
+    );
+    due.next
 }
 
 // One slot is run once the offers are made: the service, and the end of a window of which so many slots are left, this one

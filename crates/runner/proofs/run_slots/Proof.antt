@@ -1,12 +1,13 @@
 -- `run_slots` meets its contract: what was written so far, with what is left of the run, is the run from the start, and what was told is
 -- what its slots tell.
 use mathlib.Core.Path.{_≡_, refl, sym, _∙_, ap}
-use Prim.Native.Nat.{ℕ, _≤_, _<_, _-_, _+_}
+use Prim.Native.Nat.{ℕ, _≤_, _<_, _-_, _+_, min}
 use mathlib.Core.Bool.{true, false}
 use mathlib.Core.Logic.{inl, inr}
 use native.Mathlib.Nat.{sub-zero}
 use native.Mathlib.Numerals.{add-one}
 use native.Mathlib.Omega.{arith}
+use lib.Dec.{ltb}
 use lib.ListN.{length, set, take}
 use lib.Seq.{take-suc-set}
 use borrow.Author.Needs.{needs}
@@ -14,7 +15,8 @@ use borrow.Author.Tests.{not-true, not-false}
 use Rattle.folds.proofs.Folds.{clash}
 use Rattle.counts.proofs.Table.{table-is}
 use Rattle.machine.specs.Machine.{lastSlot}
-use Rattle.admit.specs.Admitting.{arraysOf}
+use Rattle.admit.specs.Admitting.{arraysOf, isIn}
+use Rattle.admit.proofs.Sets.{in-below}
 use Rattle.rules.proofs.Sound.{sound}
 use Rattle.runner.specs.Run.{start}
 use Rattle.model.specs.Tree.{delayOf}
@@ -27,24 +29,26 @@ use Rattle.runner.proofs.run_slots.Statement.{statement}
 use Rattle.runner.proofs.run_slots.Tie as tie
 
 abbrev Inv-loop : tie.InvT-loop
-Inv-loop t trace a k out₀ table blocks₀ under₀ turns₀ line₀ window past₀ told₀ used₀ out blocks under turns line past told used =
-    Fixed t table
+Inv-loop t trace a k out₀ table blocks₀ under₀ turns₀ line₀ accs window past₀ told₀ used₀ out blocks under turns line past told used =
+    Fixed t table accs
     × Walk t trace (Telling t (start t (leftAt trace 0)) a k out₀ out (waitOf told) used) (take used out) (arraysOf blocks under turns) line past used
     × (length out₀ ≤ 65536)
     × ((k ≡ 0 → ⊥) → a < t .accs)
     × (window ≡ t .bus .window)
 
 abbrev μ-loop : tie.MeasureT-loop
-μ-loop t trace a k out₀ table blocks₀ under₀ turns₀ line₀ window past₀ told₀ used₀ out blocks under turns line past told used = length out - used
+μ-loop t trace a k out₀ table blocks₀ under₀ turns₀ line₀ accs window past₀ told₀ used₀ out blocks under turns line past told used = length out - used
 
 loop-holds : tie.Need-loop-holds Inv-loop μ-loop
 loop-holds c =
-    let x = c .before .before .before .before .before .before .args in
-    let q = c .before .before .before .before .before .before .pre in
-    let y = c .before .turns-of .ensures in (
+    let x = c .before .before .before .before .before .before .before .args in
+    let q = c .before .before .before .before .before .before .before .pre in
+    let y = c .before .before .turns-of .ensures in (
       record {
         rules = q .0;
-        table = table-is (x .t) _ (c .before .before .before .table-of .ensures);
+        table = table-is (x .t) _ (c .before .before .before .before .table-of .ensures);
+        accelerators = λ i. ap (λ (n : ℕ). isIn n i) (c .before .below .ensures) ∙ in-below (min 32 (x .t .accs)) i
+            ∙ ap (ltb i) (omega (arith, sound (x .t) (q .0) .most-accs));
       },
       walk-start (x .t) (x .trace .now) _ _ _ (x .fresh) _ (q .0) (q .1) (q .3) (y .0) (y .1 .0) (y .1 .1)
           (telling-start (x .t) _ (x .a) (x .k) (x .out .now)),
@@ -62,37 +66,40 @@ cast-before-slot c =
 part-home-of-end : tie.Need-part-home-of-end Inv-loop μ-loop
 part-home-of-end c = let more = c .before .before .before .before .before in omega (arith, more .loop-test .taken)
 
+-- the test before the slot that has been run
+abbrev begun : tie.After-after-slot Inv-loop μ-loop → tie.In-loop Inv-loop μ-loop
+begun c = c .before .before .before .before .before .before .before .before .before .before .before .before .before .before .before .before .before
+
 slice-write-out : tie.Need-slice-write-out Inv-loop μ-loop
-slice-write-out c = c .before .before .before .before .before .before .before .before .before .before .before .before .before .before .before .before .before .loop-test .taken
+slice-write-out c = begun c .loop-test .taken
 
 cast-tell : tie.Need-cast-tell Inv-loop μ-loop
 cast-tell c =
-    let more = c .before .before .before .before .before .before .before .before .before .before .before .before .before .before .before .before .before in
-    let l = more .before .loop in
-    omega (arith, telling-slot _ _ _ _ _ _ _ _ _ (l .inv .1 .holds) (more .loop-test .taken) (l .inv .2))
+    let l = begun c .before .loop in
+    omega (arith, telling-slot _ _ _ _ _ _ _ _ _ (l .inv .1 .holds) (begun c .loop-test .taken) (l .inv .2))
 
 tell-requires : tie.Need-tell-requires Inv-loop μ-loop
 tell-requires c κs =
-    let more = c .before .before .before .before .before .before .before .before .before .before .before .before .before .before .before .before .before .before .before in
+    let more = begun (c .before .before) in
     let l = more .before .loop in
     (telling-slot _ _ _ _ _ _ _ _ _ (l .inv .1 .holds) (more .loop-test .taken) (l .inv .2), telling-few _ _ _ _ _ _ _ _ _ (l .inv .1 .holds))
 
 add-used : tie.Need-add-used Inv-loop μ-loop
 add-used c =
-    let more = c .before .before .before .before .before .before .before .before .before .before .before .before .before .before .before .before .before .before .before .before in
+    let more = begun (c .before .before .before) in
     let l = more .before .loop in
     omega (arith, telling-slot _ _ _ _ _ _ _ _ _ (l .inv .1 .holds) (more .loop-test .taken) (l .inv .2))
 
 loop-less : tie.Need-loop-less Inv-loop μ-loop
 loop-less c =
-    let more = c .before .before .before .before .before .before .before .before .before .before .before .before .before .before .before .before .before .before .before .before in
+    let more = begun (c .before .before .before) in
     let l = more .before .loop in
     fewer (l .out) (l .used) _ _ (more .loop-test .taken) (omega arith)
 
 loop-again : tie.Need-loop-again Inv-loop μ-loop
 loop-again c =
     let k = c .before .before .before .before .before .before .before .before .before .before .before .before .before .before .before .before in
-    let x = k .before .before .before .before .before .before .before .before .before .before .before .before .args in
+    let x = k .before .before .before .before .before .before .before .before .before .before .before .before .before .args in
     let l = k .before .before .before .before .before .loop in
     let G = l .inv .1 in
     let d = arraysOf (l .blocks) (l .under) (l .turns) in
@@ -101,7 +108,7 @@ loop-again c =
     let then = c .before .before .before .after-slot in
     let more = k .before .before .before .before .loop-test .taken in
     let early : l .used < lastSlot = omega (arith, G .holds .running .long, l .inv .2) in
-    let S : Step (x .t) _ (x .trace .now) (l .inv .0) _ _ d (l .line) (l .past) (l .used) G (first .result) (then .result) _ = record {
+    let S : Step (x .t) _ _ (x .trace .now) (l .inv .0) _ _ d (l .line) (l .past) (l .used) G (first .result) (then .result) _ = record {
       home = came .result;
       home-is = came .ensures ∙ ap (λ (n : ℕ). homeIn (delayOf (x .t)) (take n (l .out))) (sub-zero (l .used));
       line = first .ensures .1;
@@ -112,15 +119,15 @@ loop-again c =
       ends = then .ensures .0;
       after = then .ensures .1;
     } in
-    let done = walk-done (x .t) _ (x .trace .now) (l .inv .0) _ _ d (l .line) (l .past) (l .used) G _ (k .before .is-done .ensures) in
+    let done = walk-done (x .t) _ _ (x .trace .now) (l .inv .0) _ _ d (l .line) (l .past) (l .used) G _ (k .before .is-done .ensures) in
     let going = sym done ∙ not-true _ (k .if1 .taken) in (
       l .inv .0,
-      walk-next (x .t) _ (x .trace .now) (l .inv .0) _ _ d (l .line) (l .past) (l .used) G _ _ _ S early _
+      walk-next (x .t) _ _ (x .trace .now) (l .inv .0) _ _ d (l .line) (l .past) (l .used) G _ _ _ S early _
           (ap (λ (i : ℕ). take i (set (l .out) (l .used) (then .result .served))) (add-one (l .used)) ∙ take-suc-set (l .out) (l .used) _ more)
           (Telling (x .t) _ (x .a) (x .k) (x .out .now) _ _ (l .used + 1))
           (telling-turn (x .t) _ (x .a) (x .k) (x .out .now) (l .out) (waitOf (l .told)) (l .used) _ (G .holds) more going
           (λ z e. omega (arith, l .inv .3 z, sound (x .t) (l .inv .0 .rules) .most-accs)) _
-          (λ z. walk-waiting (x .t) _ (x .trace .now) (l .inv .0) _ _ d (l .line) (l .past) (l .used) G _ _ _ S early (x .a) (l .inv .3 z))
+          (λ z. walk-waiting (x .t) _ _ (x .trace .now) (l .inv .0) _ _ d (l .line) (l .past) (l .used) G _ _ _ S early (x .a) (l .inv .3 z))
           (then .result .served) (waitOf (c .tell .result)) (c .tell .ensures)),
       l .inv .2,
       l .inv .3,
@@ -135,11 +142,11 @@ same-length c = c .before .before .before .before .before .loop .inv .1 .holds .
 
 returns : tie.Need-returns Inv-loop μ-loop
 returns c =
-    let x = c .before .before .before .before .before .before .before .before .before .before .before .before .args in
+    let x = c .before .before .before .before .before .before .before .before .before .before .before .before .before .args in
     let l = c .before .before .before .before .before .loop in
     let G = l .inv .1 in
     let d = arraysOf (l .blocks) (l .under) (l .turns) in
-    let e = walk-done (x .t) _ (x .trace .now) (l .inv .0) _ _ d (l .line) (l .past) (l .used) G _ (c .before .is-done2 .ensures) in
+    let e = walk-done (x .t) _ _ (x .trace .now) (l .inv .0) _ _ d (l .line) (l .past) (l .used) G _ (c .before .is-done2 .ensures) in
     let full : c .before .is-done2 .result ≡ false → length (l .out) ≤ l .used = λ z. elim (c .before .before .before .before .loop-test .came) [
       | inl p ↦
           let q : true ≡ false = sym (not-false _ (p .4 .left)) ∙ p .3 .ensures ∙ sym (c .before .is-done2 .ensures) ∙ z in
@@ -152,7 +159,7 @@ returns c =
 pub run-slots-spec : {M : Type 1} → statement M
 run-slots-spec =
     tie.close
-    (tie.spec Inv-loop μ-loop (λ c κs. search needs) (λ c κs. search needs) (λ c. search needs) loop-holds
+    (tie.spec Inv-loop μ-loop (λ c κs. search needs) (λ c κs. search needs) (λ c κs. search needs) (λ c. search needs) loop-holds
     (λ c κs. search needs) cast-before-slot (λ c. search needs) (λ c. search needs) part-home-of-end (λ c κs. search needs) (λ c κs. search needs)
     (λ c κs. search needs) slice-write-out cast-tell
     tell-requires add-used loop-less loop-again (λ c κs. search needs) cast-ended (λ c κs. search needs) same-length returns)

@@ -17,4 +17,7 @@ returns-2 : tie.Need-returns-2
 returns-2 c = some-live (c .before .args .set) (c .before .args .last) (search needs) (search needs)
 
 pub next-port-spec : {M : Type 1} → statement M
-next-port-spec = tie.close (tie.spec returns (λ c. search needs) (λ c. search needs) (λ c. search needs) (λ c. search needs) (λ c. search needs) add-result (λ c. search needs) returns-2)
+next-port-spec =
+    tie.close
+    (tie.spec returns (λ c. search needs) (λ c. search needs) (λ c. search needs) (λ c. search needs) (λ c. search needs) add-result
+    (λ c. search needs) returns-2)

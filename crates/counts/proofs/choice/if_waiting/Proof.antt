@@ -6,8 +6,8 @@ use borrow.Author.Needs.{needs}
 use borrow.Author.Tests.{eq-eqb, ne-eqb}
 use Rattle.folds.proofs.Folds.{picked, passed}
 use Rattle.counts.proofs.Steps.{clear-bit}
-use Rattle.counts.proofs.along.if_waiting.Statement.{statement}
-use Rattle.counts.proofs.along.if_waiting.Tie as tie
+use Rattle.counts.proofs.choice.if_waiting.Statement.{statement}
+use Rattle.counts.proofs.choice.if_waiting.Tie as tie
 
 returns : tie.Need-returns
 returns c = clear-bit (c .before .args .set) (c .before .args .p) (omega arith) ∙ sym (picked _ _ _ (eq-eqb _ _ (c .if1 .taken)))
