@@ -18,39 +18,30 @@
 --                      count n
 -- sharesFrom t a n     the shares of the n accelerators a, a + 1 and on
 -- clauses              the figures, each headed by what it is for
--- clauses-hold         the claim: every one holds
+-- The claim, every clauses, is proved in `proofs/Clauses.antt`.
 use Prim.Native.Nat.{ℕ, zero, suc, _+_, _-_}
-use mathlib.Core.Bool.{Bool, true, false}
+use mathlib.Core.Bool.{true, false}
 use mathlib.Core.List.{List, [], _∷_, _++_}
-use mathlib.Core.Path.{refl}
 use lib.ListN.{length, replicate}
-use lib.Count.{ones}
 use Rattle.model.specs.declared.Tree.{Tree}
 use Rattle.model.specs.declared.State.{State}
 use Rattle.model.specs.declared.Bus.{Bus}
 use Rattle.model.specs.declared.Accelerator.{Accelerator}
 use Rattle.model.specs.declared.PortCell.{PortCell}
-use Rattle.model.specs.declared.Port.the-variants.{Empty, Acc, Int}
-use Rattle.folds.specs.Fold.{sum, all}
-use Rattle.model.specs.Tree.{emptyCell, noAccelerator, limitOf, above}
+use Rattle.model.specs.declared.Port.the-variants.{Acc, Int}
+use Rattle.folds.specs.Fold.{all}
+use Rattle.model.specs.Tree.{emptyCell, noAccelerator, limitOf}
 use Rattle.model.specs.Trees.{ports, interconnect, block, tree, pair, chain, timed, nested, worked}
 use Rattle.model.specs.Builders.{zeroState, withCounts, withTurns, atSlot, withBus, withAccelerators, withJob}
-use Rattle.model.specs.Beneath.{inside}
-use Rattle.rules.specs.Rules.{treeKeeps, stateKeeps, sized, recordKeeps, turnKeeps, busKeeps, carries, rootPlaced, childPlaced, usedInterconnect, unusedInterconnect, usedAccelerator, unusedAccelerator}
-use Rattle.turns.specs.Turns.{who, after, turnPort, turnAllowance, seek, nextPort, bitsBelow}
-use Rattle.machine.specs.Machine.{admitted, served, idle, refused, notStarted, beginning, freshened, freshState, offered, slotted, tick}
-use Rattle.machine.specs.Calls.{offer, slot, answersOf}
-use Rattle.text.specs.Text.{parts, butLast, final, same, allDigits, decimal, fieldOf}
-use Rattle.lines.specs.Lines.{kindOf, pushed, lineOf, shaped}
-use Rattle.trace.specs.TraceFile.{offerLine, readOffers, readTrace, requests}
-use Rattle.runner.specs.Offers.{offerHeld, offerEach}
-use Rattle.runner.specs.Run.{done, stopped, refusedAt, broken as refusedRun, heldWith, leftAfter, next, trail, ranOf, bufferAfter}
-use Rattle.shares.specs.Shares.{capacityOf, othersAt, shareAlong, shareOf}
-use Rattle.bounds.specs.Bounds.{refused as unbounded, analysed, aloneRead, aloneWrite, slotRead, slotWrite, boundOf}
-use Rattle.text.specs.Write.{digits, decimalText}
-use Rattle.put.specs.Page.{bytes, joined}
-use Rattle.listing.specs.Listing.{rowText, allLine, refusalText, reportText}
-use Rattle.cases.specs.Figures.{Figure, answers, answersFrom, keeping, starting, ran, ends, numbers, bounded, printed, told, every, times}
+use Rattle.turns.specs.Turns.{nextPort}
+use Rattle.machine.specs.Machine.{admitted, served, idle, refused, notStarted, beginning, freshState}
+use Rattle.machine.specs.Calls.{offer, slot}
+use Rattle.runner.specs.Run.{done, stopped, refusedAt, broken as refusedRun}
+use Rattle.shares.specs.Shares.{capacityOf, shareOf}
+use Rattle.bounds.specs.Bounds.{refused as unbounded, analysed, aloneRead, aloneWrite, slotRead, slotWrite}
+use Rattle.put.specs.Page.{bytes}
+use Rattle.listing.specs.Listing.{refusalText}
+use Rattle.cases.specs.Figures.{Figure, answers, answersFrom, keeping, starting, ran, ends, numbers, bounded, printed, told, times}
 
 abbrev pub unequal : ℕ → ℕ → Bus
 unequal x y =
@@ -292,7 +283,3 @@ clauses =
     ∷ printed broken []
     ∷ told (refusalText 3 12) ("refused\t3\t12" ∷ [])
     ∷ []
-
-pub clauses-hold : every clauses
-unfolding answersOf parts butLast final same allDigits decimal fieldOf kindOf pushed lineOf shaped offerLine readOffers readTrace requests ranOf bufferAfter heldWith leftAfter offerHeld offerEach next trail freshened offered slotted tick who after turnPort turnAllowance seek bitsBelow treeKeeps stateKeeps sized recordKeeps turnKeeps busKeeps carries rootPlaced childPlaced usedInterconnect unusedInterconnect usedAccelerator unusedAccelerator inside above sum all ones shareAlong othersAt boundOf reportText rowText allLine refusalText joined decimalText digits
-clauses-hold = (refl, (refl, (refl, (refl, (refl, (refl, (refl, (refl, (refl, (refl, (refl, ((refl, refl), (refl, ((refl, refl), ((refl, refl), ((refl, refl), ((refl, refl), ((refl, refl), ((refl, refl), ((refl, refl), ((refl, refl), ((refl, refl), ((refl, refl), ((refl, refl), (refl, (refl, (refl, (refl, (refl, (refl, (refl, (refl, (refl, (refl, (refl, (refl, (refl, (refl, (refl, (refl, ((refl, refl), (refl, (refl, (refl, (refl, (refl, (refl, (refl, (refl, (refl, (refl, (refl, (refl, (refl, (refl, (refl, (refl, (refl, (refl, (refl, (refl, (refl, (refl, (refl, (refl, tt)))))))))))))))))))))))))))))))))))))))))))))))))))))))))))))))))

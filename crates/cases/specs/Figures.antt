@@ -18,34 +18,25 @@
 -- holds f              what the figure f claims
 -- every fs             each of the figures fs holds
 -- table                the figures, each headed by its case
--- figures              the claim: every figure of the table holds
+-- The claim, every table, is proved in `proofs/Figures.antt`.
 use Prim.Native.Nat.{ℕ, zero, suc, _+_, _-_}
 use Prim.Native.String.{String}
 use mathlib.Core.Bool.{Bool, true, false}
 use mathlib.Core.List.{List, [], _∷_, _++_}
-use mathlib.Core.Path.{_≡_, refl}
+use mathlib.Core.Path.{_≡_}
 use lib.ListN.{length, replicate}
-use lib.Count.{ones}
 use Rattle.model.specs.declared.Tree.{Tree}
 use Rattle.model.specs.declared.State.{State}
-use Rattle.folds.specs.Fold.{sum, all}
-use Rattle.model.specs.Tree.{above}
-use Rattle.model.specs.Beneath.{inside}
-use Rattle.rules.specs.Rules.{treeKeeps, stateKeeps, keeps, sized, recordKeeps, turnKeeps, busKeeps, carries, rootPlaced, childPlaced, usedInterconnect, unusedInterconnect, usedAccelerator, unusedAccelerator}
-use Rattle.turns.specs.Turns.{who, after, turnPort, turnAllowance, seek, bitsBelow}
-use Rattle.machine.specs.Machine.{Answer, admitted, served, idle, refused, Beginning, freshened, freshState, offered, slotted, tick}
+use Rattle.folds.specs.Fold.{all}
+use Rattle.rules.specs.Rules.{keeps}
+use Rattle.machine.specs.Machine.{Answer, admitted, served, idle, refused, Beginning, freshened, freshState}
 use Rattle.machine.specs.Calls.{Call, offer, slot, answersOf}
-use Rattle.text.specs.Text.{parts, butLast, final, same, allDigits, decimal, fieldOf}
-use Rattle.lines.specs.Lines.{kindOf, pushed, lineOf, shaped}
-use Rattle.trace.specs.TraceFile.{offerLine, readOffers, readTrace, requests}
-use Rattle.runner.specs.Offers.{offerHeld, offerEach}
-use Rattle.runner.specs.Run.{Ending, done, stopped, heldWith, leftAfter, next, trail, ranOf, bufferAfter}
-use Rattle.shares.specs.Shares.{othersAt, shareAlong, shareOf}
+use Rattle.runner.specs.Run.{Ending, done, stopped, ranOf, bufferAfter}
+use Rattle.shares.specs.Shares.{shareOf}
 use Rattle.bounds.specs.Bounds.{BoundResult, analysed, interference, aloneRead, aloneWrite, slotRead, slotWrite, boundOf}
-use Rattle.bounds.specs.Recursion.{upward, interferers}
-use Rattle.text.specs.Write.{digits, decimalText}
-use Rattle.put.specs.Page.{bytes, ended, joined}
-use Rattle.listing.specs.Listing.{rowText, allLine, refusalText, reportText}
+use Rattle.bounds.specs.Recursion.{interferers}
+use Rattle.put.specs.Page.{bytes, ended}
+use Rattle.listing.specs.Listing.{reportText}
 use Rattle.model.specs.Trees.{chain, timed, pair, worked}
 
 pub data Figure : Type 0 where
@@ -154,7 +145,3 @@ table =
     ∷ "all\tlate"
     ∷ [])
     ∷ []
-
-pub figures : every table
-unfolding answersOf parts butLast final same allDigits decimal fieldOf kindOf pushed lineOf shaped offerLine readOffers readTrace requests ranOf bufferAfter heldWith leftAfter offerHeld offerEach next trail offered slotted tick who after turnPort turnAllowance seek bitsBelow treeKeeps stateKeeps sized recordKeeps turnKeeps busKeeps carries rootPlaced childPlaced usedInterconnect unusedInterconnect usedAccelerator unusedAccelerator inside above sum all ones shareAlong othersAt upward boundOf reportText rowText allLine refusalText joined decimalText digits
-figures = (refl, (refl, ((refl, refl), (refl, ((refl, refl), (refl, (refl, ((refl, refl), (refl, (refl, (refl, (refl, (refl, (refl, (refl, (refl, ((refl, refl), (refl, tt))))))))))))))))))

@@ -7,32 +7,21 @@
 -- calls r f w x n cs xs  from such a state the calls cs get the answers xs
 -- slotsOffered n       n slots, each with an offer of accelerator 0 before it
 -- returns              the figures, each headed by what it is for
--- returns-hold         the claim: every one holds
+-- The claim, every returns, is proved in `proofs/Returns.antt`.
 use Prim.Native.Nat.{ℕ, zero, suc}
 use mathlib.Core.Bool.{Bool, true, false}
 use mathlib.Core.List.{List, [], _∷_, _++_}
-use mathlib.Core.Path.{refl}
 use lib.ListN.{replicate}
-use lib.Count.{ones}
 use Rattle.model.specs.declared.Tree.{Tree}
 use Rattle.model.specs.declared.State.{State}
-use Rattle.folds.specs.Fold.{sum, all}
-use Rattle.model.specs.Tree.{above}
 use Rattle.model.specs.Trees.{returningPair}
 use Rattle.model.specs.Builders.{withService, atSlot}
-use Rattle.model.specs.Beneath.{inside}
-use Rattle.rules.specs.Rules.{treeKeeps, stateKeeps, sized, recordKeeps, turnKeeps, busKeeps, carries, rootPlaced, childPlaced, usedInterconnect, unusedInterconnect, usedAccelerator, unusedAccelerator}
-use Rattle.turns.specs.Turns.{who, after, turnPort, turnAllowance, seek, bitsBelow}
-use Rattle.machine.specs.Machine.{Answer, admitted, served, idle, refused, freshState, offered, slotted, tick}
-use Rattle.machine.specs.Calls.{Call, offer, slot, answersOf}
-use Rattle.text.specs.Text.{parts, butLast, final, same, allDigits, decimal, fieldOf}
-use Rattle.lines.specs.Lines.{kindOf, pushed, lineOf, shaped}
-use Rattle.trace.specs.TraceFile.{offerLine, readOffers, readTrace, requests}
-use Rattle.runner.specs.Offers.{offerHeld, offerEach}
-use Rattle.runner.specs.Run.{done, stopped, heldWith, leftAfter, next, trail, ranOf, bufferAfter}
-use Rattle.shares.specs.Shares.{othersAt, shareAlong, shareOf}
+use Rattle.machine.specs.Machine.{Answer, admitted, served, idle, refused, freshState}
+use Rattle.machine.specs.Calls.{Call, offer, slot}
+use Rattle.runner.specs.Run.{done, stopped}
+use Rattle.shares.specs.Shares.{shareOf}
 use Rattle.put.specs.Page.{bytes}
-use Rattle.cases.specs.Figures.{Figure, answers, answersFrom, keeping, ran, numbers, every, times}
+use Rattle.cases.specs.Figures.{Figure, answers, answersFrom, keeping, ran, numbers, times}
 use Rattle.cases.specs.Clauses.{padded}
 
 abbrev onReturn : Tree → List ℕ → List ℕ → ℕ → State
@@ -104,7 +93,3 @@ returns =
     -- "with shares unchanged": g 1, so at most one other before each
     ∷ numbers (shareOf (returningPair 0 1 4) 0 ∷ shareOf (returningPair 15 1 4) 0 ∷ shareOf (returningPair 15 1 4) 1 ∷ []) (2 ∷ 2 ∷ 2 ∷ [])
     ∷ []
-
-pub returns-hold : every returns
-unfolding answersOf parts butLast final same allDigits decimal fieldOf kindOf pushed lineOf shaped offerLine readOffers readTrace requests ranOf bufferAfter heldWith leftAfter offerHeld offerEach next trail offered slotted tick who after turnPort turnAllowance seek bitsBelow treeKeeps stateKeeps sized recordKeeps turnKeeps busKeeps carries rootPlaced childPlaced usedInterconnect unusedInterconnect usedAccelerator unusedAccelerator inside above sum all ones shareAlong othersAt
-returns-hold = (refl, (refl, (refl, (refl, (refl, (refl, (refl, (refl, (refl, (refl, (refl, (refl, (refl, (refl, (refl, (refl, (refl, (refl, (refl, (refl, (refl, (refl, (refl, ((refl, refl), ((refl, refl), ((refl, refl), (refl, tt)))))))))))))))))))))))))))

@@ -14,14 +14,15 @@ use Rattle.model.specs.Tree.{above, waitingOf, admittedOf}
 use Rattle.model.specs.Beneath.{inside}
 use Rattle.rules.specs.Rules.{treeKeeps, stateKeeps, sized, recordKeeps, turnKeeps, busKeeps, carries, rootPlaced, childPlaced, usedInterconnect, unusedInterconnect, usedAccelerator, unusedAccelerator, keeps}
 use Rattle.turns.specs.Turns.{who, after, turnPort, turnAllowance, seek, bitsBelow}
-use Rattle.machine.specs.Machine.{Answer, admitted, served, idle, refused, freshState, offered, slotted, tick}
-use Rattle.machine.specs.Calls.{Call, offer, slot, answersOf, stateAfter}
+use Rattle.machine.specs.Machine.{Answer, Outcome, admitted, served, idle, refused, freshState, offered, slotted, tick}
+use Rattle.machine.specs.Calls.{Call, offer, slot, step, answersOf, stateAfter}
+use Rattle.machine.proofs.Within.{stepWithin, step-within, step-keeps}
 use Rattle.shares.specs.Shares.{othersAt, shareAlong, shareOf}
-use Rattle.model.specs.Trees.{chain}
+use Rattle.model.specs.Trees.{chain, chainOf, nested, returningPair}
 use Rattle.guarantee.specs.Guarantee.{Event, event, eventsOf, queueFrom, startingQueue, queueAfter, slotsIn, othersIn, admissionsFrom, ServedWithin, Holds, here, Guarantee}
 use Rattle.guarantee.specs.Homecoming.{recentIn}
 use Rattle.guarantee.specs.AtOnce.{sizedAtOnce, recordKeepsAtOnce, stateKeepsAtOnce, offeredAtOnce, slottedAtOnce, answersAtOnce}
-use Rattle.guarantee.specs.Instances.{MetExactly, backOf, Tight, several, unreached, Sharp, AllTight}
+use Rattle.guarantee.specs.Instances.{MetExactly, backOf, Tight, several, caseTwo, keptFull, wideTurn, unreached, fromUnreached, late, untilLast, whileReturning, Sharp, AllTight}
 use Rattle.guarantee.proofs.Events.{slots-append}
 use Rattle.guarantee.proofs.Once.{served-once}
 use Rattle.guarantee.proofs.Theorem.{guarantee}
@@ -94,8 +95,24 @@ tight {t} {s} {cs} {a} {k} {n} m G = record {
       within = omega (arith, m .slots);
     }
 
+-- The events without the tests of the rules, which no call from a state that keeps them fails
+abbrev eventOn : (State → List Event) → Call → Outcome → List Event
+eventOn f c x = event c (x .answer) ∷ f (x .state)
+
+unfoldable pub eventsWithin : Tree → State → List Call → List Event
+eventsWithin t s [] = []
+eventsWithin t s (c ∷ cs) = eventOn (λ q. eventsWithin t q cs) c (stepWithin t s c)
+
+events-within : (t : Tree) (s : State) (cs : List Call) (es : List Event) → keeps t s ≡ true → eventsWithin t s cs ≡ es → eventsOf t s cs ≡ es
+unfolding eventsOf eventsWithin
+events-within t s [] es e h = h
+events-within t s (c ∷ cs) es e h =
+    ap (λ (xs : List Event). event c (step t s c .answer) ∷ xs)
+    (events-within t (step t s c .state) cs _ (step-keeps t s c e) refl)
+    ∙ ap (eventOn (λ q. eventsWithin t q cs) c) (step-within t s c e) ∙ h
+
 pub sharp : Sharp
-unfolding eventsOf answersOf stateAfter queueFrom startingQueue slotsIn othersIn admissionsFrom offered slotted tick who after turnPort turnAllowance seek bitsBelow treeKeeps stateKeeps sized recordKeeps turnKeeps busKeeps carries rootPlaced childPlaced usedInterconnect unusedInterconnect usedAccelerator unusedAccelerator inside above sum all ones othersAt shareAlong recentIn sizedAtOnce recordKeepsAtOnce stateKeepsAtOnce offeredAtOnce slottedAtOnce answersAtOnce
+unfolding eventsOf answersOf stateAfter queueFrom startingQueue slotsIn othersIn admissionsFrom offered slotted tick who after turnPort turnAllowance seek bitsBelow treeKeeps stateKeeps sized recordKeeps turnKeeps busKeeps carries rootPlaced childPlaced usedInterconnect unusedInterconnect usedAccelerator unusedAccelerator inside above sum all ones othersAt shareAlong recentIn sizedAtOnce recordKeepsAtOnce stateKeepsAtOnce offeredAtOnce slottedAtOnce answersAtOnce eventsWithin
 sharp = record {
   none-before = record {
     front = taken (several 4 (offer 0 ∷ []) ++ several 2 (offer 1 ∷ []) ++ offer 2 ∷ []);
@@ -103,7 +120,7 @@ sharp = record {
     rest = [];
     others = [];
     start = refl;
-    events = refl;
+    events = events-within chain (freshState chain) caseTwo _ refl refl;
     before = refl;
     first = refl;
     slots = refl;
@@ -117,7 +134,7 @@ sharp = record {
     rest = [];
     others = [];
     start = refl;
-    events = refl;
+    events = events-within (chainOf 64) (freshState (chainOf 64)) keptFull _ refl refl;
     before = refl;
     first = refl;
     slots = refl;
@@ -130,7 +147,7 @@ sharp = record {
     rest = [];
     others = [];
     start = refl;
-    events = refl;
+    events = events-within nested (freshState nested) wideTurn _ refl refl;
     before = refl;
     first = refl;
     slots = refl;
@@ -144,7 +161,7 @@ sharp = record {
     rest = [];
     others = [];
     start = refl;
-    events = refl;
+    events = events-within chain unreached fromUnreached _ refl refl;
     before = refl;
     first = refl;
     slots = refl;
@@ -159,7 +176,7 @@ sharp = record {
     rest = event slot idle ∷ event slot (refused 10) ∷ event (offer 3) admitted ∷ [];
     others = [];
     start = refl;
-    events = refl;
+    events = events-within chain late untilLast _ refl refl;
     before = refl;
     first = refl;
     slots = refl;
@@ -176,7 +193,7 @@ sharp = record {
     rest = [];
     others = [];
     start = refl;
-    events = refl;
+    events = events-within (returningPair 2 1 4) (freshState (returningPair 2 1 4)) whileReturning _ refl refl;
     before = refl;
     first = refl;
     slots = refl;

@@ -24,8 +24,9 @@ use Rattle.machine.specs.Calls.{Call, offer, slot, step, stateAfter}
 use Rattle.turns.proofs.Descent.{Turned, Unturned, choice}
 use Rattle.machine.proofs.Returns.{older-at}
 use Rattle.machine.proofs.Keeps.{take-returns}
+use Rattle.machine.proofs.Within.{step-keeps}
 use Rattle.machine.proofs.Cases.{Offered, offer-cases, Slotted, slot-cases}
-use Rattle.machine.proofs.Laws.{offer-keeps, offer-admits, offer-others, Served, Ticked, slot-keeps, slot-only-last, slot-serves, slot-on-path, slot-off-path, slot-idle-turns, slot-windows}
+use Rattle.machine.proofs.Laws.{offer-admits, offer-others, Served, Ticked, slot-only-last, slot-serves, slot-on-path, slot-off-path, slot-idle-turns, slot-windows}
 use Rattle.guarantee.specs.Guarantee.{Event, eventsOf}
 
 -- a transaction of b is admitted
@@ -167,10 +168,6 @@ module _ (t : Tree) (s : State) (k : keeps t s ≡ true) where
   does (offer b) = offer-does b
   does slot = slot-does
 
-  pub step-keeps : (c : Call) → keeps t (step t s c .state) ≡ true
-  step-keeps (offer b) = offer-keeps t s b k
-  step-keeps slot = slot-keeps t s k
-
 pub data Leads (t : Tree) : State → List Event → State → Type 0 where
   stay : {s : State} → keeps t s ≡ true → Leads t s [] s
   go : {s m r : State} {e : Event} {es : List Event} → keeps t s ≡ true → Does t s (e .call) (e .answer) m → Leads t m es r
@@ -180,7 +177,7 @@ pub calls-lead : (t : Tree) (s : State) (cs : List Call) → keeps t s ≡ true
     → Leads t s (eventsOf t s cs) (stateAfter t s cs)
 unfolding eventsOf stateAfter
 calls-lead t s [] k = stay k
-calls-lead t s (c ∷ cs) k = go k (does t s k c) (calls-lead t (step t s c .state) cs (step-keeps t s k c))
+calls-lead t s (c ∷ cs) k = go k (does t s k c) (calls-lead t (step t s c .state) cs (step-keeps t s c k))
 
 pub leads-start : {t : Tree} {s r : State} {es : List Event} → Leads t s es r → keeps t s ≡ true
 leads-start (stay k) = k

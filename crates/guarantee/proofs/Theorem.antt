@@ -3,7 +3,7 @@
 use Prim.Native.Nat.{ℕ, suc, _+_, _*_, _≤_, _<_}
 use mathlib.Core.Bool.{true}
 use mathlib.Core.List.{List, [], _∷_, _++_}
-use mathlib.Core.Path.{_≡_, refl, _∙_, ap, subst}
+use mathlib.Core.Path.{_≡_, refl, _∙_, subst}
 use native.Mathlib.Nat.{mul-sub, mul-one}
 use native.Mathlib.Omega.{arith}
 use lib.ListN.{length, length-append}
@@ -11,24 +11,24 @@ use lib.Dec.{eqb}
 use borrow.Author.Tests.{eq-eqb}
 use Rattle.model.specs.declared.Tree.{Tree}
 use Rattle.model.specs.declared.State.{State}
-use Rattle.folds.specs.Fold.{pick}
 use Rattle.model.specs.Tree.{limitOf, waitingOf}
 use Rattle.rules.specs.Rules.{keeps}
 use Rattle.folds.proofs.Folds.{picked}
 use Rattle.rules.proofs.Sound.{sound-of, kept-of}
 use Rattle.machine.specs.Machine.{admitted, served, idle, refused}
 use Rattle.machine.specs.Calls.{Call, offer, slot, step, stateAfter}
+use Rattle.machine.proofs.Within.{step-keeps}
 use Rattle.shares.specs.Shares.{shareOf}
-use Rattle.guarantee.specs.Guarantee.{Event, event, eventsOf, Ticket, admittedBy, queueFrom, startingQueue, queueAfter, slotsIn, othersIn, upTo, Holds, StillWaits, Guarantee}
+use Rattle.guarantee.specs.Guarantee.{Event, event, eventsOf, Ticket, admittedBy, startingQueue, queueAfter, slotsIn, othersIn, upTo, Holds, StillWaits, Guarantee}
 use Rattle.guarantee.proofs.Path.{waitOf, wait-most}
-use Rattle.guarantee.proofs.Leads.{Does, admits, serves, idles, halts, Leads, go, calls-lead, leads-start, Parts, parts, step-keeps}
+use Rattle.guarantee.proofs.Leads.{Does, admits, serves, idles, halts, Leads, go, calls-lead, leads-start, Parts, parts}
 use Rattle.guarantee.proofs.Queue.{start-length, queue-length, queue-up-to, stands-last, limits-hold, Timely, timely, few}
 use Rattle.guarantee.proofs.Budget.{within}
 
 keeps-after : (t : Tree) (s : State) (cs : List Call) → keeps t s ≡ true → keeps t (stateAfter t s cs) ≡ true
 unfolding stateAfter
 keeps-after t s [] k = k
-keeps-after t s (c ∷ cs) k = keeps-after t (step t s c .state) cs (step-keeps t s k c)
+keeps-after t s (c ∷ cs) k = keeps-after t (step t s c .state) cs (step-keeps t s c k)
 
 -- what a slot's answer says of its state
 refused-by-10 : {t : Tree} {s m : State} {n : ℕ} → Does t s slot (refused n) m → n ≡ 10

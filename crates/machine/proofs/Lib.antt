@@ -5,3 +5,4 @@ pub mod Keeps
 pub mod Windows
 pub mod Laws
 pub mod Steps
+pub mod Within

@@ -25,7 +25,7 @@ use Rattle.runner.specs.Wait.{countIn, first, admissionSlot, serviceSlot, Waits
 use Rattle.runner.proofs.Laws.{ran, bytes-length}
 use Rattle.runner.proofs.Endings.{ranBy, told-by, buffer-by}
 use Rattle.waits.specs.Why.{entries, Why, refusedAt, denied, waited, listOf, fewer, whyFrom, listOver, bufferFrom, whyRead, bufferRead, whyOf, whyBuffer}
-use Rattle.waits.specs.Told.{answerBy, bufferBy}
+use Rattle.waits.specs.Told.{answerBy, bufferBy, whyBy, leftBy}
 
 first-most : (n : ℕ) (f : ℕ → Bool) → first n f ≤ n
 unfolding first
@@ -102,12 +102,6 @@ module _ (t : Tree) (rs : List Request) (a k : ℕ) (w : Waits) (W : w ≡ waitF
     ]
 
 -- the tests before: those of the run over 65,536 bytes, where the lent buffer is in its limit
-abbrev pub whyBy : Ending → Why → Why
-whyBy (run.refusedAt n l) x = refusedAt n l
-whyBy (run.broken n) x = denied n
-whyBy (run.done n) x = x
-whyBy (run.stopped n) x = x
-
 module _ (t : Tree) (s : List ℕ) (a k : ℕ) (d : List ℕ) where
   abbrev rs : List Request
   rs = requests (lines s)
@@ -164,7 +158,7 @@ module _ (t : Tree) (s : List ℕ) (a k : ℕ) (o : List ℕ) (lo : length o ≡
   ends = X ∙ ap (ranOf t s) lo
 
   -- refused
-  pub why-refused : (y : Why) → y ≡ whyBy x (whyFrom t asked a k) → d ≡ ranBy x d (bufferFrom t asked a k d)
+  why-refused : (y : Why) → y ≡ whyBy x (whyFrom t asked a k) → d ≡ ranBy x d (bufferFrom t asked a k d)
       → (y ≡ whyOf t s a k (length d)) × (d ≡ whyBuffer t s a k d)
   why-refused y Y D = (
     Y ∙ ap (λ (z : Ending). whyBy z (whyFrom t asked a k)) ends ∙ why-ran t s a k d l,
@@ -182,10 +176,10 @@ module _ (t : Tree) (s : List ℕ) (a k : ℕ) (o : List ℕ) (lo : length o ≡
     ran-bytes = B ∙ buffer-by t s o ∙ ap (λ (z : Ending). ranBy z o (over (runFor t asked (length o)) o)) (sym X)
         ∙ is (List ℕ) o (over (runFor t asked (length o)) o) ∙ ap (λ n. over (runFor t asked n) o) lo
 
-    pub why-within : w .service ≤ length bs
+    why-within : w .service ≤ length bs
     why-within = service-within t asked a k w ran-wait o bs ran-bytes
 
-    pub why-told : (y : Why) → y ≡ answerBy t a k w → (d′ : List ℕ) → d′ ≡ bufferBy t a k w bs d
+    why-told : (y : Why) → y ≡ answerBy t a k w → (d′ : List ℕ) → d′ ≡ bufferBy t a k w bs d
         → (y ≡ whyOf t s a k (length d)) × (d′ ≡ whyBuffer t s a k d)
     why-told y Y d′ D = (
       Y ∙ answer-is t asked a k w ran-wait ∙ sym (told (whyFrom t asked a k))
@@ -193,3 +187,45 @@ module _ (t : Tree) (s : List ℕ) (a k : ℕ) (o : List ℕ) (lo : length o ≡
       D ∙ buffer-is t asked a k w ran-wait o bs ran-bytes d ∙ sym (is (List ℕ) d (bufferFrom t asked a k d))
           ∙ ap (λ (z : Ending). ranBy z d (bufferFrom t asked a k d)) ends ∙ buffer-ran t s a k d l,
     )
+
+-- however it ended
+pub record Tells (t : Tree) (s : List ℕ) (a k : ℕ) (d : List ℕ) (x : Ending) (w : Waits) (bs : List ℕ) : Type 0 where
+  pub service : w .service ≤ length bs
+  pub told : (v : Why) → v ≡ whyBy x (answerBy t a k w) → (l : List ℕ) → l ≡ leftBy x d (bufferBy t a k w bs d)
+      → (v ≡ whyOf t s a k (length d)) × (l ≡ whyBuffer t s a k d)
+
+pub tells : (t : Tree) (s : List ℕ) (a k : ℕ) (o : List ℕ) → length o ≡ 65536 → (x : Ending) → x ≡ ranOf t s (length o)
+    → (d : List ℕ) → length d ≤ 65536 → (w : Waits) → w ≡ toldOf t s a k (length o) → (bs : List ℕ) → bs ≡ bufferAfter t s o
+    → Tells t s a k d x w bs
+tells t s a k o lo x X d l w W bs B = go x X
+  where
+    untold : (y : Ending) → y ≡ ranOf t s (length o) → ranBy y noWait (waitFor t (requests (lines s)) a k (length o)) ≡ noWait → w .service ≤ length bs
+    untold y Y e =
+        let n = ap (λ (v : Waits). v .service)
+        (W ∙ told-by t s a k (length o) ∙ ap (λ (z : Ending). ranBy z noWait (waitFor t (requests (lines s)) a k (length o))) (sym Y) ∙ e) in
+        omega (arith, n)
+
+    went : (y : Ending) → y ≡ ranOf t s (length o) → (is : (A : Type 0) (u v : A) → ranBy y u v ≡ v) → (told : (z : Why) → whyBy y z ≡ z)
+        → (left : (v : List ℕ) → leftBy y d v ≡ v) → Tells t s a k d y w bs
+    went y Y is told left =
+        let e = why-told t s a k o lo y Y d l is told w W bs B (answerBy t a k w) refl (bufferBy t a k w bs d) refl in
+        record {
+          service = why-within t s a k o lo y Y d l is told w W bs B;
+          told = λ v i r j. (i ∙ told (answerBy t a k w) ∙ e .0, j ∙ left (bufferBy t a k w bs d) ∙ e .1);
+        }
+
+    go : (y : Ending) → y ≡ ranOf t s (length o) → Tells t s a k d y w bs
+    go (run.refusedAt n i) Y =
+        let e = why-refused t s a k o lo (run.refusedAt n i) Y d l (refusedAt n i) refl refl in
+        record { service = untold (run.refusedAt n i) Y refl; told = λ v i r j. (i ∙ e .0, j ∙ e .1) }
+    go (run.broken n) Y =
+        let e = why-refused t s a k o lo (run.broken n) Y d l (denied n) refl refl in
+        record { service = untold (run.broken n) Y refl; told = λ v i r j. (i ∙ e .0, j ∙ e .1) }
+    go (run.done n) Y = went (run.done n) Y (λ A u v. refl) (λ z. refl) (λ v. refl)
+    go (run.stopped n) Y = went (run.stopped n) Y (λ A u v. refl) (λ z. refl) (λ v. refl)
+
+-- the answer and the buffer of the case of how the run ended
+pub by-end : (t : Tree) (a k : ℕ) (w : Waits) (bs d : List ℕ) (x y : Ending) → y ≡ x → (v : Why) → v ≡ whyBy y (answerBy t a k w)
+    → (l : List ℕ) → l ≡ leftBy y d (bufferBy t a k w bs d) → (v ≡ whyBy x (answerBy t a k w)) × (l ≡ leftBy x d (bufferBy t a k w bs d))
+by-end t a k w bs d x y X v i l j =
+    (i ∙ ap (λ (e : Ending). whyBy e (answerBy t a k w)) X, j ∙ ap (λ (e : Ending). leftBy e d (bufferBy t a k w bs d)) X)

@@ -4,6 +4,7 @@ use model::Refusal;
 use model::Tree;
 use rules::tree_keeps;
 use runner::RunAnswer;
+use runner::RunWait;
 use runner::Wait;
 use runner::run_wait;
 ghost use mathlib.Core.Path.{_≡_};
@@ -14,9 +15,9 @@ ghost use lib.ListN.{length, take, drop};
 ghost use Rattle.folds.specs.Fold.{pick};
 ghost use Rattle.rules.specs.Rules.{treeKeeps};
 ghost use Rattle.meeting.specs.Meeting.{meetOf};
-ghost use Rattle.runner.specs.Answers.{waitOf};
+ghost use Rattle.runner.specs.Answers.{runMeans, waitOf};
 ghost use Rattle.waits.specs.Why.{entries, refusedAt, denied, listOver, whyOf, whyBuffer};
-ghost use Rattle.waits.specs.Told.{answerBy, bufferBy};
+ghost use Rattle.waits.specs.Told.{answerBy, bufferBy, whyBy, leftBy};
 ghost use Rattle.waits.specs.Answers.{whyMeans};
 
 // What `why` answers: refused, with a line of the trace, or 0 for a size; refused without a line, because the configuration breaks
@@ -82,6 +83,21 @@ fn explain(t: Tree, a: u8, k: u32, w: Wait, bytes: &[u8], out: &mut [u8]) -> Why
     WhyAnswer::Waited(apart(w.admission, w.service), w.admission)
 }
 
+// The answer by how a run ended: its refusal, or else by what it told.
+fn tell(t: Tree, a: u8, k: u32, ran: RunWait, bytes: &[u8], out: &mut [u8]) -> WhyAnswer
+    requires { ⌜ (ran .wait .service ≤ length (now bytes)) × (length (now out) ≤ 65536) ⌝ }
+    ensures answer { λ r. ⌜ whyMeans r ≡ whyBy (runMeans (ran .answer)) (answerBy t a k (waitOf (ran .wait))) ⌝ }
+    ensures list { λ r. ⌜ now (out .exit) ≡ leftBy (runMeans (ran .answer)) (now (out .entry)) (bufferBy t a k (waitOf (ran .wait)) (now (bytes .entry)) (now (out .entry))) ⌝ }
+{
+    let answer = ran.answer;
+    match answer {
+        RunAnswer::Refused(r, line) => WhyAnswer::Refused(r, line),
+        RunAnswer::Broken => WhyAnswer::Broken,
+        RunAnswer::Done(_) => explain(t, a, k, ran.wait, bytes, out),
+        RunAnswer::Stopped(_) => explain(t, a, k, ran.wait, bytes, out),
+    }
+}
+
 // A lent buffer over the limit: 11 comes first.
 fn over_limit(t: Tree) -> WhyAnswer
     ensures { λ r. ⌜ whyMeans r ≡ pick (not (treeKeeps t)) (denied 11) (refusedAt 2 0) ⌝ }
@@ -103,11 +119,5 @@ pub fn why(t: Tree, trace: &[u8], a: u8, k: u32, out: &mut [u8]) -> WhyAnswer
     }
     let mut bytes = [0u8; 65536];
     let ran = run_wait(t, trace, a, k, &mut bytes);
-    let answer = ran.answer;
-    match answer {
-        RunAnswer::Refused(r, line) => WhyAnswer::Refused(r, line),
-        RunAnswer::Broken => WhyAnswer::Broken,
-        RunAnswer::Done(_) => explain(t, a, k, ran.wait, &bytes, out),
-        RunAnswer::Stopped(_) => explain(t, a, k, ran.wait, &bytes, out),
-    }
+    tell(t, a, k, ran, &bytes, out)
 }

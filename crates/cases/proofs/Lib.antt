@@ -1,0 +1,4 @@
+pub mod Quick
+pub mod Figures
+pub mod Clauses
+pub mod Returns
