@@ -3,18 +3,27 @@
 use crate::generate::LENGTH;
 use crate::generate::SIDE;
 use crate::generate::put_column;
-use crate::generate::put_number;
 use crate::generate::put_text;
 use store::put;
 
-// The bus line up to the burst length, and what comes after that; the root.
-fn put_line(w: &mut [u8; 16384], d: &mut [usize; 16384], burst: usize, rest: &[u8]) {
+// The bus line up to the burst length.
+fn put_head(w: &mut [u8; 16384], d: &mut [usize; 16384], burst: usize) {
     put(d, SIDE, 0, 8192);
     put(d, LENGTH, 0, 0);
-    put_text(w, d, b"bus\t16\t1\t4\t2\t2\t30\t25\t1\t1\t");
-    put_number(w, d, burst);
-    put_text(w, d, rest);
+    put_text(w, d, b"bus\t16\t1\t4\t2\t2\t30\t25\t1\t1");
+    put_column(w, d, burst);
+}
+
+// The end of the bus line, and the root.
+fn put_root(w: &mut [u8; 16384], d: &mut [usize; 16384]) {
     put_text(w, d, b"\nint\t0\t-\t-\t1\n");
+}
+
+// The bus line, with what comes after its burst length; the root.
+fn put_line(w: &mut [u8; 16384], d: &mut [usize; 16384], burst: usize, rest: &[u8]) {
+    put_head(w, d, burst);
+    put_text(w, d, rest);
+    put_root(w, d);
 }
 
 fn put_bus(w: &mut [u8; 16384], d: &mut [usize; 16384], burst: usize) {
@@ -101,18 +110,31 @@ fn single(w: &mut [u8; 16384], d: &mut [usize; 16384], burst: usize) {
 // How many files there are with a return delay at its limits.
 pub const DELAYS: usize = 8;
 
+// Of each its burst length and its return delay; the delay is empty at 3, twice there at 4, and "-" at 5.
+const BURSTS: [usize; 8] = [16, 16, 16, 16, 16, 16, 257, 256];
+
+const RETURNS: [usize; 8] = [0, 15, 16, 0, 1, 0, 15, 1];
+
+fn put_delay(w: &mut [u8; 16384], d: &mut [usize; 16384], i: usize) {
+    if i == 3 {
+        put_text(w, d, b"\t");
+        return;
+    }
+    if i == 5 {
+        put_text(w, d, b"\t-");
+        return;
+    }
+    put_column(w, d, RETURNS[i % 8]);
+    if i == 4 {
+        put_column(w, d, 1);
+    }
+}
+
 // One of them: a bus line with more after its burst length, and two accelerators.
 pub fn make_delay(w: &mut [u8; 16384], d: &mut [usize; 16384], i: usize) {
-    match i {
-        0 => put_line(w, d, 16, b"\t0"),
-        1 => put_line(w, d, 16, b"\t15"),
-        2 => put_line(w, d, 16, b"\t16"),
-        3 => put_line(w, d, 16, b"\t"),
-        4 => put_line(w, d, 16, b"\t1\t1"),
-        5 => put_line(w, d, 16, b"\t-"),
-        6 => put_line(w, d, 257, b"\t15"),
-        _ => put_line(w, d, 256, b"\t1"),
-    }
+    put_head(w, d, BURSTS[i % 8]);
+    put_delay(w, d, i);
+    put_root(w, d);
     put_acc(w, d, 0, 0, 0);
     put_acc(w, d, 1, 0, 7);
 }

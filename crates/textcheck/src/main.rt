@@ -256,17 +256,23 @@ fn load(name: &[u8]) {
     }
 }
 
+// Files by their names, each ended by a semicolon.
+fn load_each(names: &[u8]) {
+    let mut at = 0;
+    while at < names.len() {
+        let end = part_end(names, at, b';');
+        if names.len() <= end {
+            return;
+        }
+        load(&names[at..end]);
+        at = end + 1;
+    }
+}
+
 // Files that are there, standard input, and then what is no file: no such name, two directories, no name, a name too long, and
 // standard input again, which is closed.
 fn load_all() {
-    load(b"five.txt");
-    load(b"twenty.txt");
-    load(b"empty.txt");
-    load(b"-");
-    load(b"missing.txt");
-    load(b".");
-    load(b"/");
-    load(b"");
+    load_each(b"five.txt;twenty.txt;empty.txt;-;missing.txt;.;/;;");
     load(&[b'x'; 5000]);
     load(b"-");
 }
@@ -291,106 +297,147 @@ fn say(trace: bool, bytes: &[u8], number: u8, line: u32) {
     show_page(&page, n);
 }
 
+// Refusals in words of files, each ended by a semicolon.
+fn say_each(trace: bool, files: &[u8], number: u8, line: u32) {
+    let mut at = 0;
+    while at < files.len() {
+        let end = part_end(files, at, b';');
+        if files.len() <= end {
+            return;
+        }
+        say(trace, &files[at..end], number, line);
+        at = end + 1;
+    }
+}
+
 // A wrong shape: what is most likely wrong, the name, the counts.
 fn say_shapes() {
-    say(false, b"\xef\xbb\xbfbus\t8\n", 1, 1);
-    say(false, b"bus\t8\r\n", 1, 1);
-    say(false, b"bus 8\n", 1, 1);
-    say(false, b"bus\t8", 1, 1);
-    say(false, b"\n", 1, 1);
-    say(false, b"buss\t8\n", 1, 1);
-    say(false, b"abcdefghijklmnopqrstuvwxyz\n", 1, 1);
-    say(false, b"b\x1f!~\x7f\xff\t8\n", 1, 1);
-    say(false, b"o\t0\t0\t1\n", 1, 1);
+    say_each(
+        false,
+        b"\xef\xbb\xbfbus\t8\n;\
+        bus\t8\r\n;\
+        bus 8\n;\
+        bus\t8;\
+        \n;\
+        buss\t8\n;\
+        abcdefghijklmnopqrstuvwxyz\n;\
+        b\x1f!~\x7f\xff\t8\n;\
+        o\t0\t0\t1\n;",
+        1,
+        1,
+    );
     say(true, b"int\t0\t-\t-\t1\n", 1, 1);
-    say(false, b"bus\n", 1, 1);
-    say(false, b"bus\t8\t1\t4\t2\t2\t30\t25\t1\t1\t16\t2\t3\n", 1, 1);
-    say(false, b"int\t0\t-\t-\n", 1, 1);
+    say_each(
+        false,
+        b"bus\n;\
+        bus\t8\t1\t4\t2\t2\t30\t25\t1\t1\t16\t2\t3\n;\
+        int\t0\t-\t-\n;",
+        1,
+        1,
+    );
     say(false, b"\nacc\t0\t0\t0\t4\t2\t10\t5\t1000\n", 1, 2);
     say(true, b"o\t0\t0\t1\t\n", 1, 1);
-    say_fields();
 }
 
 // A field that may not stand, and a line of no wrong shape.
 fn say_fields() {
-    say(false, b"\nacc\t0\t0\t0\tx7\t2\t10\t5\t1000\t2000\n", 1, 2);
-    say(false, b"\nacc\t0\t0\t0\t4\t2\t10\t5\t1000\t-\n", 1, 2);
-    say(false, b"bus\t8\t1\t4\t2\t2\t30\t25\t1\t1\t16\t\n", 1, 1);
-    say(false, b"int\t-\t-\t-\t1\n", 1, 1);
-    say(false, b"int\t0\t-\t-1\t1\n", 1, 1);
-    say(true, b"o\t0\t01\t1\n", 1, 1);
-    say(true, b"o\t0\t0\t\n", 1, 1);
-    say(true, b"o\t123456789012345678901\t0\t1\n", 1, 1);
-    say(true, b"o\t0\t0\t1\n", 1, 1);
-}
-
-// The fields of a bus line, each outside its limits: line 2.
-fn say_bus_limits() {
-    say(false, b"\nbus\t0\t1\t4\t2\t2\t30\t25\t1\t1\t16\n", 2, 2);
-    say(false, b"\nbus\t8\t256\t4\t2\t2\t30\t25\t1\t1\t16\n", 2, 2);
-    say(false, b"\nbus\t8\t1\t256\t2\t2\t30\t25\t1\t1\t16\n", 2, 2);
-    say(false, b"\nbus\t8\t1\t4\t256\t2\t30\t25\t1\t1\t16\n", 2, 2);
-    say(false, b"\nbus\t8\t1\t4\t2\t256\t30\t25\t1\t1\t16\n", 2, 2);
-    say(false, b"\nbus\t8\t1\t4\t2\t2\t4096\t25\t1\t1\t16\n", 2, 2);
-    say(false, b"\nbus\t8\t1\t4\t2\t2\t30\t4096\t1\t1\t16\n", 2, 2);
-    say(false, b"\nbus\t8\t1\t4\t2\t2\t30\t25\t0\t1\t16\n", 2, 2);
-    say(false, b"\nbus\t8\t1\t4\t2\t2\t30\t25\t1\t0\t16\n", 2, 2);
-    say(false, b"\nbus\t8\t1\t4\t2\t2\t30\t25\t1\t1\t257\n", 2, 2);
-    say(false, b"\nbus\t8\t1\t4\t2\t2\t30\t25\t1\t1\t16\t16\n", 2, 2);
-}
-
-fn say_int_limits() {
-    say(false, b"\nint\t15\t0\t0\t1\n", 2, 2);
-    say(false, b"\nint\t1\t15\t0\t1\n", 2, 2);
-    say(false, b"\nint\t1\t0\t8\t1\n", 2, 2);
-    say(false, b"\nint\t1\t0\t0\t17\n", 2, 2);
-}
-
-fn say_acc_limits() {
-    say(false, b"\nacc\t32\t0\t0\t4\t2\t10\t5\t1000\t2000\n", 2, 2);
-    say(false, b"\nacc\t0\t15\t0\t4\t2\t10\t5\t1000\t2000\n", 2, 2);
-    say(false, b"\nacc\t0\t0\t8\t4\t2\t10\t5\t1000\t2000\n", 2, 2);
-    say(false, b"\nacc\t0\t0\t0\t32\t2\t10\t5\t1000\t2000\n", 2, 2);
-    say(false, b"\nacc\t0\t0\t0\t4\t0\t10\t5\t1000\t2000\n", 2, 2);
-    say(false, b"\nacc\t0\t0\t0\t4\t2\t65536\t5\t1000\t2000\n", 2, 2);
-    say(
+    say_each(
         false,
-        b"\nacc\t0\t0\t0\t4\t2\t10\t65536\t1000\t2000\n",
+        b"\nacc\t0\t0\t0\tx7\t2\t10\t5\t1000\t2000\n;\
+        \nacc\t0\t0\t0\t4\t2\t10\t5\t1000\t-\n;",
+        1,
+        2,
+    );
+    say_each(
+        false,
+        b"bus\t8\t1\t4\t2\t2\t30\t25\t1\t1\t16\t\n;\
+        int\t-\t-\t-\t1\n;\
+        int\t0\t-\t-1\t1\n;",
+        1,
+        1,
+    );
+    say_each(
+        true,
+        b"o\t0\t01\t1\n;\
+        o\t0\t0\t\n;\
+        o\t123456789012345678901\t0\t1\n;\
+        o\t0\t0\t1\n;",
+        1,
+        1,
+    );
+}
+
+// The fields of every record, each outside its limits: line 2.
+fn say_tree_limits() {
+    say_each(
+        false,
+        b"\nbus\t0\t1\t4\t2\t2\t30\t25\t1\t1\t16\n;\
+        \nbus\t8\t256\t4\t2\t2\t30\t25\t1\t1\t16\n;\
+        \nbus\t8\t1\t256\t2\t2\t30\t25\t1\t1\t16\n;\
+        \nbus\t8\t1\t4\t256\t2\t30\t25\t1\t1\t16\n;\
+        \nbus\t8\t1\t4\t2\t256\t30\t25\t1\t1\t16\n;\
+        \nbus\t8\t1\t4\t2\t2\t4096\t25\t1\t1\t16\n;\
+        \nbus\t8\t1\t4\t2\t2\t30\t4096\t1\t1\t16\n;\
+        \nbus\t8\t1\t4\t2\t2\t30\t25\t0\t1\t16\n;\
+        \nbus\t8\t1\t4\t2\t2\t30\t25\t1\t0\t16\n;\
+        \nbus\t8\t1\t4\t2\t2\t30\t25\t1\t1\t257\n;\
+        \nbus\t8\t1\t4\t2\t2\t30\t25\t1\t1\t16\t16\n;\
+        \nint\t15\t0\t0\t1\n;\
+        \nint\t1\t15\t0\t1\n;\
+        \nint\t1\t0\t8\t1\n;\
+        \nint\t1\t0\t0\t17\n;\
+        \nacc\t32\t0\t0\t4\t2\t10\t5\t1000\t2000\n;\
+        \nacc\t0\t15\t0\t4\t2\t10\t5\t1000\t2000\n;\
+        \nacc\t0\t0\t8\t4\t2\t10\t5\t1000\t2000\n;\
+        \nacc\t0\t0\t0\t32\t2\t10\t5\t1000\t2000\n;\
+        \nacc\t0\t0\t0\t4\t0\t10\t5\t1000\t2000\n;\
+        \nacc\t0\t0\t0\t4\t2\t65536\t5\t1000\t2000\n;\
+        \nacc\t0\t0\t0\t4\t2\t10\t65536\t1000\t2000\n;\
+        \nacc\t0\t0\t0\t4\t2\t10\t5\t4294967296\t2000\n;\
+        \nacc\t0\t0\t0\t4\t2\t10\t5\t1000\t0\n;",
         2,
         2,
     );
-    say(
-        false,
-        b"\nacc\t0\t0\t0\t4\t2\t10\t5\t4294967296\t2000\n",
-        2,
-        2,
-    );
-    say(false, b"\nacc\t0\t0\t0\t4\t2\t10\t5\t1000\t0\n", 2, 2);
 }
 
 // The fields of every record; a total; a line that is in its limits.
 fn say_limits() {
-    say_bus_limits();
-    say_int_limits();
-    say_acc_limits();
-    say(true, b"\no\t4294967295\t0\t1\n", 2, 2);
-    say(true, b"\no\t0\t0\t17\n", 2, 2);
-    say(true, b"\no\t0\t3\t16\n", 2, 2);
+    say_tree_limits();
+    say_each(
+        true,
+        b"\no\t4294967295\t0\t1\n;\
+        \no\t0\t0\t17\n;\
+        \no\t0\t3\t16\n;",
+        2,
+        2,
+    );
     say(false, b"\nint\t0\t-\t-\t1\n", 2, 2);
 }
 
-// The other numbers of a file, by the record that is refused and in general.
-fn say_places() {
-    let bus = b"bus\t8\t1\t4\t2\t2\t30\t25\t1\t1\t16\n";
-    let offers = b"o\t5\t0\t1\no\t3\t6\t1\n";
+// Order, by the record that is refused and in general.
+fn say_order(bus: &[u8], offers: &[u8]) {
     say(false, bus, 3, 1);
-    say(false, b"int\t3\t1\t6\t1\n", 3, 1);
-    say(false, b"acc\t7\t0\t1\t4\t2\t10\t5\t1000\t2000\n", 3, 1);
+    say_each(
+        false,
+        b"int\t3\t1\t6\t1\n;\
+        acc\t7\t0\t1\t4\t2\t10\t5\t1000\t2000\n;",
+        3,
+        1,
+    );
     say(false, bus, 3, 2);
     say(false, b"", 3, 1);
     say(true, offers, 3, 1);
-    say(false, b"int\t3\t1\t6\t1\n", 4, 1);
-    say(false, b"acc\t7\t0\t1\t4\t2\t10\t5\t1000\t2000\n", 4, 1);
+}
+
+// The other numbers of a file.
+fn say_places(bus: &[u8], offers: &[u8]) {
+    say_each(
+        false,
+        b"int\t3\t1\t6\t1\n;\
+        acc\t7\t0\t1\t4\t2\t10\t5\t1000\t2000\n;",
+        4,
+        1,
+    );
     say(false, bus, 4, 1);
     say(false, b"int\t5\t4\t0\t1\n", 5, 1);
     say(false, bus, 5, 1);
@@ -400,23 +447,32 @@ fn say_places() {
     say(false, bus, 7, 1);
 }
 
+// Both, of a bus line and of a trace.
+fn say_lines(bus: &[u8], offers: &[u8]) {
+    say_order(bus, offers);
+    say_places(bus, offers);
+}
+
+// These numbers, a byte each, of a tree file.
+fn say_of_tree(tree: &[u8], numbers: &[u8], line: u32) {
+    for i in 0..numbers.len() {
+        say(false, tree, numbers[i], line);
+    }
+}
+
 // Numbers that name no line of a file, and those of a file without a line.
 fn say_numbers() {
+    say_lines(
+        b"bus\t8\t1\t4\t2\t2\t30\t25\t1\t1\t16\n",
+        b"o\t5\t0\t1\no\t3\t6\t1\n",
+    );
     let tree = b"bus\t8\n";
-    say_places();
     say(false, tree, 0, 1);
-    say(false, tree, 8, 0);
-    say(false, tree, 9, 0);
-    say(false, tree, 10, 0);
-    say(false, tree, 11, 0);
+    say_of_tree(tree, &[8, 9, 10, 11], 0);
     say(true, tree, 7, 0);
     say(true, tree, 12, 0);
-    say(false, tree, 12, 1);
-    say(false, tree, 13, 1);
-    say(false, tree, 255, 0);
-    say(false, tree, 1, 0);
-    say(false, tree, 2, 0);
-    say(false, tree, 3, 0);
+    say_of_tree(tree, &[12, 13], 1);
+    say_of_tree(tree, &[255, 1, 2, 3], 0);
 }
 
 // Of a refusal also what is refused.
@@ -482,16 +538,17 @@ fn why_words(tree: &[u8]) {
     why(b"x\n", b"x\n", 2, 0);
 }
 
-fn simulate_words(tree: &[u8], trace: &[u8]) {
-    simulate(tree, trace, b"0");
-    simulate(tree, trace, b"1");
-    simulate(tree, trace, b"65536");
-    simulate(tree, trace, b"65537");
-    simulate(tree, trace, b"99999999999999999999999999");
-    simulate(tree, trace, b"");
-    simulate(tree, trace, b"00");
-    simulate(tree, trace, b"-1");
-    simulate(tree, trace, b"1x");
+// A simulation by each word SLOTS, ended by a semicolon.
+fn simulate_each(tree: &[u8], trace: &[u8], words: &[u8]) {
+    let mut at = 0;
+    while at < words.len() {
+        let end = part_end(words, at, b';');
+        if words.len() <= end {
+            return;
+        }
+        simulate(tree, trace, &words[at..end]);
+        at = end + 1;
+    }
 }
 
 // A refused tree, a refused trace, and then also a refused word.
@@ -513,7 +570,11 @@ fn reports(tree: &[u8]) {
 // The texts of the programs on a tree: the reports, the runs, the waits.
 fn programs(tree: &[u8]) {
     reports(tree);
-    simulate_words(tree, b"o\t0\t0\t1\no\t1\t1\t1\n");
+    simulate_each(
+        tree,
+        b"o\t0\t0\t1\no\t1\t1\t1\n",
+        b"0;1;65536;65537;99999999999999999999999999;;00;-1;1x;",
+    );
     simulate_refused(tree);
     why_words(tree);
 }
@@ -528,6 +589,7 @@ fn main() {
     why_lines();
     load_all();
     say_shapes();
+    say_fields();
     say_limits();
     say_numbers();
 }
