@@ -1,12 +1,9 @@
--- The bytes of a file that was read are a part of the buffer; what a read answers, by its number.
+-- The bytes of a file that was read are within the buffer; what a read answers, by its number.
 use Prim.Native.Nat.{ℕ, _≤_, min}
 use native.Mathlib.Omega.{arith}
 use mathlib.Core.Bool.{true, false}
-use mathlib.Core.List.{List}
 use mathlib.Core.Path.{_≡_, refl, ap, sym, subst, _∙_}
 use lib.IntN.{ℤ, pos, negsuc}
-use lib.ListN.{length, take}
-use lib.Seq.{length-take-le}
 use lib.Signed.{ltZ}
 use borrow.Author.Tests.{ltb-true}
 use Rattle.io.specs.Counts.{clamped}
@@ -16,9 +13,6 @@ use Rattle.input.specs.Input.{sizeOf, answerOf}
 
 pub read-within : {x : Input} {n k : ℕ} → x ≡ Bytes n → sizeOf x ≤ k → n ≤ k
 read-within {x} {n} {k} e h = subst (λ (m : ℕ). m ≤ k) (ap sizeOf e) h
-
-pub read-part : {x : Input} {n : ℕ} (l : List ℕ) → x ≡ Bytes n → sizeOf x ≤ length l → n ≡ length (take n l)
-read-part {x} {n} l e h = sym (length-take-le n l (read-within e h))
 
 failed : (z : ℤ) (n : ℕ) → ltZ z (pos 0) ≡ true → Failed ≡ answerOf z n
 unfolding answerOf

@@ -8,7 +8,7 @@ use libc::STDOUT_FILENO;
 use usage::is_dash;
 ghost use mathlib.Core.Path.{_≡_};
 ghost use Prim.Native.Nat.{_≤_};
-ghost use lib.ListN.{length};
+ghost use lib.ListN.{length, take};
 ghost use Rattle.input.specs.Input.{sizeOf, answerOf};
 
 // A file read to its end, or until the buffer is full; or a read failed. Likewise of one read and one write.
@@ -32,6 +32,30 @@ pub fn word(i: usize, buf: &mut [u8; 131072]) -> usize
     ensures { λ r. ⌜ r ≤ length (now (buf .exit)) ⌝ }
 {
     os::arg(i, buf)
+}
+
+// The first n bytes, or all where there are fewer.
+fn first_bytes(s: &[u8], n: usize) -> &[u8]
+    ensures { λ r. ⌜ now r ≡ take n (now (s .entry)) ⌝ }
+{
+    if n < s.len() {
+        return &s[..n];
+    }
+    s
+}
+
+// A text that was put into a page. Page and buffer are lent as arrays: a caller's part of them then needs no proof.
+pub fn page_text(page: &[u8; 65536], n: usize) -> &[u8]
+    ensures { λ r. ⌜ now r ≡ take n (now (page .entry)) ⌝ }
+{
+    first_bytes(page, n)
+}
+
+// A file that was read into a buffer, which is one byte longer than a file may be.
+pub fn file_bytes(file: &[u8; 65537], n: usize) -> &[u8]
+    ensures { λ r. ⌜ now r ≡ take n (now (file .entry)) ⌝ }
+{
+    first_bytes(file, n)
 }
 
 // What a read or a write of the buffer answered: below 0 it failed, else it moved so many bytes; a read that moves none is at

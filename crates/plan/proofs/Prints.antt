@@ -1,9 +1,6 @@
 -- A text that fits the reading's answer is the report of the file: the reading equals its definition, by `read_tree`'s
 -- contract.
-use Prim.Native.Nat.{ℕ, _≤_}
-use native.Mathlib.Omega.{arith}
-use lib.ListN.{length, take, length-append}
-use lib.Seq.{length-take-le}
+use Prim.Native.Nat.{ℕ}
 use mathlib.Core.List.{List}
 use mathlib.Core.Path.{_≡_, ap, sym, subst, _∙_}
 use Rattle.lines.specs.declared.FileAnswer.{FileAnswer}
@@ -23,10 +20,3 @@ prints R Q h x a {d} {e} {n} k l w p q =
       number = p ∙ ap answerNumber answer;
       line = q ∙ ap answerLine answer;
     }
-
--- a text that was put into a page is within it
-pub in-page : {xs d e : List ℕ} {n : ℕ} → Written xs d e n → n ≤ length e
-in-page {xs} {d} w = omega (arith, w .bytes, simp length-append at (ap length (w .page)))
-
-pub part-length : {xs d e : List ℕ} {n : ℕ} → Written xs d e n → n ≡ length (take n e)
-part-length {e = e} {n = n} w = sym (length-take-le n e (in-page w))

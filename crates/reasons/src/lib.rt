@@ -1,4 +1,4 @@
-// A refusal in words for a person, from the bytes of the file that is refused, put into a page that the caller lends.
+// A refusal in words for a person, from the bytes of the file that is refused, put into a page that the caller lends; and said.
 mod parts;
 mod shapes;
 mod values;
@@ -116,4 +116,11 @@ pub fn reason_text(trace: bool, s: &[u8], number: u8, line: u32, out: &mut [u8; 
     ensures { λ r. ⌜ Written (reasonText trace (now (s .entry)) number line) (now (out .entry)) (now (out .exit)) r ⌝ }
 {
     put_reason(out, trace, s, number, line)
+}
+
+// Says on standard error, for every program, why the file of that name, a tree or, if `trace`, a trace, is refused.
+pub fn explain(name: &[u8], trace: bool, s: &[u8], number: u8, line: u32) {
+    let mut page = [0u8; 65536];
+    let n = reason_text(trace, s, number, line, &mut page);
+    input::say_of(name, input::page_text(&page, n));
 }

@@ -139,20 +139,23 @@ pub fn put_line(
     if number == 2 {
         return put_value(out, at, kind, values);
     }
+    let x = values[0];
+    let y = values[1];
+    let z = values[2];
     if (number == 3) & fits(false, kind) {
-        return put_of_record(out, at, kind, order_row(kind), values[0], 0);
+        return put_of_record(out, at, kind, order_row(kind), x, 0);
     }
     if (number == 4) & on_port(kind) {
-        return put_of_field(out, at, kind, 2, 25, values[2], values[1]);
+        return put_of_field(out, at, kind, 2, 25, z, y);
     }
     if (number == 5) & is_int(kind) {
-        return put_of_field(out, at, kind, 1, 26, values[1], 0);
+        return put_of_field(out, at, kind, 1, 26, y, 0);
     }
     if (number == 6) & trace {
-        return put_of_field(out, at, kind, 0, 27, values[0], before);
+        return put_of_field(out, at, kind, 0, 27, x, before);
     }
     if (number == 7) & trace {
-        return put_of_field(out, at, kind, 1, 28, values[1], 0);
+        return put_of_field(out, at, kind, 1, 28, y, 0);
     }
     put_sentence(out, at, number_row(number), 0, 0)
 }

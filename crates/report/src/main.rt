@@ -1,6 +1,8 @@
 // report [FILE]: reads a tree file, standard input without a name or with "-", and writes the report of document 01 to standard
 // output. A refusal is one line there, and one line in words on standard error.
 use input::Input;
+use input::file_bytes;
+use input::page_text;
 use libc::STDERR_FILENO;
 use libc::STDIN_FILENO;
 use usage::Asked;
@@ -9,9 +11,8 @@ use usage::Asked;
 fn refuse(name: &[u8], tree: &[u8], number: u8, line: u32) {
     let mut page = [0u8; 65536];
     let n = listing::refusal_text(number, line, &mut page);
-    input::write_out(&page[..n]);
-    let m = reasons::reason_text(false, tree, number, line, &mut page);
-    input::say_of(name, &page[..m]);
+    input::write_out(page_text(&page, n));
+    reasons::explain(name, false, tree, number, line);
 }
 
 fn report_bytes(name: &[u8], tree: &[u8]) {
@@ -21,8 +22,7 @@ fn report_bytes(name: &[u8], tree: &[u8]) {
         refuse(name, tree, done.number, done.line);
         return;
     }
-    let bytes = done.bytes;
-    input::write_out(&page[..bytes]);
+    input::write_out(page_text(&page, done.bytes));
 }
 
 fn report_file(name: &[u8]) {
@@ -32,19 +32,19 @@ fn report_file(name: &[u8]) {
     let Input::Bytes(n) = read else {
         return;
     };
-    report_bytes(name, &tree[..n]);
+    report_bytes(name, file_bytes(&tree, n));
 }
 
 fn say_usage() {
     let mut page = [0u8; 65536];
     let n = usage::report_usage(&mut page);
-    io::write_all(STDERR_FILENO, &page[..n]);
+    io::write_all(STDERR_FILENO, page_text(&page, n));
 }
 
 fn say_help() {
     let mut page = [0u8; 65536];
     let n = usage::report_help(&mut page);
-    input::write_out(&page[..n]);
+    input::write_out(page_text(&page, n));
 }
 
 // What the first three words ask.

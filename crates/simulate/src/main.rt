@@ -2,27 +2,30 @@
 // whether the run is done or stopped. A refusal is one line on standard output and one line in words on standard error.
 use answers::Outcome;
 use input::Input;
+use input::file_bytes;
+use input::page_text;
 use libc::STDERR_FILENO;
+use reasons::explain;
 use simulation::Asked;
 use simulation::Part;
 
 fn say_usage() {
     let mut page = [0u8; 65536];
     let n = usage::simulate_usage(&mut page);
-    io::write_all(STDERR_FILENO, &page[..n]);
+    io::write_all(STDERR_FILENO, page_text(&page, n));
 }
 
 fn say_help() {
     let mut page = [0u8; 65536];
     let n = usage::simulate_help(&mut page);
-    input::write_out(&page[..n]);
+    input::write_out(page_text(&page, n));
 }
 
 // Writes one page of the outcome's text; answers whether all of it was written.
 fn show_page(o: Outcome, served: &[u8], page: u32) -> bool {
     let mut text = [0u8; 65536];
     let n = simulation::page_text(o, served, page, &mut text);
-    input::write_out(&text[..n])
+    input::write_out(page_text(&text, n))
 }
 
 // The pages of the outcome's text, until one cannot be written: a run has at most 65.
@@ -38,13 +41,6 @@ fn show(o: Outcome, served: &[u8]) {
         }
         page += 1;
     }
-}
-
-// Says in words what was refused of the file of that name, a tree or, if `trace`, a trace.
-fn explain(name: &[u8], trace: bool, bytes: &[u8], number: u8, line: u32) {
-    let mut page = [0u8; 65536];
-    let n = reasons::reason_text(trace, bytes, number, line, &mut page);
-    input::say_of(name, &page[..n]);
 }
 
 // What was refused, if anything was.
@@ -81,22 +77,24 @@ fn run_slots(slots: usize, tree_name: &[u8], tree: &[u8], trace_name: &[u8], tra
 }
 
 // One byte more than a file may have shows a longer one.
-fn run_tree(slots: usize, tree_name: &[u8], tree: &[u8], trace_name: &[u8]) {
-    let mut trace = [0u8; 65537];
-    let read = input::load(trace_name, &mut trace);
-    let Input::Bytes(n) = read else {
-        return;
-    };
-    run_slots(slots, tree_name, tree, trace_name, &trace[..n]);
-}
-
 fn run_files(slots: usize, tree_name: &[u8], trace_name: &[u8]) {
     let mut tree = [0u8; 65537];
+    let mut trace = [0u8; 65537];
     let read = input::load(tree_name, &mut tree);
     let Input::Bytes(n) = read else {
         return;
     };
-    run_tree(slots, tree_name, &tree[..n], trace_name);
+    let read = input::load(trace_name, &mut trace);
+    let Input::Bytes(m) = read else {
+        return;
+    };
+    run_slots(
+        slots,
+        tree_name,
+        file_bytes(&tree, n),
+        trace_name,
+        file_bytes(&trace, m),
+    );
 }
 
 // What the first three words ask.

@@ -179,21 +179,31 @@ pub fn same_tree(t: Tree, d: &[usize; 16384]) -> bool
     same_bus(t.bus, d) & same_ints(t, d) & same_accs(t, d)
 }
 
+// Nine numbers, from field 1 of the line on.
+fn put_nine(numbers: [usize; 9], d: &mut [usize; 16384]) {
+    for i in 0..9usize {
+        put_entry(d, i + 1, numbers[i]);
+    }
+}
+
 fn put_delays(b: Bus, d: &mut [usize; 16384]) {
-    put_entry(d, 1, b.window as usize);
-    put_entry(d, 2, b.ta as usize);
-    put_entry(d, 3, b.da as usize);
-    put_entry(d, 4, b.dd as usize);
-    put_entry(d, 5, b.db as usize);
+    let numbers = [
+        b.window as usize,
+        b.ta as usize,
+        b.da as usize,
+        b.dd as usize,
+        b.db as usize,
+        b.pr as usize,
+        b.pw as usize,
+        b.td as usize,
+        b.tb as usize,
+    ];
+    put_nine(numbers, d);
 }
 
 // The bus line.
 fn put_bus(b: Bus, d: &mut [usize; 16384]) -> bool {
     put_delays(b, d);
-    put_entry(d, 6, b.pr as usize);
-    put_entry(d, 7, b.pw as usize);
-    put_entry(d, 8, b.td as usize);
-    put_entry(d, 9, b.tb as usize);
     put_entry(d, 10, b.burst as usize);
     put_entry(d, 11, b.delay as usize);
     bus_fits(d)
@@ -213,15 +223,18 @@ fn put_int(x: Interconnect, i: usize, d: &mut [usize; 16384]) -> bool {
 }
 
 fn put_acc(x: Accelerator, a: usize, d: &mut [usize; 16384]) -> bool {
-    put_entry(d, 1, a);
-    put_entry(d, 2, x.interconnect as usize);
-    put_entry(d, 3, x.port as usize);
-    put_entry(d, 4, x.phi as usize);
-    put_entry(d, 5, x.budget as usize);
-    put_entry(d, 6, x.reads as usize);
-    put_entry(d, 7, x.writes as usize);
-    put_entry(d, 8, x.computing as usize);
-    put_entry(d, 9, x.period as usize);
+    let numbers = [
+        a,
+        x.interconnect as usize,
+        x.port as usize,
+        x.phi as usize,
+        x.budget as usize,
+        x.reads as usize,
+        x.writes as usize,
+        x.computing as usize,
+        x.period as usize,
+    ];
+    put_nine(numbers, d);
     acc_fits(d)
 }
 

@@ -1,28 +1,31 @@
 // why TREE TRACE ACC NUMBER: runs the trace on the tree and writes a line for each slot in which a transaction waited, and a last
 // line with their count. A refusal is one line on standard output and one line in words on standard error.
 use input::Input;
+use input::file_bytes;
+use input::page_text;
 use inquiry::Asked;
 use inquiry::Part;
 use inquiry::Reply;
 use libc::STDERR_FILENO;
+use reasons::explain;
 
 fn say_usage() {
     let mut page = [0u8; 65536];
     let n = usage::why_usage(&mut page);
-    io::write_all(STDERR_FILENO, &page[..n]);
+    io::write_all(STDERR_FILENO, page_text(&page, n));
 }
 
 fn say_help() {
     let mut page = [0u8; 65536];
     let n = usage::why_help(&mut page);
-    input::write_out(&page[..n]);
+    input::write_out(page_text(&page, n));
 }
 
 // Writes one page of the reply's text; answers whether all of it was written.
 fn show_page(reply: Reply, list: &[u8; 65536], page: u32) -> bool {
     let mut text = [0u8; 65536];
     let n = inquiry::page_text(reply, list, page, &mut text);
-    input::write_out(&text[..n])
+    input::write_out(page_text(&text, n))
 }
 
 // The pages of the reply's text, until one cannot be written: 32,768 lines and the last have at most 33.
@@ -38,13 +41,6 @@ fn show(reply: Reply, list: &[u8; 65536]) {
         }
         page += 1;
     }
-}
-
-// Says in words what was refused of that name, a tree or, if `trace`, a trace or a word.
-fn explain(name: &[u8], trace: bool, bytes: &[u8], number: u8, line: u32) {
-    let mut page = [0u8; 65536];
-    let n = reasons::reason_text(trace, bytes, number, line, &mut page);
-    input::say_of(name, &page[..n]);
 }
 
 // What was refused, by this number at this line.
@@ -78,22 +74,25 @@ fn ask(a: u8, k: u32, tree_name: &[u8], tree: &[u8], trace_name: &[u8], trace: &
 }
 
 // One byte more than a file may have shows a longer one.
-fn ask_tree(a: u8, k: u32, tree_name: &[u8], tree: &[u8], trace_name: &[u8]) {
-    let mut trace = [0u8; 65537];
-    let read = input::load(trace_name, &mut trace);
-    let Input::Bytes(n) = read else {
-        return;
-    };
-    ask(a, k, tree_name, tree, trace_name, &trace[..n]);
-}
-
 fn ask_files(a: u8, k: u32, tree_name: &[u8], trace_name: &[u8]) {
     let mut tree = [0u8; 65537];
+    let mut trace = [0u8; 65537];
     let read = input::load(tree_name, &mut tree);
     let Input::Bytes(n) = read else {
         return;
     };
-    ask_tree(a, k, tree_name, &tree[..n], trace_name);
+    let read = input::load(trace_name, &mut trace);
+    let Input::Bytes(m) = read else {
+        return;
+    };
+    ask(
+        a,
+        k,
+        tree_name,
+        file_bytes(&tree, n),
+        trace_name,
+        file_bytes(&trace, m),
+    );
 }
 
 // What the first four words ask.
