@@ -1,8 +1,8 @@
 #!/usr/bin/env bash
 # Tests the C header against the archive that `rt staticlib razhikum` writes: bash include/test.sh [ARCHIVE]
 # Compiles the header as C11 and as C++11 with every warning an error, checks layout, version and answered values (test.c), that
-# the archive can be called from several threads (no writable data, nothing called but memcpy and memset), the stack of each call
-# (stack.c), and what the example prints. Compilers: CC and CXX, else cc and c++.
+# the archive can be called from several threads (no writable data, nothing called but memcpy and memset), that it has little read-only
+# data, the stack of each call (stack.c), and what the example prints. Compilers: CC and CXX, else cc and c++.
 set -euo pipefail
 cd "$(dirname "$0")/.."
 archive=${1:-target/staticlib/librazhikum.a}
@@ -33,6 +33,14 @@ if [ "$called" != "memcpy memset " ] || [ -n "$writable" ]; then
     exit 1
 fi
 echo "threads: no writable data, nothing called but memcpy and memset"
+
+# what the boot part pays in read-only memory beside the code: no table of 2,048 next ports is in it
+read_only=$(size -A "$archive" | awk '$1 ~ /^\.rodata/ { sum += $2 } END { print sum + 0 }')
+if [ "$read_only" -gt 1024 ]; then
+    echo "the archive has $read_only bytes of read-only data, more than 1024" >&2
+    exit 1
+fi
+echo "read-only data: $read_only bytes"
 
 $c -pthread include/stack.c "$archive" -o "$work/stack"
 echo "stack, bytes used and said:"
