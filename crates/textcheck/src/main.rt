@@ -256,23 +256,17 @@ fn load(name: &[u8]) {
     }
 }
 
-// Files by their names, each ended by a semicolon.
-fn load_each(names: &[u8]) {
-    let mut at = 0;
-    while at < names.len() {
-        let end = part_end(names, at, b';');
-        if names.len() <= end {
-            return;
-        }
-        load(&names[at..end]);
-        at = end + 1;
-    }
-}
-
 // Files that are there, standard input, and then what is no file: no such name, two directories, no name, a name too long, and
 // standard input again, which is closed.
 fn load_all() {
-    load_each(b"five.txt;twenty.txt;empty.txt;-;missing.txt;.;/;;");
+    load(b"five.txt");
+    load(b"twenty.txt");
+    load(b"empty.txt");
+    load(b"-");
+    load(b"missing.txt");
+    load(b".");
+    load(b"/");
+    load(b"");
     load(&[b'x'; 5000]);
     load(b"-");
 }
@@ -538,17 +532,17 @@ fn why_words(tree: &[u8]) {
     why(b"x\n", b"x\n", 2, 0);
 }
 
-// A simulation by each word SLOTS, ended by a semicolon.
-fn simulate_each(tree: &[u8], trace: &[u8], words: &[u8]) {
-    let mut at = 0;
-    while at < words.len() {
-        let end = part_end(words, at, b';');
-        if words.len() <= end {
-            return;
-        }
-        simulate(tree, trace, &words[at..end]);
-        at = end + 1;
-    }
+// A simulation by each kind of word SLOTS.
+fn simulate_words(tree: &[u8], trace: &[u8]) {
+    simulate(tree, trace, b"0");
+    simulate(tree, trace, b"1");
+    simulate(tree, trace, b"65536");
+    simulate(tree, trace, b"65537");
+    simulate(tree, trace, b"99999999999999999999999999");
+    simulate(tree, trace, b"");
+    simulate(tree, trace, b"00");
+    simulate(tree, trace, b"-1");
+    simulate(tree, trace, b"1x");
 }
 
 // A refused tree, a refused trace, and then also a refused word.
@@ -570,11 +564,7 @@ fn reports(tree: &[u8]) {
 // The texts of the programs on a tree: the reports, the runs, the waits.
 fn programs(tree: &[u8]) {
     reports(tree);
-    simulate_each(
-        tree,
-        b"o\t0\t0\t1\no\t1\t1\t1\n",
-        b"0;1;65536;65537;99999999999999999999999999;;00;-1;1x;",
-    );
+    simulate_words(tree, b"o\t0\t0\t1\no\t1\t1\t1\n");
     simulate_refused(tree);
     why_words(tree);
 }

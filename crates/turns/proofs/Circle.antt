@@ -1,12 +1,14 @@
 -- The next port worked out from the set and the last port is that of the circular rule: one test at each of the 255 sets with
 -- a port by 8 last ports, which antt computes. The empty set has no port to find.
-use Prim.Native.Nat.{ℕ, suc, _+_, _*_, _-_, _/_, _%_, _^_, _<_}
+use Prim.Native.Nat.{ℕ, suc, _+_, _*_, _-_, _/_, _%_, _^_, _≤_, _<_}
 use mathlib.Core.Bool.{Bool, true}
 use mathlib.Core.Path.{_≡_, refl, sym, _∙_, ap}
 use native.Mathlib.Nat.{mod-lt, mod-mod, zero-div}
 use native.Mathlib.Omega.{arith}
-use lib.Count.{trailingZeros}
+use lib.Count.{trailingZeros, trailing-le}
 use lib.Dec.{eqb, lit<}
+use mir.Syntax.{w32}
+use mir.Val.{Fits}
 use borrow.Author.Tests.{eqb-true}
 use Rattle.folds.specs.Fold.{all}
 use Rattle.folds.proofs.Folds.{all-at}
@@ -35,3 +37,7 @@ some-live set last d h =
     sym (ap (λ s. found s l) e)
     ∙ eqb-true _ _ (all-at 8 (right (set - 1)) (all-at 255 (λ s. all 8 (right s)) test (set - 1) (omega arith)) l (mod-lt last (lit< tt)))
     ∙ ap (λ s. nextPort s l) e ∙ ap (λ k. seek 8 set (suc k)) (mod-mod last 8)
+
+-- the zeros below the lowest bit of a number and at most eight more are few
+pub few-fit : (x y : ℕ) → y ≤ 8 → Fits w32 (trailingZeros 32 x + y)
+few-fit x y h = omega (arith, trailing-le 32 x)
