@@ -25,6 +25,7 @@ use Rattle.folds.specs.Fold.{pick, all}
 use Rattle.model.specs.Tree.{noAccelerator, acceleratorOf, portOf, granularityOf, parentOf, parentPortOf, limitOf, levelOf}
 use Rattle.rules.specs.Rules.{isEmpty, busKeeps, treeKeeps}
 use Rattle.rules.proofs.Sound.{sound}
+use Rattle.rules.proofs.Beneath.{only, only-same, only-other}
 use Rattle.folds.proofs.Folds.{picked, passed, both, tests}
 use Rattle.lines.specs.declared.FileAnswer.the-variants.{Accepted}
 use Rattle.lines.specs.declared.Kind.{Kind}
@@ -40,8 +41,11 @@ use Rattle.placing.specs.Placing.{refusedAt, given, intInOrder, busLine, childL
 use Rattle.placing.proofs.Tests.{line-record, int-root, int-child, child-given}
 use Rattle.reader.specs.TreeFile.{onward, readLines, readTree}
 use Rattle.reader.proofs.Files.{tree-size, tree-start}
-use Rattle.accepts.specs.TreeText.{busWhole, busShort, WritesBus, with-delay, without-delay, rootWritten, childWritten, accWritten}
-use Rattle.accepts.specs.TreeText.{intText, accText, times, Writes}
+use Rattle.writer.specs.Lines.{busWhole, busShort, rootWritten, childWritten, accWritten}
+use Rattle.accepts.specs.TreeText.{WritesBus, with-delay, without-delay}
+use Rattle.writer.specs.Lines.{intText, accText}
+use Rattle.writer.specs.Writer.{times}
+use Rattle.accepts.specs.TreeText.{Writes}
 use Rattle.accepts.specs.TreeRefused.{Stands, bus-stands, root-stands, child-stands, acc-stands}
 use Rattle.accepts.proofs.Kept.{Partial, accepted-keeps, partial-empty, fine-line, never-refused, is-empty}
 use Rattle.accepts.proofs.Kept.{order-start, order-accs, order-number, order-parent, new-here, root-size}
@@ -339,15 +343,6 @@ int-rest u w t l ls h b i a K q R =
     }
 
 -- a number counts once in a list that begins with it
-abbrev pub tick : ℕ → ℕ → ℕ
-tick a b = pick (eqb a b) 1 0
-
-pub tick-same : (a b : ℕ) → a ≡ b → tick a b ≡ 1
-tick-same a b e = picked _ _ _ (eq-eqb a b e)
-
-pub tick-other : (a b : ℕ) → (a ≡ b → ⊥) → tick a b ≡ 0
-tick-other a b d = passed _ _ _ (ne-eqb a b d)
-
 module _ (u t : Tree) (v : List ℕ) (l : List ℕ) (ls : List (List ℕ)) (P : Partial u) (e : limitsKept AccLine v ≡ true)
     (k : getD v 1 0 < u .ints) (o : limitOf u (getD v 0 0) ≡ 0) (f : portOf u (getD v 1 0) (getD v 2 0) ≡ Empty)
     (q : l ≡ accWritten (getD v 0 0) (accOf v)) (h : 0 < u .bus .window) (K : Keeps u (withAcc u v)) (R : Rest (withAcc u v) t ls) where
@@ -375,16 +370,16 @@ module _ (u t : Tree) (v : List ℕ) (l : List ℕ) (ls : List (List ℕ)) (P : 
   acc-left : (x : ℕ) → limitOf u x ≡ 0 → times x (a ∷ R .order) ≡ pick (ltb 0 (limitOf t x)) 1 0
   unfolding times
   acc-left x z = elim (ℕ-discrete x a) [
-    | yes w ↦ subst (λ (y : ℕ). tick y a + times y (R .order) ≡ pick (ltb 0 (limitOf t y)) 1 0) (sym w)
-        (omega (arith, tick-same a a refl, R .read a here, counted))
-    | no d ↦ omega (arith, tick-other x a d, R .left x (other x d ∙ z))
+    | yes w ↦ subst (λ (y : ℕ). only y a + times y (R .order) ≡ pick (ltb 0 (limitOf t y)) 1 0) (sym w)
+        (omega (arith, only-same a a refl, R .read a here, counted))
+    | no d ↦ omega (arith, only-other x a d, R .left x (other x d ∙ z))
   ]
 
   acc-read : (x : ℕ) → 0 < limitOf u x → times x (a ∷ R .order) ≡ 0
   unfolding times
   acc-read x y =
       let d : x ≡ a → ⊥ = λ w. (let c = ap (limitOf u) w in omega arith) in
-      omega (arith, tick-other x a d, R .read x (omega (arith, other x d)))
+      omega (arith, only-other x a d, R .read x (omega (arith, other x d)))
 
   acc-rest : Rest u t (l ∷ ls)
   unfolding times rows

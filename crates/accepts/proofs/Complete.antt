@@ -25,13 +25,15 @@ use Rattle.model.specs.Builders.{withBus}
 use Rattle.records.specs.Records.{emptyTree, withAcc}
 use Rattle.placing.specs.Placing.{given, complete, finish, treeLine}
 use Rattle.reader.specs.TreeFile.{onward, readLines, readTree}
-use Rattle.accepts.specs.TreeText.{busFront, WritesBus, with-delay, without-delay, accValues, busText, intText, accText, linesAfter, treeText}
+use Rattle.writer.specs.Lines.{busFront, accValues, busText, intText, accText}
+use Rattle.accepts.specs.TreeText.{WritesBus, with-delay, without-delay, linesAfter, treeText}
 use mathlib.Core.Logic.{_↔_}
+use Rattle.writer.proofs.Limits.{bus-limits}
 use Rattle.reader.proofs.Files.{tree-start}
 use Rattle.accepts.proofs.Kept.{accepted-keeps}
 use Rattle.lines.proofs.Written.{name-clean, Below, below-none, below-more, fieldsFrom, limits-below, numbers-clean}
 use Rattle.accepts.proofs.Written.{childEntry, accEntry, root-clean, below-front, acc-read, root-read, child-read}
-use Rattle.accepts.proofs.Stage.{Agrees, bus-limits, bus-below, child-limits, acc-limits, bus-step, root-step, child-step, acc-step}
+use Rattle.accepts.proofs.Stage.{Agrees, bus-below, child-limits, acc-limits, bus-step, root-step, child-step, acc-step}
 use Rattle.accepts.proofs.Stage.{agrees-bus, agrees-root, agrees-child, agrees-acc, agrees-all}
 
 -- one accepted line
@@ -209,7 +211,7 @@ module _ (t : Tree) (e : treeKeeps t ≡ true) where
         ∙ lines-given
 
 -- the bus line of a configuration's own text
-text-bus : (t : Tree) → WritesBus (t .bus) (busText t)
+pub text-bus : (t : Tree) → WritesBus (t .bus) (busText t)
 text-bus t = elim (ℕ-discrete (t .bus .delay) 0) [
   | yes z ↦ without-delay z (picked _ _ _ (eq-eqb _ _ z))
   | no d ↦ with-delay (passed _ _ _ (ne-eqb _ _ d))

@@ -25,24 +25,27 @@ use Rattle.lines.proofs.Back.{pushed-kind}
 use Rattle.placing.specs.declared.TreeRead.{TreeRead}
 use Rattle.placing.specs.Placing.{given}
 use Rattle.reader.specs.TreeFile.{readTree}
-use Rattle.accepts.specs.TreeText.{busWhole, busShort, with-delay, without-delay, intText, accText, linesAfter, times, Writes}
+use Rattle.writer.specs.Lines.{busWhole, busShort, intText, accText}
+use Rattle.writer.specs.Writer.{times}
+use Rattle.accepts.specs.TreeText.{with-delay, without-delay, linesAfter, Writes}
 use Rattle.accepts.proofs.Kept.{never-refused}
 use Rattle.accepts.proofs.Order.{Reordered, unchanged, exchanged, later, also, any-order}
 use Rattle.accepts.proofs.Complete.{text-given, text-clean}
-use Rattle.accepts.proofs.Back.{tick, tick-same, tick-other, read-written}
+use Rattle.accepts.proofs.Back.{read-written}
+use Rattle.rules.proofs.Beneath.{only, only-same, only-other}
 
 -- the numbers bs without the first a
 remove : ℕ → List ℕ → List ℕ
 remove a [] = []
 remove a (b ∷ bs) = pick (eqb a b) bs (b ∷ remove a bs)
 
-times-remove : (a x : ℕ) (bs : List ℕ) → 0 < times a bs → times x bs ≡ tick x a + times x (remove a bs)
+times-remove : (a x : ℕ) (bs : List ℕ) → 0 < times a bs → times x bs ≡ only x a + times x (remove a bs)
 unfolding times remove
 times-remove a x [] h = absurd (omega arith)
 times-remove a x (b ∷ bs) h = elim (ℕ-discrete a b) [
-  | yes e ↦ ap₂ _+_ (ap (tick x) (sym e)) (ap (times x) (sym (picked _ _ _ (eq-eqb a b e))))
+  | yes e ↦ ap₂ _+_ (ap (only x) (sym e)) (ap (times x) (sym (picked _ _ _ (eq-eqb a b e))))
   | no d ↦
-      let i = times-remove a x bs (omega (arith, tick-other a b d)) in
+      let i = times-remove a x bs (omega (arith, only-other a b d)) in
       let r = ap (times x) (passed (eqb a b) bs (b ∷ remove a bs) (ne-eqb a b d)) in
       omega arith
 ]
@@ -56,16 +59,16 @@ module _ (f : ℕ → List ℕ) (kind : (a : ℕ) → lineOf (f a) .kind ≡ Acc
       elim (ℕ-discrete a b) [
         | yes e ↦ subst Front (sym (picked _ _ _ (eq-eqb a b e))) (subst (λ (c : ℕ). Reordered (f c ∷ map f bs) (f b ∷ map f bs)) (sym e) unchanged)
         | no d ↦ subst Front (sym (passed _ _ _ (ne-eqb a b d)))
-            (also (exchanged (kind a) (kind b)) (later (to-front a bs (omega (arith, tick-other a b d)))))
+            (also (exchanged (kind a) (kind b)) (later (to-front a bs (omega (arith, only-other a b d)))))
       ]
 
   -- the same numbers in another order
   same-times : (cs bs : List ℕ) → ((x : ℕ) → times x cs ≡ times x bs) → Reordered (map f cs) (map f bs)
   unfolding times
   same-times [] [] h = unchanged
-  same-times [] (b ∷ bs) h = absurd (omega (arith, h b, tick-same b b refl))
+  same-times [] (b ∷ bs) h = absurd (omega (arith, h b, only-same b b refl))
   same-times (a ∷ cs) bs h =
-      let z : 0 < times a bs = omega (arith, h a, tick-same a a refl) in
+      let z : 0 < times a bs = omega (arith, h a, only-same a a refl) in
       also (later (same-times cs (remove a bs) (λ x. omega (arith, h x, times-remove a x bs z)))) (to-front a bs z)
 
 -- the numbers from k on, n of them
@@ -81,17 +84,17 @@ rows-map (suc n) k f = ap (λ (r : List (List ℕ)). f k ∷ r) (rows-map n (suc
 upto-low : (n k a : ℕ) → a < k → times a (upto n k) ≡ 0
 unfolding times upto
 upto-low zero k a h = refl
-upto-low (suc n) k a h = omega (arith, tick-other a k (λ e. omega arith), upto-low n (suc k) a (omega arith))
+upto-low (suc n) k a h = omega (arith, only-other a k (λ e. omega arith), upto-low n (suc k) a (omega arith))
 
 upto-times : (n k a : ℕ) → k ≤ a → times a (upto n k) ≡ pick (ltb a (k + n)) 1 0
 unfolding times upto
 upto-times zero k a h = sym (passed _ _ _ (le-ltb a (k + 0) (omega arith)))
 upto-times (suc n) k a h = elim (ℕ-discrete a k) [
-  | yes e ↦ omega (arith, tick-same a k e, upto-low n (suc k) a (omega arith), picked {A = ℕ} (ltb a (k + suc n)) 1 0 (lt-ltb a (k + suc n) (omega arith)))
+  | yes e ↦ omega (arith, only-same a k e, upto-low n (suc k) a (omega arith), picked {A = ℕ} (ltb a (k + suc n)) 1 0 (lt-ltb a (k + suc n) (omega arith)))
   | no d ↦
       let i = upto-times n (suc k) a (omega arith) in
       let m : suc k + n ≡ k + suc n = omega arith in
-      omega (arith, tick-other a k d, ap (λ (b : ℕ). pick {A = ℕ} (ltb a b) 1 0) m)
+      omega (arith, only-other a k d, ap (λ (b : ℕ). pick {A = ℕ} (ltb a b) 1 0) m)
 ]
 
 reordered-after : (ps : List (List ℕ)) {ls ms : List (List ℕ)} → Reordered ls ms → Reordered (ps ++ ls) (ps ++ ms)

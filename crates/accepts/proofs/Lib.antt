@@ -8,3 +8,4 @@ pub mod Exactly
 pub mod Refusals
 pub mod TraceExactly
 pub mod TraceRefusals
+pub mod RoundTrip

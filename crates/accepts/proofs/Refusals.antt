@@ -37,7 +37,7 @@ use Rattle.placing.specs.Placing.{refusedAt, given, intInOrder, busLine, childL
 use Rattle.placing.proofs.Tests.{line-record, int-root, int-child, child-given, acc-given}
 use Rattle.reader.specs.TreeFile.{onward, readLines, readTree}
 use Rattle.reader.proofs.Files.{tree-size, tree-start}
-use Rattle.accepts.specs.TreeText.{accValues}
+use Rattle.writer.specs.Lines.{accValues}
 use Rattle.accepts.specs.TreeRefused.{Stands, bus-stands, root-stands, child-stands, acc-stands, Leads, leads-none, leads-more}
 use Rattle.accepts.specs.TreeRefused.{inOrder, free, low, lineRules, LineBreaks, not-ended, missing, not-shaped, breaks}
 use Rattle.accepts.specs.TreeRefused.{TreeBreaks, TreeRefused, too-long, at-line}

@@ -22,7 +22,7 @@ use Rattle.folds.specs.Fold.{pick, all, within}
 use Rattle.model.specs.Tree.{emptyCell, noInterconnect, noAccelerator, interconnectOf, granularityOf, parentOf, parentPortOf, levelOf}
 use Rattle.model.specs.Tree.{acceleratorOf, portOf, homeOf, homePortOf, limitOf, budgetOf}
 use Rattle.rules.specs.Rules.{isEmpty, busKeeps, rootPlaced, interconnectKeeps, usedInterconnect, unusedInterconnect, treeKeeps}
-use Rattle.rules.specs.Rules.{acceleratorKeeps, usedAccelerator, unusedAccelerator}
+use Rattle.rules.specs.Rules.{acceleratorKeeps, unusedAccelerator}
 use Rattle.folds.proofs.Folds.{picked, passed, tests, joined, clash}
 use Rattle.rules.proofs.Sound.{Sound, sound, level-step}
 use Rattle.lines.specs.declared.Kind.the-variants.{BusLine, IntLine, AccLine}
@@ -32,7 +32,9 @@ use Rattle.lines.proofs.Written.{Below, fieldsFrom, limits-below}
 use Rattle.model.specs.Builders.{withBus}
 use Rattle.records.specs.Records.{emptyTree, withRoot, withChild, withAcc}
 use Rattle.placing.specs.Placing.{given, busLine, rootRule, intInOrder, treeLine}
-use Rattle.accepts.specs.TreeText.{busValues, WritesBus, with-delay, without-delay}
+use Rattle.writer.specs.Lines.{busValues}
+use Rattle.accepts.specs.TreeText.{WritesBus, with-delay, without-delay}
+use Rattle.writer.proofs.Limits.{bus-limits, acc-rule, acc-ranges}
 use Rattle.placing.proofs.Tests.{line-record, int-root, int-child, child-given, acc-given}
 use Rattle.accepts.proofs.Kept.{Partial, partial-empty, partial-bus, partial-root, partial-child, partial-acc}
 use Rattle.accepts.proofs.Kept.{each-number, each-port, level-same, new-here, root-size, root-ports, not-acc, not-int, is-empty}
@@ -59,17 +61,9 @@ pub record Agrees (t u : Tree) (k m : ℕ) : Type 0 where
 
 -- the rules that Sound leaves out
 module _ (t : Tree) (e : treeKeeps t ≡ true) where
-  pub bus-limits : busKeeps (t .bus) ≡ true
-  unfolding treeKeeps
-  bus-limits = simp tests at e .0 .0 .0 .0 .1
-
   int-rule : (j : ℕ) → j < 15 → interconnectKeeps t j ≡ true
   unfolding treeKeeps
   int-rule j h = simp tests at e .0 .1 j h
-
-  acc-rule : (a : ℕ) → a < 32 → acceleratorKeeps t a ≡ true
-  unfolding treeKeeps
-  acc-rule a h = simp tests at e .1 a h
 
   root-placed : rootPlaced t ≡ true
   unfolding usedInterconnect
@@ -78,16 +72,6 @@ module _ (t : Tree) (e : treeKeeps t ≡ true) where
   root-place : (parentOf t 0 ≡ 0) × (parentPortOf t 0 ≡ 0)
   unfolding rootPlaced
   root-place = simp tests at root-placed
-
-  -- the limits of an accelerator's fields
-  acc-used : (a : ℕ) → a < t .accs → usedAccelerator t a ≡ true
-  acc-used a l = sym (picked _ _ _ (lt-ltb a (t .accs) l)) ∙ acc-rule a (omega (arith, sound t e .most-accs))
-
-  acc-ranges : (a : ℕ) → a < t .accs
-      → (acceleratorOf t a .reads ≤ 65535) × (acceleratorOf t a .writes ≤ 65535) × (acceleratorOf t a .computing ≤ 4294967295)
-      × (1 ≤ acceleratorOf t a .period) × (acceleratorOf t a .period ≤ 4294967295)
-  unfolding usedAccelerator
-  acc-ranges a l = let h = simp tests at (acc-used a l) in omega arith
 
 within-yes : (l x h : ℕ) → l ≤ x → x ≤ h → within l x h ≡ true
 within-yes l x h a b = joined (leb l x) (leb x h) (le-leb l x a) (le-leb x h b)

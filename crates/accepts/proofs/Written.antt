@@ -18,7 +18,7 @@ use Rattle.lines.specs.declared.Kind.the-variants.{BusLine, IntLine, AccLine}
 use Rattle.lines.specs.declared.Line.{Line}
 use Rattle.lines.specs.Lines.{formOf, pushed, lineOf, noDashes}
 use Rattle.lines.proofs.Written.{Plain, Below, below-none, below-more, texts-clean, line-read, numbers-read}
-use Rattle.accepts.specs.TreeText.{busFront, busValues, accValues, busWhole, busShort, intText, accText}
+use Rattle.writer.specs.Lines.{busFront, busValues, accValues, busWhole, busShort, intText, accText}
 
 -- the lines as they are read
 abbrev pub busEntry : ℕ → Bus → Line

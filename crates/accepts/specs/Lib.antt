@@ -2,3 +2,4 @@ pub mod TreeText
 pub mod TreeRefused
 pub mod TraceText
 pub mod TraceRefused
+pub mod RoundTrip

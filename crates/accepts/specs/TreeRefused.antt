@@ -36,7 +36,8 @@ use Rattle.lines.specs.LineText.{WritesLine}
 use Rattle.model.specs.Builders.{withBus}
 use Rattle.records.specs.Records.{emptyTree, withRoot, withChild, accOf, withAcc}
 use Rattle.placing.specs.Placing.{intInOrder, complete}
-use Rattle.accepts.specs.TreeText.{WritesBus, rootWritten, childWritten, accWritten}
+use Rattle.writer.specs.Lines.{rootWritten, childWritten, accWritten}
+use Rattle.accepts.specs.TreeText.{WritesBus}
 
 pub data Stands (u : Tree) (l : List ℕ) : Tree → Type 0 where
   bus-stands : (b : Bus) → busKeeps b ≡ true → u .bus .window ≡ 0 → WritesBus b l → Stands u l (withBus u b)

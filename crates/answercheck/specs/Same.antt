@@ -12,12 +12,15 @@
 -- kindTold w             the kind of an exported wait on an accepted tree: 0 told, 4 refused without a line and not by 2, 3 refused else
 -- sameWait x k w         an exported wait: kind k, number, line, count, slot
 -- sameRow x s r          an exported bound: the refusal s, or number and line 0, and all seven figures
--- samePage x n s         an exported report: n bytes, number and line
+-- samePage x n s         an exported report or writing: n bytes, number and line
 -- sameCount x n s        an exported number of accelerators: n, number and line
 -- sameRequest x s a n    a request: slot s, accelerator a, count n
 -- toldBy n l c s         of a wait: refused by number n at line l, or 0; c slots waited, s the slot of admission
 -- toldOf x               what the library answers on a wait, as these; a refusal without a line has line 0
 -- sameTold x y           two answers on a wait: number, line, count, slot
+-- writtenBy n l b        of a writing: refused by number n at line l, or 0; b bytes written
+-- writtenOf x            what the library answers on a writing, as these; a refusal has line 0
+-- sameWritten x y        two answers on a writing: number, line, bytes
 use Prim.Native.Nat.{ℕ}
 use mathlib.Core.Bool.{Bool, true, false, _&&_, not}
 use mathlib.Core.List.{List}
@@ -37,10 +40,13 @@ use Rattle.razhikum.specs.declared.Page.{Page}
 use Rattle.model.specs.Answer.{numberOf}
 use Rattle.waits.specs.declared.WhyAnswer.{WhyAnswer}
 use Rattle.waits.specs.declared.WhyAnswer.the-variants.{Refused, Broken, Unknown, NotServed, Waited}
+use Rattle.writer.specs.declared.WriteAnswer.{WriteAnswer}
+use Rattle.writer.specs.declared.WriteAnswer.the-variants as writing
 use Rattle.second.specs.declared.Said.{Said}
 use Rattle.second.specs.declared.past.Told.{Told}
 use Rattle.second.specs.declared.queues.Ended.{Ended}
 use Rattle.second.specs.declared.response.Row as expected
+use Rattle.second.specs.declared.written.Written.{Written}
 
 abbrev pub sameFlag : Bool → Bool → Bool
 sameFlag true y = y
@@ -124,3 +130,15 @@ toldOf (Waited c s) = toldBy 0 0 c s
 
 abbrev pub sameTold : Told → Told → Bool
 sameTold x y = eqb (x .number) (y .number) && eqb (x .line) (y .line) && eqb (x .count) (y .count) && eqb (x .slot) (y .slot)
+
+abbrev pub writtenBy : ℕ → ℕ → ℕ → Written
+writtenBy n l b = record { number = n; line = l; bytes = b }
+
+abbrev pub writtenOf : WriteAnswer → Written
+writtenOf writing.Broken = writtenBy 11 0 0
+writtenOf writing.TooLong = writtenBy 2 0 0
+writtenOf writing.TooShort = writtenBy 13 0 0
+writtenOf (writing.Wrote b) = writtenBy 0 0 b
+
+abbrev pub sameWritten : Written → Written → Bool
+sameWritten x y = eqb (x .number) (y .number) && eqb (x .line) (y .line) && eqb (x .bytes) (y .bytes)

@@ -12,10 +12,12 @@ use second::Said;
 use second::past::Told;
 use second::queues::Ended;
 use second::response::Row;
+use second::written::Written;
 use trace::Request;
 use waits::WhyAnswer;
+use writer::WriteAnswer;
 ghost use mathlib.Core.Path.{_≡_};
-ghost use Rattle.answercheck.specs.Same.{sameFlag, sameSaid, sameRequest, sameEnd, sameFigures, toldBy, toldOf, sameTold, sameSlices, sameBytes};
+ghost use Rattle.answercheck.specs.Same.{sameFlag, sameSaid, sameRequest, sameEnd, sameFigures, toldBy, toldOf, sameTold, writtenBy, writtenOf, sameWritten, sameSlices, sameBytes};
 
 // Two buffers stand in one array: the library's at its start, and ours from here on.
 pub const OURS: usize = 65537;
@@ -92,6 +94,34 @@ pub fn same_told(x: Told, y: Told) -> bool
     ensures { λ r. ⌜ r ≡ sameTold x y ⌝ }
 {
     (x.number == y.number) & (x.line == y.line) & (x.count == y.count) & (x.slot == y.slot)
+}
+
+pub fn written_by(number: usize, line: usize, bytes: usize) -> Written
+    ensures { λ r. ⌜ r ≡ writtenBy number line bytes ⌝ }
+{
+    Written {
+        number: number,
+        line: line,
+        bytes: bytes,
+    }
+}
+
+// The library's answer in the second implementation's terms.
+pub fn written_of(x: WriteAnswer) -> Written
+    ensures { λ r. ⌜ r ≡ writtenOf x ⌝ }
+{
+    match x {
+        WriteAnswer::Broken => written_by(11, 0, 0),
+        WriteAnswer::TooLong => written_by(2, 0, 0),
+        WriteAnswer::TooShort => written_by(13, 0, 0),
+        WriteAnswer::Wrote(bytes) => written_by(0, 0, bytes),
+    }
+}
+
+pub fn same_written(x: Written, y: Written) -> bool
+    ensures { λ r. ⌜ r ≡ sameWritten x y ⌝ }
+{
+    (x.number == y.number) & (x.line == y.line) & (x.bytes == y.bytes)
 }
 
 // Have both the same length and the same bytes?

@@ -13,6 +13,7 @@ use Rattle.model.specs.declared.Port.{Port}
 use Rattle.model.specs.declared.Port.the-variants.{Acc, Int}
 use Rattle.folds.specs.Fold.{sum, all}
 use Rattle.model.specs.Tree.{noInterconnect, noAccelerator, above}
+use Rattle.model.specs.Trees.{greatestBus, busiest}
 use Rattle.model.specs.Beneath.{inside}
 use Rattle.rules.specs.Rules.{treeKeeps, busKeeps, carries, rootPlaced, childPlaced, usedInterconnect, unusedInterconnect, usedAccelerator, unusedAccelerator}
 use Rattle.shares.specs.Shares.{othersAt, shareAlong}
@@ -31,28 +32,15 @@ wide j x n =
       ports = cell x ∷ cell (Acc (n + 1)) ∷ cell (Acc (n + 2)) ∷ cell (Acc (n + 3)) ∷ cell (Acc (n + 4)) ∷ cell (Acc (n + 5)) ∷ cell (Acc (n + 6)) ∷ cell (Acc (n + 7)) ∷ [];
     }
 
-abbrev busy : ℕ → ℕ → Accelerator
-busy j p =
-    record {
-      interconnect = j;
-      port = p;
-      phi = 16;
-      budget = 1024;
-      reads = 65535;
-      writes = 65535;
-      computing = 4294967295;
-      period = 4294967295;
-    }
-
 abbrev seven : ℕ → List Accelerator
-seven j = busy j 1 ∷ busy j 2 ∷ busy j 3 ∷ busy j 4 ∷ busy j 5 ∷ busy j 6 ∷ busy j 7 ∷ []
+seven j = busiest j 1 ∷ busiest j 2 ∷ busiest j 3 ∷ busiest j 4 ∷ busiest j 5 ∷ busiest j 6 ∷ busiest j 7 ∷ []
 
 abbrev pub widest : Tree
 widest =
     record {
-      bus = record { window = 65535; ta = 255; da = 255; dd = 255; db = 255; pr = 4095; pw = 4095; td = 255; tb = 255; burst = 256; delay = 15 };
+      bus = greatestBus;
       interconnects = wide 0 (Int 1) 0 ∷ wide 0 (Int 2) 7 ∷ wide 1 (Int 3) 14 ∷ wide 2 (Acc 0) 21 ∷ replicate 11 noInterconnect;
-      accelerators = busy 3 0 ∷ (seven 0 ++ seven 1 ++ seven 2 ++ seven 3 ++ replicate 3 noAccelerator);
+      accelerators = busiest 3 0 ∷ (seven 0 ++ seven 1 ++ seven 2 ++ seven 3 ++ replicate 3 noAccelerator);
       ints = 4;
       accs = 29;
     }

@@ -31,7 +31,7 @@ fn try_on(tree: &[u8], s: &[u8], d: &mut [usize; 16384], out: &mut [u8; 131074],
 // A tree file; or a trace on the tree of document 01's report, and on that tree with a return delay.
 fn try_file(s: &[u8], is_tree: bool, d: &mut [usize; 16384], out: &mut [u8; 131074], size: usize) {
     if is_tree {
-        try_tree(s, d);
+        try_tree(s, d, out);
         return;
     }
     let tree =
@@ -72,10 +72,10 @@ pub fn try_listed(s: &[u8], d: &mut [usize; 16384], out: &mut [u8; 131074]) {
 }
 
 // Case 11.
-pub fn try_case_11(w: &mut [u8; 16384], d: &mut [usize; 16384]) {
+pub fn try_case_11(w: &mut [u8; 16384], d: &mut [usize; 16384], out: &mut [u8; 131074]) {
     for i in 0..6 {
         make_case(w, d, i);
-        try_tree(made(w, d), d);
+        try_tree(made(w, d), d, out);
         add(d, CASE11, 0, 1);
     }
 }
@@ -85,7 +85,7 @@ fn try_delay(w: &mut [u8; 16384], d: &mut [usize; 16384], out: &mut [u8; 131074]
     make_delay(w, d, i);
     add(d, DELAY_FILES, 0, 1);
     let n = size(d);
-    let r = try_tree(file_in(w, n), d);
+    let r = try_tree(file_in(w, n), d, out);
     let answer = r.answer;
     let FileAnswer::Accepted = answer else {
         return;
@@ -114,7 +114,7 @@ pub fn try_wide(w: &mut [u8; 16384], d: &mut [usize; 16384], out: &mut [u8; 1310
 // Runs on such a tree, where accelerator 31 alone holds transactions at last.
 fn try_made(w: &[u8; 16384], d: &mut [usize; 16384], out: &mut [u8; 131074]) {
     let n = size(d);
-    let r = try_tree(file_in(w, n), d);
+    let r = try_tree(file_in(w, n), d, out);
     let t = r.tree;
     try_file_runs(file_in(w, n), t, b"o\t0\t31\t16\n", d, out, 64);
     let all = b"o\t0\t0\t9\no\t0\t30\t2\no\t1\t31\t16\n";

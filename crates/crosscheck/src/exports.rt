@@ -2,9 +2,13 @@
 use crate::compare::fill;
 use crate::compare::second_run;
 use crate::results::EXPORTS;
+use crate::results::REWRITINGS;
 use crate::whys::Question;
 use crate::whys::next_question;
 use crate::whys::second_why;
+use crate::writings::exported_written;
+use crate::writings::next_size;
+use crate::writings::second_written;
 use answercheck::exported::kind_of;
 use answercheck::exported::kind_told;
 use answercheck::exported::same_count;
@@ -36,6 +40,7 @@ use second::response::bound_refusal;
 use second::response::figures;
 use second::response::no_figures;
 use second::sheet::write_report;
+use second::written::text_size;
 use store::DIFFERENCES;
 use store::add;
 use store::get;
@@ -103,6 +108,35 @@ fn try_report(tree: &[u8], s: Said, d: &mut [usize; 16384]) {
     );
 }
 
+// The tree written back over n bytes; one that is refused leaves them, whatever their number.
+fn try_rewriting(tree: &[u8], s: Said, d: &mut [usize; 16384], out: &mut [u8; 131074], n: usize) {
+    let x = exported_written(tree, out, 0, n);
+    let w = second_written(s, d, out, n, NO_WRONG_RULE);
+    let said = Said {
+        number: w.number,
+        line: w.line,
+    };
+    note(
+        d,
+        DIFFERENCES,
+        0,
+        same_page(x, w.bytes, said) & same_bytes(out, n),
+    );
+    if s.number == 0 {
+        add(d, REWRITINGS, w.number, 1);
+    } else {
+        add(d, REWRITINGS, 1, 1);
+    }
+}
+
+// Over just enough bytes, and over a buffer in its turn.
+fn try_rewritings(tree: &[u8], s: Said, d: &mut [usize; 16384], out: &mut [u8; 131074]) {
+    let n = text_size(d) % 4096;
+    try_rewriting(tree, s, d, out, n);
+    let size = next_size(d, n);
+    try_rewriting(tree, s, d, out, size);
+}
+
 // A tree that is refused comes before its trace, and leaves the buffer of a run and of a wait.
 fn try_refused(tree: &[u8], s: Said, d: &mut [usize; 16384]) {
     let reading = razhikum_read_trace(tree, b"x");
@@ -131,13 +165,14 @@ fn try_refused(tree: &[u8], s: Said, d: &mut [usize; 16384]) {
 }
 
 // A tree file on which the second reader says s; the rows have its tree if it is accepted.
-pub fn try_tree_exports(tree: &[u8], s: Said, d: &mut [usize; 16384]) {
+pub fn try_tree_exports(tree: &[u8], s: Said, d: &mut [usize; 16384], out: &mut [u8; 131074]) {
     let reading = razhikum_read_tree(tree);
     note(d, DIFFERENCES, 0, same_reading(reading, 1, s));
     add(d, EXPORTS, 0, 1);
     try_count(tree, s, d);
     try_bounds(tree, s, d);
     try_report(tree, s, d);
+    try_rewritings(tree, s, d, out);
     if s.number != 0 {
         try_refused(tree, s, d);
     }

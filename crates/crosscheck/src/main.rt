@@ -1,5 +1,5 @@
-// The library's readers, machine, runner, bounds and waits, run beside those of `second` on the generated and the listed inputs of
-// `generator`. It writes how many inputs of each kind there were, how often each of several wrong rules, followed on
+// The library's readers, machine, runner, bounds, waits and writer, run beside those of `second` on the generated and the listed
+// inputs of `generator`. It writes how many inputs of each kind there were, how often each of several wrong rules, followed on
 // purpose, was seen, and last how many differences there are.
 mod compare;
 mod edges;
@@ -8,6 +8,7 @@ mod results;
 mod trials;
 mod walked;
 mod whys;
+mod writings;
 
 use crate::edges::try_case_11;
 use crate::edges::try_delays;
@@ -37,7 +38,7 @@ fn try_pair(
 ) {
     tree_file(w, d);
     let n = generator::size(d);
-    let r = try_tree(file_in(w, n), d);
+    let r = try_tree(file_in(w, n), d, out);
     let answer = r.answer;
     let FileAnswer::Accepted = answer else {
         return;
@@ -58,7 +59,7 @@ fn try_generated(d: &mut [usize; 16384], out: &mut [u8; 131074]) {
     for _ in 0..2200usize {
         try_pair(&mut w, &mut v, d, out);
     }
-    try_case_11(&mut w, d);
+    try_case_11(&mut w, d, out);
     try_delays(&mut w, d, out);
     try_wide(&mut w, d, out);
 }

@@ -20,7 +20,9 @@ use callcheck::returns::TOO_FAR;
 use callcheck::returns::UNUSED;
 use libc::STDOUT_FILENO;
 use second::ADMITTED_LATE;
+use second::AS_READ;
 use second::BUDGET_FIRST;
+use second::BY_NUMBER;
 use second::DONE_AT_HOME;
 use second::DUE_NOW;
 use second::FALLING_FIRST;
@@ -31,8 +33,10 @@ use second::HOME_AT_WINDOW;
 use second::HOME_EARLY;
 use second::HOME_LATE;
 use second::LAST_FIRST;
+use second::LONG_FIRST;
 use second::LOWER_RESET;
 use second::NESTED;
+use second::NO_PORT_7;
 use second::NOT_OUTSTANDING;
 use second::NUMBER_FIRST;
 use second::ORDER_FIRST;
@@ -40,10 +44,13 @@ use second::OWN_MEETS;
 use second::OWN_PORT;
 use second::ROOT_MEETS;
 use second::SERVICE_LISTED;
+use second::SHORT_FIRST;
 use second::SIZE_FIRST;
 use second::TRACE_FIRST;
 use second::UNKNOWN_FIRST;
 use second::WHOLE_RUN;
+use second::WRITTEN_SHORT;
+use second::ZERO_WRITTEN;
 use store::DIFFERENCES;
 use store::WRONG;
 use store::get;
@@ -106,19 +113,19 @@ pub const TANGLED: usize = 3264;
 pub const WHYS: usize = 3280;
 
 // Of those told the slots waited, those served in the slot of admission, and those whose list is longer than the buffer.
-pub const WHY_SLOTS: usize = 3328;
+pub const WHY_SLOTS: usize = 3376;
 
-pub const WHYS_AT_ONCE: usize = 3329;
+pub const WHYS_AT_ONCE: usize = 3377;
 
-pub const WHYS_CUT: usize = 3330;
+pub const WHYS_CUT: usize = 3378;
 
 // Questions whose turn chose the buffer.
-pub const WHYS_ASKED: usize = 3331;
+pub const WHYS_ASKED: usize = 3379;
 
 // Runs that are so long that not each is asked of, and all runs that are.
-pub const LONG_RUNS: usize = 3332;
+pub const LONG_RUNS: usize = 3380;
 
-pub const RUNS_ASKED: usize = 3333;
+pub const RUNS_ASKED: usize = 3381;
 
 // Accepted trees with a return delay above 0, and with one of 15.
 pub const DELAYED: usize = 3336;
@@ -126,8 +133,25 @@ pub const DELAYED: usize = 3336;
 // Files of the return delay's limits.
 pub const DELAY_FILES: usize = 3338;
 
+// Trees written back, and those of a file with a return delay of 0, which the text leaves out.
+pub const WRITTEN: usize = 3382;
+
+pub const ZEROS: usize = 3383;
+
+// Texts of these trees that are not the written one.
+pub const TEXTS: usize = 3384;
+
+// Writings whose turn chose the buffer.
+pub const WRITING_TURNS: usize = 3385;
+
+// Writings by the number of their answer.
+pub const WRITINGS: usize = 3392;
+
+// Exported writings by the number of their answer on an accepted tree; at 1 those refused by the tree.
+pub const REWRITINGS: usize = 3408;
+
 // What the program writes: a label to each line,
-const LABELS: [u8; 3400] = *b"trees accepted\n\
+const LABELS: [u8; 4020] = *b"trees accepted\n\
     trees accepted, 1 level\n\
     trees accepted, 2 levels\n\
     trees accepted, 3 levels\n\
@@ -206,6 +230,13 @@ const LABELS: [u8; 3400] = *b"trees accepted\n\
     waits refused by 7\n\
     waits refused by 11\n\
     waits refused by 12\n\
+    trees written back\n\
+    trees written back, a return delay of 0 dropped\n\
+    other texts of these trees\n\
+    writings done\n\
+    writings refused by 2\n\
+    writings refused by 11\n\
+    writings refused by 13\n\
     exports: readings\n\
     exports: bounds\n\
     exports: reports\n\
@@ -214,6 +245,10 @@ const LABELS: [u8; 3400] = *b"trees accepted\n\
     exports: runs refused by the tree\n\
     exports: waits on an accepted tree\n\
     exports: waits refused by the tree\n\
+    exports: writings done\n\
+    exports: writings refused by 2\n\
+    exports: writings refused by 13\n\
+    exports: writings refused by the tree\n\
     wrong: 3 tested before 2, trees seen\n\
     wrong: 6 tested before 7, traces seen\n\
     wrong: budgets over the whole run, runs seen\n\
@@ -239,10 +274,17 @@ const LABELS: [u8; 3400] = *b"trees accepted\n\
     wrong: home when a window opens, runs seen\n\
     wrong: done only when all are home, runs seen\n\
     wrong: a return due now kept, offers and slots seen\n\
+    wrong: acc lines as the file has them, trees seen\n\
+    wrong: acc lines by number, trees seen\n\
+    wrong: acc lines at port 7 left out, trees seen\n\
+    wrong: a return delay of 0 written, trees seen\n\
+    wrong: 2 tested before 11, writings seen\n\
+    wrong: 13 tested before 11, writings seen\n\
+    wrong: written and then refused by 13, writings seen\n\
     differences\n";
 
 // and where its count stands.
-const PLACES: [usize; 113] = [
+const PLACES: [usize; 131] = [
     TREES,
     LEVELS + 1,
     LEVELS + 2,
@@ -322,6 +364,13 @@ const PLACES: [usize; 113] = [
     WHYS + 7,
     WHYS + 11,
     WHYS + 12,
+    WRITTEN,
+    ZEROS,
+    TEXTS,
+    WRITINGS,
+    WRITINGS + 2,
+    WRITINGS + 11,
+    WRITINGS + 13,
     EXPORTS,
     EXPORTS + 1,
     EXPORTS + 2,
@@ -330,6 +379,10 @@ const PLACES: [usize; 113] = [
     EXPORTS + 5,
     EXPORTS + 6,
     EXPORTS + 7,
+    REWRITINGS,
+    REWRITINGS + 2,
+    REWRITINGS + 13,
+    REWRITINGS + 1,
     WRONG + ORDER_FIRST,
     WRONG + FALLING_FIRST,
     WRONG + WHOLE_RUN,
@@ -355,6 +408,13 @@ const PLACES: [usize; 113] = [
     WRONG + HOME_AT_WINDOW,
     WRONG + DONE_AT_HOME,
     WRONG + DUE_NOW,
+    WRONG + AS_READ,
+    WRONG + BY_NUMBER,
+    WRONG + NO_PORT_7,
+    WRONG + ZERO_WRITTEN,
+    WRONG + LONG_FIRST,
+    WRONG + SHORT_FIRST,
+    WRONG + WRITTEN_SHORT,
     DIFFERENCES,
 ];
 
@@ -378,7 +438,7 @@ fn show_line(labels: &[u8], from: usize, n: usize) -> usize {
 pub fn show(d: &[usize; 16384]) {
     let labels = LABELS;
     let mut from = 0;
-    for i in 0..113 {
+    for i in 0..131 {
         from = show_line(&labels, from, get(d, PLACES[i], 0));
     }
 }

@@ -22,8 +22,11 @@ use crate::results::TRACES;
 use crate::results::TREES;
 use crate::results::VARIED;
 use crate::results::WINDOWS;
+use crate::results::ZEROS;
 use crate::walked::same_requests;
 use crate::whys::try_whys;
+use crate::writings::try_writings;
+use crate::writings::try_written;
 use alter::altered;
 use alter::tangle::WAYS;
 use alter::tangle::tangled;
@@ -57,6 +60,7 @@ use second::queues::run_refusal;
 use second::requests::lines;
 use second::requests::read_log;
 use second::response::bound_refusal;
+use second::written::text_size;
 use store::DIFFERENCES;
 use store::WRONG;
 use store::add;
@@ -100,8 +104,18 @@ fn try_content(t: Tree, d: &mut [usize; 16384]) {
     }
 }
 
+// An accepted file has as many bytes as its tree written back; or two more, for a return delay of 0.
+fn count_zero(s: &[u8], delay: u8, d: &mut [usize; 16384]) {
+    let n = text_size(d);
+    if s.len() != n {
+        let two_more = s.len() == std::num::wrapping_add_usize(n, 2);
+        note(d, DIFFERENCES, 0, two_more & (delay == 0));
+        add(d, ZEROS, 0, 1);
+    }
+}
+
 // A tree file. The rows are left with the second reader's tree.
-pub fn try_tree(s: &[u8], d: &mut [usize; 16384]) -> TreeRead {
+pub fn try_tree(s: &[u8], d: &mut [usize; 16384], out: &mut [u8; 131074]) -> TreeRead {
     let r = read_tree(s);
     let answer = r.answer;
     let wrongly = read_book(s, d, ORDER_FIRST);
@@ -111,11 +125,13 @@ pub fn try_tree(s: &[u8], d: &mut [usize; 16384]) -> TreeRead {
     add(d, TREES, said.number, 1);
     if said.number == 0 {
         try_content(r.tree, d);
+        count_zero(s, r.tree.bus.delay, d);
+        try_written(r.tree, d, out);
     } else {
         let empty = is_empty(r.tree, d);
         note(d, DIFFERENCES, 0, empty);
     }
-    try_tree_exports(s, said, d);
+    try_tree_exports(s, said, d, out);
     r
 }
 
@@ -245,8 +261,8 @@ fn try_bound(t: Tree, a: u8, d: &mut [usize; 16384]) {
     add(d, BOUND_ANSWERS, refusal, 1);
 }
 
-// Another tree: whether it keeps its rules, its start, calls on it from a state of t, its bounds, and if it breaks them runs of
-// the trace s and a wait in it. The rows are left with t again.
+// Another tree: whether it keeps its rules, its start, calls on it from a state of t, its bounds, its text, and if it breaks them
+// runs of the trace s and a wait in it. The rows are left with t again.
 fn try_other_tree(
     t: Tree,
     other: Tree,
@@ -260,7 +276,10 @@ fn try_other_tree(
     try_other(other, state, d);
     try_bound(other, 0, d);
     try_bound(other, 32, d);
-    if !keeps {
+    if keeps {
+        try_written(other, d, out);
+    } else {
+        try_writings(other, d, out);
         let said = try_runs(other, s, d, out, 8);
         try_whys(other, s, said, d, out, 8);
     }

@@ -1,4 +1,5 @@
-// The files that both implementations are run on: made at random from a fixed seed, damaged, at a limit, or listed.
+// The files that both implementations are run on: made at random from a fixed seed, damaged, at a limit, listed, or other texts of
+// a tree.
 //
 // Test code, without contracts: it is proved that each function is safe and ends.
 mod damage;
@@ -6,6 +7,7 @@ mod generate;
 pub mod limits;
 pub mod listed;
 pub mod pages;
+pub mod shuffle;
 
 use crate::damage::copy_or_damage;
 use crate::generate::LENGTH;

@@ -4,6 +4,8 @@
 -- ports x y            a port table with x at port 0, y at port 1 and the rest empty
 -- interconnect j p g c interconnect on port p of interconnect j, with granularity g and the port table c
 -- block j p phi b      accelerator on port p of interconnect j, with outstanding limit phi and budget b
+-- greatestBus          the bus line with each number at its greatest
+-- busiest j p          accelerator on port p of interconnect j, with each of its other numbers at its greatest
 -- treeWith P r xs ys   the configuration with window P, return delay r, interconnects xs and accelerators ys
 -- tree P xs ys         the same with return delay 0
 -- chainWith b x        three interconnects, each at port 1 of the one above, with x for accelerator 1 and budget b for the
@@ -20,6 +22,7 @@ use Prim.Native.Nat.{ℕ, _-_}
 use mathlib.Core.List.{List, [], _∷_, _++_}
 use lib.ListN.{length, replicate}
 use Rattle.model.specs.declared.Tree.{Tree}
+use Rattle.model.specs.declared.Bus.{Bus}
 use Rattle.model.specs.declared.Interconnect.{Interconnect}
 use Rattle.model.specs.declared.Accelerator.{Accelerator}
 use Rattle.model.specs.declared.PortCell.{PortCell}
@@ -37,6 +40,13 @@ interconnect j p g c = record { parent = j; port = p; granularity = g; ports = c
 abbrev pub block : ℕ → ℕ → ℕ → ℕ → Accelerator
 block j p phi b =
     record { interconnect = j; port = p; phi = phi; budget = b; reads = 1; writes = 1; computing = 0; period = 1 }
+
+abbrev pub greatestBus : Bus
+greatestBus =
+    record { window = 65535; ta = 255; da = 255; dd = 255; db = 255; pr = 4095; pw = 4095; td = 255; tb = 255; burst = 256; delay = 15 }
+
+abbrev pub busiest : ℕ → ℕ → Accelerator
+busiest j p = withJob 65535 65535 4294967295 4294967295 (block j p 16 1024)
 
 abbrev pub treeWith : ℕ → ℕ → List Interconnect → List Accelerator → Tree
 treeWith P r xs ys =

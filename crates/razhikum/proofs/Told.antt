@@ -1,10 +1,16 @@
 -- What is told of a tree's reading holds of its definition: the reading equals it, by `read_tree`'s contract, and the test
 -- found which side the definition picks.
+use Prim.Native.Nat.{ℕ}
 use mathlib.Core.Bool.{Bool, true, false, not}
-use mathlib.Core.Path.{_≡_, refl, ap, sym, _∙_}
+use mathlib.Core.List.{List}
+use mathlib.Core.Path.{_≡_, refl, ap, sym, _∙_, subst}
 use Rattle.folds.specs.Fold.{pick}
 use Rattle.placing.specs.declared.TreeRead.{TreeRead}
+use Rattle.plan.specs.declared.Printed.{Printed}
+use Rattle.plan.specs.Plan.{Printing}
 use Rattle.answers.specs.Numbers.{isAccepted}
+use Rattle.razhikum.specs.declared.Page.{Page}
+use Rattle.razhikum.specs.Exports.{pageOf}
 
 abbrev chosen : {A : Type 0} → (TreeRead → A) → (TreeRead → A) → TreeRead → A
 chosen f g q = pick (isAccepted (q .answer)) (f q) (g q)
@@ -23,3 +29,8 @@ module _ {A : Type 0} (f g : TreeRead → A) (x q : TreeRead) (e : x ≡ q) (b :
 
   pub of-refused : not b ≡ true → (r : A) → r ≡ g x → r ≡ chosen f g q
   of-refused y r p = p ∙ sym (ap (λ (k : Bool). pick k (f x) (g x)) (sym t ∙ fails b y)) ∙ ap (chosen f g) e
+
+-- a page with the numbers of what `plan` answered
+pub paged : {q : TreeRead} {d e : List ℕ} (x : Printed) (y : Page) → y ≡ pageOf x → Printing q d e (x .bytes) (x .number) (x .line)
+    → Printing q d e (y .bytes) (y .number) (y .line)
+paged {q} {d} {e} x y h p = subst (λ (z : Page). Printing q d e (z .bytes) (z .number) (z .line)) (sym h) p

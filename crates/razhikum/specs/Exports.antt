@@ -1,6 +1,7 @@
 -- What the exported functions answer, as numbers, from the definitions of documents 01 and 02 that the libraries below cite.
 --
--- version               1.2.0 as one number: 10,000 for the first figure, 100 for the second, 1 for the third
+-- version               1.3.0 as one number: 10,000 for the first figure, 100 for the second, 1 for the third
+-- pageOf x              what `plan` answers, as the static library says it
 -- treeReading q         the reading q of a tree file as numbers
 -- traceReading q s      the same for the trace s on that tree: a refused tree comes first
 -- countFrom q           the number of accelerators of the tree of reading q
@@ -19,6 +20,8 @@ use Rattle.placing.specs.declared.TreeRead.{TreeRead}
 use Rattle.runner.specs.Run.{ranOf, bufferAfter}
 use Rattle.waits.specs.Why.{whyOf, whyBuffer}
 use Rattle.bounds.specs.Bounds.{boundOf}
+use Rattle.plan.specs.declared.Printed.{Printed}
+use Rattle.razhikum.specs.declared.Page.{Page}
 use Rattle.answers.specs.declared.Reading.{Reading}
 use Rattle.answers.specs.declared.Count.{Count}
 use Rattle.answers.specs.declared.Outcome.{Outcome}
@@ -27,7 +30,10 @@ use Rattle.answers.specs.declared.Row.{Row}
 use Rattle.answers.specs.Numbers.{isAccepted, readingOf, countOf, outcomeOf, treeRefused, noWait, waitOf, unbounded, rowOf}
 
 abbrev pub version : ℕ
-version = 1 * 10000 + 2 * 100 + 0
+version = 1 * 10000 + 3 * 100 + 0
+
+abbrev pub pageOf : Printed → Page
+pageOf x = record { bytes = x .bytes; number = x .number; line = x .line }
 
 abbrev pub treeReading : TreeRead → Reading
 treeReading q = readingOf 1 (q .answer)

@@ -18,16 +18,19 @@ use answers::wait_of;
 use bounds::bound;
 use lines::answer_line;
 use lines::answer_number;
+use plan::Printed;
 use reader::read_tree;
 use runner::run;
 use trace::read_trace;
 use waits::why;
 ghost use mathlib.Core.Path.{_≡_};
 ghost use Rattle.reader.specs.TreeFile.{readTree};
+ghost use lib.ListN.{length};
 ghost use Rattle.plan.specs.Plan.{Printing};
-ghost use Rattle.razhikum.specs.Exports.{version, treeReading, traceReading, countFrom, outcomeFrom, bufferFrom, waitFrom, listFrom, rowFrom};
+ghost use Rattle.plan.specs.Rewrite.{rewriteOf, rewriteBuffer};
+ghost use Rattle.razhikum.specs.Exports.{version, pageOf, treeReading, traceReading, countFrom, outcomeFrom, bufferFrom, waitFrom, listFrom, rowFrom};
 
-// A report as text: how many bytes of the page it has; or the refusal, which puts none.
+// A report or a tree as text: how many bytes of the buffer it has; or the refusal, which puts none.
 #[repr(C)]
 pub struct Page {
     pub bytes: usize,
@@ -35,12 +38,22 @@ pub struct Page {
     pub line: u32,
 }
 
+fn page_of(x: Printed) -> Page
+    ensures { λ r. ⌜ r ≡ pageOf x ⌝ }
+{
+    Page {
+        bytes: x.bytes,
+        number: x.number,
+        line: x.line,
+    }
+}
+
 // The version of these functions and structs, as the header's RAZHIKUM_VERSION says it.
 #[no_mangle]
 pub extern "C" fn razhikum_version() -> u32
     ensures { λ r. ⌜ r ≡ version ⌝ }
 {
-    10200
+    10300
 }
 
 // Whether the tree file is accepted, or why and at which line it is refused.
@@ -81,12 +94,17 @@ pub extern "C" fn razhikum_count(tree: &[u8]) -> Count
 pub extern "C" fn razhikum_report(tree: &[u8], out: &mut [u8; 65536]) -> Page
     ensures { λ r. ⌜ Printing (readTree (now (tree .entry))) (now (out .entry)) (now (out .exit)) (r .bytes) (r .number) (r .line) ⌝ }
 {
-    let x = plan::report(tree, out);
-    Page {
-        bytes: x.bytes,
-        number: x.number,
-        line: x.line,
-    }
+    page_of(plan::report(tree, out))
+}
+
+// The tree file written back: the text of its tree, put at the beginning of `out`; a refusal is answered by number and line, and leaves
+// `out` as it was.
+#[no_mangle]
+pub extern "C" fn razhikum_rewrite(tree: &[u8], out: &mut [u8]) -> Page
+    ensures answer { λ r. ⌜ r ≡ pageOf (rewriteOf (readTree (now (tree .entry))) (length (now (out .entry)))) ⌝ }
+    ensures bytes { λ r. ⌜ now (out .exit) ≡ rewriteBuffer (readTree (now (tree .entry))) (now (out .entry)) ⌝ }
+{
+    page_of(plan::rewrite(tree, out))
 }
 
 // Runs the trace on the tree and writes one byte a slot into `out`: the accelerator's number, or 255 for idle.

@@ -245,11 +245,16 @@ fn int_in_order(d: &[usize; 16384]) -> bool {
     (0 < rows(d)) & (accs(d) == 0) & (number == ints(d)) & placed
 }
 
+// Is this row there, and an acc line?
+pub(crate) fn is_acc(d: &[usize; 16384], row: usize) -> bool {
+    (ints(d) < row) & (row < rows(d))
+}
+
 // Is there an acc line of this number?
 fn listed(d: &[usize; 16384], a: usize) -> bool {
     let mut found = false;
     for row in 2..48 {
-        if (ints(d) < row) & (row < rows(d)) {
+        if is_acc(d, row) {
             found = found | (cell(d, row, 0) == a);
         }
     }
@@ -348,7 +353,7 @@ fn judge(s: Scan, d: &mut [usize; 16384], wrong: usize) -> usize {
 fn has_gap(d: &[usize; 16384]) -> bool {
     let mut found = false;
     for row in 2..48 {
-        if (ints(d) < row) & (row < rows(d)) {
+        if is_acc(d, row) {
             found = found | (accs(d) <= cell(d, row, 0));
         }
     }

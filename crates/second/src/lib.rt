@@ -1,4 +1,4 @@
-// A second implementation of document 01's readers, machine, runner and bounds, and of document 02's items 1 and 2, written
+// A second implementation of document 01's readers, machine, runner and bounds, and of document 02's items 1, 2 and 4, written
 // separately from the library and its definitions: it shares no code with them.
 //
 // Test code: it is proved that each function is safe and ends. Those that a comparison with the library reads its entries by have
@@ -13,6 +13,7 @@ pub mod requests;
 pub mod response;
 mod scan;
 pub mod sheet;
+pub mod written;
 
 // The rule that the second implementation breaks on purpose: none,
 pub const NO_WRONG_RULE: usize = 0;
@@ -64,8 +65,22 @@ pub const HOME_EARLY: usize = 22;
 pub const HOME_AT_WINDOW: usize = 23;
 // a run that is done only when they are home,
 pub const DONE_AT_HOME: usize = 24;
-// and a state kept in which one is due now.
+// a state kept in which one is due now,
 pub const DUE_NOW: usize = 25;
+// acc lines written in the order of the rows,
+pub const AS_READ: usize = 26;
+// or by the accelerators' numbers,
+pub const BY_NUMBER: usize = 27;
+// or without those at port 7,
+pub const NO_PORT_7: usize = 28;
+// a return delay of 0 written,
+pub const ZERO_WRITTEN: usize = 29;
+// 2 tested before 11 by the writer,
+pub const LONG_FIRST: usize = 30;
+// or 13 tested before 11,
+pub const SHORT_FIRST: usize = 31;
+// and a text written as far as the buffer goes, and then refused by 13.
+pub const WRITTEN_SHORT: usize = 32;
 
 // An answer on a file: 0 where it is accepted, or the number of a refusal; and the line.
 pub struct Said {

@@ -16,7 +16,7 @@ pub const OFFER: usize = 367;
 // Where the fields of the current line stand, the first after the record name at 1; and what stands for "-".
 const FIELDS: usize = 544;
 
-const DASH: usize = 1099511627776;
+pub const DASH: usize = 1099511627776;
 
 // What has been seen of a line: its number, how many fields are closed, the record name; and of the open field how many
 // bytes it has, its number, and whether it is "-". `bad` once the shape is wrong.

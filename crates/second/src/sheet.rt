@@ -5,12 +5,12 @@ use crate::response::Row;
 use crate::response::figures;
 
 // A byte goes to the page; where the next one goes.
-fn byte(page: &mut [u8; 65536], at: usize, b: u8) -> usize {
+pub(crate) fn byte(page: &mut [u8; 65536], at: usize, b: u8) -> usize {
     page[at % 65536] = b;
     std::num::wrapping_add_usize(at, 1)
 }
 
-fn word(page: &mut [u8; 65536], at: usize, s: &[u8]) -> usize {
+pub(crate) fn word(page: &mut [u8; 65536], at: usize, s: &[u8]) -> usize {
     let mut next = at;
     for i in 0..s.len() {
         next = byte(page, next, s[i]);
@@ -19,7 +19,7 @@ fn word(page: &mut [u8; 65536], at: usize, s: &[u8]) -> usize {
 }
 
 // The digits of n, from the highest power of ten down; those before the first that is not 0 are left out, but the last never.
-fn number(page: &mut [u8; 65536], at: usize, n: usize) -> usize {
+pub(crate) fn number(page: &mut [u8; 65536], at: usize, n: usize) -> usize {
     let mut next = at;
     let mut begun = false;
     let mut power: usize = 10000000000000000000;

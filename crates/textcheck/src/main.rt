@@ -1,9 +1,10 @@
-// A program that writes every text the programs print: help and usage, the report and refusals of tree files, simulations of
-// refused, done and stopped runs by the word SLOTS, and refusals in words; what the programs do by their words; and which files
-// can be read. The file `stdout` holds them, written apart from the definitions.
+// A program that writes every text the programs print: help and usage, the report, the rewriting and refusals of tree files,
+// simulations of refused, done and stopped runs by the word SLOTS, and refusals in words; what the programs do by their words; and
+// which files can be read. The file `stdout` holds them, written apart from the definitions.
 use input::Input;
 use inquiry::Reply;
 use libc::STDOUT_FILENO;
+use plan::Printed;
 use simulation::Asked;
 use simulation::Part;
 use text::part_end;
@@ -24,6 +25,10 @@ fn show_usage() {
     let n = usage::report_usage(&mut page);
     show_page(&page, n);
     let n = usage::report_help(&mut page);
+    show_page(&page, n);
+    let n = usage::rewrite_usage(&mut page);
+    show_page(&page, n);
+    let n = usage::rewrite_help(&mut page);
     show_page(&page, n);
     let n = usage::simulate_usage(&mut page);
     show_page(&page, n);
@@ -72,11 +77,11 @@ fn word_count(line: &[u8]) -> usize {
     count
 }
 
-// What `report` does, started with these words.
+// What `report` does, started with these words; `rewrite` does the same.
 fn report_does(words: &[u8], terminal: bool) {
     let second = after(words);
     let third = after(second);
-    let asked = usage::report_asked(
+    let asked = usage::file_asked(
         word_count(words),
         word(words),
         word(second),
@@ -271,17 +276,27 @@ fn load_all() {
     load(b"-");
 }
 
-// The report; of a refused tree the first byte of the page, which is left as it was, and the refusal.
+// The text of a tree in the page; of a refused tree the first byte of the page, which is left as it was, and the refusal.
+fn show_printed(r: Printed, page: &mut [u8; 65536]) {
+    if r.number == 0 {
+        show_page(page, r.bytes);
+        return;
+    }
+    show_page(page, 1);
+    let n = listing::refusal_text(r.number, r.line, page);
+    show_page(page, n);
+}
+
 fn report(tree: &[u8]) {
     let mut page = [b'.'; 65536];
     let r = plan::report(tree, &mut page);
-    if r.number == 0 {
-        show_page(&page, r.bytes);
-        return;
-    }
-    show_page(&page, 1);
-    let n = listing::refusal_text(r.number, r.line, &mut page);
-    show_page(&page, n);
+    show_printed(r, &mut page);
+}
+
+fn rewrite(tree: &[u8]) {
+    let mut page = [b'.'; 65536];
+    let r = plan::rewrite(tree, &mut page);
+    show_printed(r, &mut page);
 }
 
 // A refusal of the bytes in words.
@@ -561,9 +576,41 @@ fn reports(tree: &[u8]) {
     report(b"");
 }
 
-// The texts of the programs on a tree: the reports, the runs, the waits.
+// Acc lines in another order than their ports, and a return delay of 0; a delay of 3, interconnects above 9, the last port, and the
+// largest value of each field; a refused delay.
+fn rewritings() {
+    rewrite(
+        b"bus\t8\t1\t4\t2\t2\t30\t25\t1\t1\t16\t0\n\
+        int\t0\t-\t-\t1\n\
+        acc\t0\t0\t3\t4\t2\t10\t5\t1000\t2000\n\
+        acc\t1\t0\t0\t4\t2\t1\t0\t0\t100\n",
+    );
+    rewrite(
+        b"bus\t65535\t255\t255\t255\t255\t4095\t4095\t255\t255\t256\t3\n\
+        int\t0\t-\t-\t16\n\
+        int\t1\t0\t0\t1\n\
+        int\t2\t0\t1\t1\n\
+        int\t3\t0\t2\t1\n\
+        int\t4\t0\t3\t1\n\
+        int\t5\t0\t4\t1\n\
+        int\t6\t0\t5\t1\n\
+        int\t7\t0\t6\t1\n\
+        int\t8\t1\t0\t1\n\
+        int\t9\t1\t7\t1\n\
+        int\t10\t9\t1\t16\n\
+        acc\t2\t10\t0\t1\t1\t0\t0\t0\t1\n\
+        acc\t0\t10\t7\t16\t1024\t65535\t65535\t4294967295\t4294967295\n\
+        acc\t4\t0\t7\t4\t2\t10\t5\t1000\t2000\n\
+        acc\t1\t9\t7\t4\t2\t10\t5\t1000\t2000\n\
+        acc\t3\t2\t5\t4\t2\t10\t5\t1000\t2000\n",
+    );
+    rewrite(b"bus\t8\t1\t4\t2\t2\t30\t25\t1\t1\t16\t16\n");
+}
+
+// The texts of the programs on a tree: the reports, the rewritings, the runs, the waits.
 fn programs(tree: &[u8]) {
     reports(tree);
+    rewritings();
     simulate_words(tree, b"o\t0\t0\t1\no\t1\t1\t1\n");
     simulate_refused(tree);
     why_words(tree);

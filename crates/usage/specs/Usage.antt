@@ -1,4 +1,4 @@
--- What the programs say of themselves, what their words say, and what `report` does by its words.
+-- What the programs say of themselves, what their words say, and what a program of one file, `report` or `rewrite`, does by its words.
 --
 -- asksHelp w           the word asks for help
 -- helpAsked a b c      one of a program's first three words does, wherever it stands among them; a word that is not given is empty
@@ -6,11 +6,11 @@
 -- twoFiles a b         the words a and b name two files: neither is an option, and standard input, "-", is one of them at most
 -- plainNumber w        the word w is a number: digits, at least one, "no sign, no leading zero except 0 itself"
 -- numberAsked w m      the number that the word w says, m standing for every number above m
--- reportAsked n a b c t   what `report` does, started with n words, of which a, b and c are the first three: help, if asked; usage,
---                      for more than one word or an option; the file that its one word names, "-" too; without a word standard
---                      input, or usage where that is a terminal (t)
--- reportUsage, simulateUsage, whyUsage   what is said where the arguments are wrong
--- reportHelp, simulateHelp, whyHelp      what is said where help is asked for
+-- fileAsked n a b c t  what a program of one file does, started with n words, of which a, b and c are the first three: help, if
+--                      asked; usage, for more than one word or an option; the file that its one word names, "-" too; without a
+--                      word standard input, or usage where that is a terminal (t)
+-- reportUsage, rewriteUsage, simulateUsage, whyUsage   what is said where the arguments are wrong
+-- reportHelp, rewriteHelp, simulateHelp, whyHelp       what is said where help is asked for
 use Prim.Native.Nat.{ℕ, min}
 use mathlib.Core.Bool.{Bool, _&&_, _||_, not}
 use mathlib.Core.List.{List, _++_}
@@ -45,8 +45,8 @@ plainNumber w = not (eqb (length w) 0) && not (leadingZero w) && allDigits w
 unfoldable pub numberAsked : List ℕ → ℕ → NumberWord
 numberAsked w m = pick (plainNumber w) (Number (min (decimal w) m)) NoNumber
 
-unfoldable pub reportAsked : ℕ → List ℕ → List ℕ → List ℕ → Bool → Asked
-reportAsked n a b c t =
+unfoldable pub fileAsked : ℕ → List ℕ → List ℕ → List ℕ → Bool → Asked
+fileAsked n a b c t =
     pick (helpAsked a b c) Help
     (pick (ltb 1 n || isOption a) Usage
     (pick (eqb n 1) File
@@ -62,6 +62,18 @@ reportHelp =
     ++ bytes "Columns: accelerator, level, share, interfering reads and writes, response and period in cycles, verdict.\n"
     ++ bytes "A refused file prints \"refused\", the number of the cause and the line; standard error says it in words.\n"
     ++ bytes "example: report scanner.tree\n"
+
+abbrev pub rewriteUsage : List ℕ
+rewriteUsage = bytes "usage: rewrite [FILE]\nexample: rewrite scanner.tree\n"
+
+abbrev pub rewriteHelp : List ℕ
+rewriteHelp =
+    bytes "rewrite [FILE]: writes the tree of a tree file back as text; two files of the same tree give the same text.\n"
+    ++ bytes "FILE is a tree file; standard input without one, or with -.\n"
+    ++ bytes "The bus line, without a return delay of 0; the int lines by number; the acc lines by interconnect, then by port.\n"
+    ++ bytes "The text goes to standard output. Do not send it to FILE itself, which the shell empties before it is read.\n"
+    ++ bytes "A refused file prints \"refused\", the number of the cause and the line; standard error says it in words.\n"
+    ++ bytes "example: rewrite scanner.tree\n"
 
 abbrev pub simulateUsage : List ℕ
 simulateUsage = bytes "usage: simulate TREE TRACE [SLOTS]\nexample: simulate scanner.tree scanner.trace 100\n"

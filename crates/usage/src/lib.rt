@@ -1,13 +1,13 @@
 // What the programs say of themselves, each text put into a page that the caller lends; what their words say: help, files, a
-// number; and what `report` does by its words. `simulate` is in `simulation`, `why` in `inquiry`.
+// number; and what a program of one file, `report` or `rewrite`, does by its words. `simulate` is in `simulation`, `why` in `inquiry`.
 use put::put_bytes;
 use text::same_bytes;
 ghost use mathlib.Core.Path.{_≡_};
 ghost use Prim.Native.Nat.{min};
 ghost use Rattle.put.specs.Page.{Written};
-ghost use Rattle.usage.specs.Usage.{asksHelp, helpAsked, isOption, isDash, twoFiles, numberAsked, reportAsked, reportUsage, reportHelp, simulateUsage, simulateHelp, whyUsage, whyHelp};
+ghost use Rattle.usage.specs.Usage.{asksHelp, helpAsked, isOption, isDash, twoFiles, numberAsked, fileAsked, reportUsage, reportHelp, rewriteUsage, rewriteHelp, simulateUsage, simulateHelp, whyUsage, whyHelp};
 
-// What `report` does by its words.
+// What a program of one file does by its words.
 pub enum Asked {
     Usage,
     Help,
@@ -101,15 +101,9 @@ pub fn number_asked(word: &[u8], most: u32) -> NumberWord
     NumberWord::Number(value as u32)
 }
 
-// What `report` does, started with `count` words, of which these are the first three; `terminal`: standard input is one.
-pub fn report_asked(
-    count: usize,
-    first: &[u8],
-    second: &[u8],
-    third: &[u8],
-    terminal: bool,
-) -> Asked
-    ensures { λ r. ⌜ r ≡ reportAsked count (now (first .entry)) (now (second .entry)) (now (third .entry)) terminal ⌝ }
+// What a program of one file does, started with `count` words, of which these are the first three; `terminal`: standard input is one.
+pub fn file_asked(count: usize, first: &[u8], second: &[u8], third: &[u8], terminal: bool) -> Asked
+    ensures { λ r. ⌜ r ≡ fileAsked count (now (first .entry)) (now (second .entry)) (now (third .entry)) terminal ⌝ }
 {
     if help_asked(first, second, third) {
         return Asked::Help;
@@ -149,6 +143,33 @@ pub fn report_help(out: &mut [u8; 65536]) -> usize
         Columns: accelerator, level, share, interfering reads and writes, response and period in cycles, verdict.\n\
         A refused file prints \"refused\", the number of the cause and the line; standard error says it in words.\n\
         example: report scanner.tree\n",
+    )
+}
+
+// What `rewrite` says where its arguments are wrong.
+pub fn rewrite_usage(out: &mut [u8; 65536]) -> usize
+    ensures { λ r. ⌜ Written rewriteUsage (now (out .entry)) (now (out .exit)) r ⌝ }
+{
+    put_bytes(
+        out,
+        0,
+        b"usage: rewrite [FILE]\nexample: rewrite scanner.tree\n",
+    )
+}
+
+// What `rewrite` says where help is asked for.
+pub fn rewrite_help(out: &mut [u8; 65536]) -> usize
+    ensures { λ r. ⌜ Written rewriteHelp (now (out .entry)) (now (out .exit)) r ⌝ }
+{
+    put_bytes(
+        out,
+        0,
+        b"rewrite [FILE]: writes the tree of a tree file back as text; two files of the same tree give the same text.\n\
+        FILE is a tree file; standard input without one, or with -.\n\
+        The bus line, without a return delay of 0; the int lines by number; the acc lines by interconnect, then by port.\n\
+        The text goes to standard output. Do not send it to FILE itself, which the shell empties before it is read.\n\
+        A refused file prints \"refused\", the number of the cause and the line; standard error says it in words.\n\
+        example: rewrite scanner.tree\n",
     )
 }
 

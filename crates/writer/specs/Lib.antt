@@ -1,0 +1,4 @@
+pub mod Lines
+pub mod Writer
+pub mod Answers
+pub mod Longest
