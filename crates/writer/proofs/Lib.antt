@@ -5,3 +5,4 @@ pub mod Limits
 pub mod Length
 pub mod Answers
 pub mod Longest
+pub mod Figures

@@ -2,3 +2,4 @@ pub mod Lines
 pub mod Writer
 pub mod Answers
 pub mod Longest
+pub mod Figures
