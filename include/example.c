@@ -1,4 +1,5 @@
-/* Calls the static library from C: the report of a tree, the bounds of each accelerator, a run, a wait, and a refusal.
+/* Calls the static library from C: the report of a tree, the bounds of each accelerator, a run, a wait, the tree written back, and
+ * a refusal.
  *
  *     cc -Iinclude include/example.c target/staticlib/librazhikum.a -o example
  */
@@ -11,8 +12,8 @@
 static const char TREE[] =
     "bus\t8\t1\t4\t2\t2\t30\t25\t1\t1\t16\n"
     "int\t0\t-\t-\t1\n"
-    "acc\t0\t0\t0\t4\t2\t10\t5\t1000\t2000\n"
-    "acc\t1\t0\t3\t4\t2\t1\t0\t0\t100\n";
+    "acc\t1\t0\t3\t4\t2\t1\t0\t0\t100\n"
+    "acc\t0\t0\t0\t4\t2\t10\t5\t1000\t2000\n";
 static const char TRACE[] = "o\t0\t0\t2\no\t0\t1\t1\n";
 
 static void show_bounds(const uint8_t *tree, size_t tree_bytes) {
@@ -51,6 +52,13 @@ static void show_wait(const uint8_t *tree, size_t tree_bytes) {
     printf("waited %" PRIu32 " slots\n", wait.count);
 }
 
+/* The acc lines by interconnect and port, whatever their order was. */
+static void show_text(const uint8_t *tree, size_t tree_bytes) {
+    uint8_t text[RAZHIKUM_TREE_TEXT];
+    razhikum_page written = razhikum_rewrite(tree, tree_bytes, text, sizeof text);
+    fwrite(text, 1, written.bytes, stdout);
+}
+
 int main(void) {
     static uint8_t page[RAZHIKUM_PAGE];
     const uint8_t *tree = (const uint8_t *)TREE;
@@ -64,6 +72,7 @@ int main(void) {
     show_bounds(tree, tree_bytes);
     show_run(tree, tree_bytes);
     show_wait(tree, tree_bytes);
+    show_text(tree, tree_bytes);
 
     razhikum_reading cut = razhikum_read_tree(tree, tree_bytes - 1);
     if (cut.number == RAZHIKUM_SHAPE) {

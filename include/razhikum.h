@@ -13,8 +13,8 @@
  * same time must not have the same `out`.
  *
  * In every answer `number` is the number of a refusal (enum razhikum_refusal), or 0 where nothing is refused, and `line` its
- * line, counted from 1, or 0 where it has none (the size of a file or of a buffer; 7, 11 and 12 of a call). A refusal leaves every
- * `out` as it was.
+ * line, counted from 1, or 0 where it has none (the size of a file or of a buffer; 7, 11, 12 and 13 of a call). A refusal leaves
+ * every `out` as it was.
  */
 #ifndef RAZHIKUM_H
 #define RAZHIKUM_H
@@ -27,8 +27,8 @@
 extern "C" {
 #endif
 
-/* The version of this header: 10000 for each first figure, 100 for each second, 1 for each third. 10200 is 1.2.0. */
-#define RAZHIKUM_VERSION 10200
+/* The version of this header: 10000 for each first figure, 100 for each second, 1 for each third. 10300 is 1.3.0. */
+#define RAZHIKUM_VERSION 10300
 
 /* The version of the archive. Where it is not RAZHIKUM_VERSION, header and archive do not belong together. */
 uint32_t razhikum_version(void);
@@ -39,9 +39,12 @@ uint32_t razhikum_version(void);
 /* The most bytes of a file: a larger one is refused by RAZHIKUM_RANGE, with line 0. */
 #define RAZHIKUM_LIMIT 65536
 
-/* The most slots of a run, and the most bytes of a buffer for a run or a wait: a larger one is refused by RAZHIKUM_RANGE, with
- * line 0. */
+/* The most slots of a run, and the most bytes of a buffer for a run, a wait or the text of a tree: a larger one is refused by
+ * RAZHIKUM_RANGE, with line 0. */
 #define RAZHIKUM_SLOTS 65536
+
+/* The most bytes of a tree's text as razhikum_rewrite writes it: a buffer of so many bytes is long enough for every tree. */
+#define RAZHIKUM_TREE_TEXT 1973
 
 /* The byte of an idle slot. */
 #define RAZHIKUM_IDLE 255
@@ -50,8 +53,8 @@ uint32_t razhikum_version(void);
 #define RAZHIKUM_OWN 255
 
 /* The number of a refusal (docs/FORMAT.md, F45). A tree file is refused by 1 to 5, a trace file by 1, 2, 6 or 7, a bound and
- * a wait by 7 where the tree has no such accelerator, a wait then by 12. 8 to 10 answer calls of the machine, which are not
- * exported; 11 answers a configuration that no file gives. */
+ * a wait by 7 where the tree has no such accelerator, a wait then by 12, the text of a tree by 2 or 13 for its buffer. 8 to 10
+ * answer calls of the machine, which are not exported; 11 answers a configuration that no file gives. */
 enum razhikum_refusal {
     RAZHIKUM_ACCEPTED = 0,
     RAZHIKUM_SHAPE = 1,       /* a line of wrong shape: name, count of fields, a malformed number, a missing last LF */
@@ -65,7 +68,8 @@ enum razhikum_refusal {
     RAZHIKUM_BUDGET = 9,      /* the accelerator's budget of this window is used */
     RAZHIKUM_LAST_SLOT = 10,  /* the slot count is at its end */
     RAZHIKUM_BROKEN = 11,     /* the configuration or the state breaks its rules */
-    RAZHIKUM_NOT_SERVED = 12  /* the number of a transaction is 0, or the run serves fewer of its accelerator */
+    RAZHIKUM_NOT_SERVED = 12, /* the number of a transaction is 0, or the run serves fewer of its accelerator */
+    RAZHIKUM_TOO_SHORT = 13   /* the buffer is shorter than the text */
 };
 
 /* razhikum_reading.file: which file is refused. */
@@ -97,7 +101,7 @@ typedef struct {
     uint8_t accelerators;
 } razhikum_counted;
 
-/* A report put on a page: how many bytes it has, 0 on a refusal. */
+/* A report put on a page, or the text of a tree put into a buffer: how many bytes it has, 0 on a refusal. */
 typedef struct {
     size_t bytes;
     uint8_t number;
@@ -155,8 +159,9 @@ enum razhikum_stack {
     RAZHIKUM_STACK_READ_TRACE = 18432,
     RAZHIKUM_STACK_COUNT = 18432,
     RAZHIKUM_STACK_REPORT = 21504,
-    RAZHIKUM_STACK_RUN = 21504,
-    RAZHIKUM_STACK_WHY = 90112,
+    RAZHIKUM_STACK_REWRITE = 24576,
+    RAZHIKUM_STACK_RUN = 18432,
+    RAZHIKUM_STACK_WHY = 84992,
     RAZHIKUM_STACK_BOUND = 20480
 };
 
@@ -173,6 +178,15 @@ razhikum_counted razhikum_count(const uint8_t *tree, size_t tree_bytes);
 /* Puts the report of a tree file at the beginning of `out`, which has RAZHIKUM_PAGE bytes. The bytes past the text keep their
  * contents. A refusal is answered by number and line and leaves the page as it was: `bytes` is 0 then. */
 razhikum_page razhikum_report(const uint8_t *tree, size_t tree_bytes, uint8_t *out);
+
+/* Writes the tree of a tree file back: its text, at the beginning of `out`, which is not the file's own buffer. The text is the bus
+ * line, without the return delay where that is 0, the int lines by number, and the acc lines by interconnect and then by port, both
+ * rising, whatever their order in the file. Read again it gives the same tree, and two files of one tree give the same bytes. It has
+ * at most RAZHIKUM_TREE_TEXT bytes. The bytes past it keep their contents, and on a refusal all do: `bytes` is 0 then.
+ *
+ * Checked in this order: the tree (1 to 5), then with line 0 the size of `out`: 2 where it has more than RAZHIKUM_SLOTS bytes, 13
+ * where it is shorter than the text. */
+razhikum_page razhikum_rewrite(const uint8_t *tree, size_t tree_bytes, uint8_t *out, size_t out_bytes);
 
 /* Runs a trace on a tree and writes one byte a slot into `out`: the number of the accelerator served, or RAZHIKUM_IDLE. The
  * bytes past the slots used keep their contents, and on a refusal all do. With a return delay of r a transaction that is served in

@@ -1,7 +1,7 @@
-/* Measures the stack that each call uses, its caller's frame included: on a full tree, a small one and a tree with one level too
- * many, each whole and cut short. The call is made on a thread that has painted its stack below the caller's frame, and the lowest
- * byte that has lost its paint says how deep the call went. Prints for each call the most that was used and what the header says,
- * and fails where the first is more.
+/* Measures the stack that each call uses, its caller's frame included: on a full tree, a small one, one with the longest numbers and
+ * one with a level too many, each whole and cut short. The call is made on a thread that has painted its stack below the caller's
+ * frame, and the lowest byte that has lost its paint says how deep the call went. Prints for each call the most that was used and
+ * what the header says, and fails where the first is more.
  *
  *     cc -pthread -Iinclude include/stack.c target/staticlib/librazhikum.a -o stack && ./stack examples
  */
@@ -15,7 +15,7 @@
 
 enum { STACK = 1 << 18, UNPAINTED = 256, PAINT = 0xa5, FILE_ROOM = 1 << 17 };
 
-enum call { VERSION, READ_TREE, READ_TRACE, COUNT, REPORT, RUN, WHY, BOUND, CALLS };
+enum call { VERSION, READ_TREE, READ_TRACE, COUNT, REPORT, REWRITE, RUN, WHY, BOUND, CALLS };
 
 static const struct {
     const char *name;
@@ -23,8 +23,9 @@ static const struct {
 } calls[CALLS] = {
     {"version", RAZHIKUM_STACK_VERSION}, {"read_tree", RAZHIKUM_STACK_READ_TREE},
     {"read_trace", RAZHIKUM_STACK_READ_TRACE}, {"count", RAZHIKUM_STACK_COUNT},
-    {"report", RAZHIKUM_STACK_REPORT}, {"run", RAZHIKUM_STACK_RUN},
-    {"why", RAZHIKUM_STACK_WHY}, {"bound", RAZHIKUM_STACK_BOUND},
+    {"report", RAZHIKUM_STACK_REPORT}, {"rewrite", RAZHIKUM_STACK_REWRITE},
+    {"run", RAZHIKUM_STACK_RUN}, {"why", RAZHIKUM_STACK_WHY},
+    {"bound", RAZHIKUM_STACK_BOUND},
 };
 
 struct file {
@@ -46,6 +47,7 @@ static void make_call(void) {
     case READ_TRACE: answered = razhikum_read_trace(tree.text, tree.bytes, trace.text, trace.bytes).line; break;
     case COUNT: answered = razhikum_count(tree.text, tree.bytes).line; break;
     case REPORT: answered = razhikum_report(tree.text, tree.bytes, page).bytes; break;
+    case REWRITE: answered = razhikum_rewrite(tree.text, tree.bytes, page, sizeof page).bytes; break;
     case RUN: answered = razhikum_run(tree.text, tree.bytes, trace.text, trace.bytes, served, sizeof served).slots; break;
     case WHY:
         for (uint8_t a = 0; a <= 32; a += 8) {
@@ -111,6 +113,19 @@ static void text(struct file *into, const char *bytes) {
     memcpy(into->text, bytes, into->bytes);
 }
 
+/* The tree with the longest numbers: every value is the greatest, and 29 accelerators on four interconnects beneath each other have the
+ * greatest share, so that the response has 19 digits. */
+static void greatest(struct file *into) {
+    char lines[4096] = "bus\t65535\t255\t255\t255\t255\t4095\t4095\t255\t255\t256\t15\nint\t0\t-\t-\t16\n"
+                       "int\t1\t0\t7\t16\nint\t2\t1\t7\t16\nint\t3\t2\t7\t16\n";
+    for (int a = 0; a < 29; a++) {
+        size_t at = strlen(lines);
+        snprintf(lines + at, sizeof lines - at, "acc\t%d\t%d\t%d\t16\t1024\t65535\t65535\t4294967295\t4294967295\n", a,
+                 a == 28 ? 3 : a / 7, a == 28 ? 7 : a % 7);
+    }
+    text(into, lines);
+}
+
 /* The files whole, and cut after each of so many parts of the tree and of the trace. */
 static void measure_cut(size_t parts) {
     size_t tree_bytes = tree.bytes, trace_bytes = trace.bytes;
@@ -139,6 +154,8 @@ int main(int arguments, char **words) {
         load(&trace, words[1], pairs[i][1]);
         measure_cut(40);
     }
+    greatest(&tree);
+    measure_cut(40);
     /* The reader counts the levels above the fourth before it refuses the fifth. */
     text(&tree, "bus\t8\t1\t4\t2\t2\t30\t25\t1\t1\t16\nint\t0\t-\t-\t1\nint\t1\t0\t0\t1\nint\t2\t1\t0\t1\n"
                 "int\t3\t2\t0\t1\nint\t4\t3\t0\t1\nacc\t0\t3\t1\t4\t2\t10\t5\t1000\t2000\n");

@@ -64,7 +64,7 @@ typedef struct {
     uint8_t text[RAZHIKUM_LIMIT + 1];
 } file;
 
-static file tree, trace;
+static file tree, trace, written;
 static uint8_t page[RAZHIKUM_PAGE], served[RAZHIKUM_SLOTS + 1];
 
 static void load(file *into, const char *folder, const char *name) {
@@ -196,6 +196,50 @@ static void is_wait(unsigned a, unsigned which, unsigned slot, unsigned count, c
     is_wait_in(RAZHIKUM_SLOTS, a, which, slot, count, list);
 }
 
+static void is_text_refused(size_t room, unsigned number, unsigned line) {
+    memset(served, 99, sizeof served);
+    razhikum_page w = razhikum_rewrite(tree.text, tree.bytes, served, room);
+    same("bytes of a refused text", w.bytes, 0);
+    same("number of a refused text", w.number, number);
+    same("line of a refused text", w.line, line);
+    for (size_t i = 0; i < sizeof served; i++) {
+        same("a byte of a refused text's buffer", served[i], 99);
+    }
+}
+
+/* The tree is written back as `written` into a buffer of that length, and the bytes past it are as they were. */
+static void is_text_in(size_t room) {
+    memset(served, 99, sizeof served);
+    razhikum_page w = razhikum_rewrite(tree.text, tree.bytes, served, room);
+    same("number of a text", w.number, RAZHIKUM_ACCEPTED);
+    same("line of a text", w.line, 0);
+    same("bytes of a text", w.bytes, written.bytes);
+    for (size_t i = 0; i < written.bytes; i++) {
+        same("a byte of a text", served[i], written.text[i]);
+    }
+    for (size_t i = written.bytes; i < sizeof served; i++) {
+        same("a byte past a text", served[i], 99);
+    }
+}
+
+/* In buffers of its own length, of one byte more and of the greatest lengths; a byte less is too short. */
+static void is_text(void) {
+    is_text_in(written.bytes);
+    is_text_in(written.bytes + 1);
+    is_text_in(RAZHIKUM_TREE_TEXT);
+    is_text_in(RAZHIKUM_SLOTS);
+    is_text_refused(written.bytes - 1, RAZHIKUM_TOO_SHORT, 0);
+    is_text_refused(0, RAZHIKUM_TOO_SHORT, 0);
+    is_text_refused(RAZHIKUM_SLOTS + 1, RAZHIKUM_RANGE, 0);
+}
+
+/* The tree is written back as `written`, and so is the text itself. */
+static void is_written(void) {
+    is_text();
+    tree = written;
+    is_text();
+}
+
 static void is_trace(unsigned which, unsigned number, unsigned line) {
     razhikum_reading r = razhikum_read_trace(tree.text, tree.bytes, trace.text, trace.bytes);
     same("file", r.file, which);
@@ -212,6 +256,8 @@ static void tree_is_refused(unsigned number, unsigned line) {
     is_trace(RAZHIKUM_FILE_TREE, number, line);
     is_outcome(8, RAZHIKUM_TREE_REFUSED, number, line, 0);
     is_wait_refused(0, 1, 8, RAZHIKUM_TREE_REFUSED, number, line);
+    is_text_refused(0, number, line);
+    is_text_refused(RAZHIKUM_SLOTS + 1, number, line);
     is_row_refused(0, number, line);
     razhikum_counted count = razhikum_count(tree.text, tree.bytes);
     same("count's number", count.number, number);
@@ -329,6 +375,53 @@ static void returns(void) {
     is_row(0, 1, 2, 1, 1, 192, 1);
 }
 
+/* The tree with the longest text: every field is as long as it can be, all accelerators are on interconnects of two digits, and so
+ * are the interconnects that can be. */
+#define LONGEST                                                                                                       \
+    "bus 65535 255 255 255 255 4095 4095 255 255 256 15\nint 0 - - 16\nint 1 0 0 16\nint 2 0 1 16\nint 3 0 2 16\n"    \
+    "int 4 0 3 16\nint 5 0 4 16\nint 6 0 5 16\nint 7 0 6 16\nint 8 0 7 16\nint 9 1 0 16\nint 10 1 1 16\n"            \
+    "int 11 10 0 16\nint 12 10 1 16\nint 13 10 2 16\nint 14 10 3 16\n"
+
+/* Its acc lines by interconnect and port, or by number. */
+static void longest(file *into, bool by_place) {
+    char lines[4096] = LONGEST;
+    for (int line = 0; line < 32; line++) {
+        int place = by_place ? 4 + line : 35 - line;
+        size_t at = strlen(lines);
+        snprintf(lines + at, sizeof lines - at, "acc %d %d %d 16 1024 65535 65535 4294967295 4294967295\n", 35 - place,
+                 10 + place / 8, place % 8);
+    }
+    spaced(into, lines);
+}
+
+/* By interconnect, then by port, and not by number; an interconnect or an accelerator on port 7; a return delay of 0 goes. */
+#define INTS ROOT "int 1 0 7 16\nint 2 0 0 3\n"
+#define AT_0_1 "acc 4 0 1 4 2 1 0 0 100\n"
+#define AT_1_0 "acc 2 1 0 16 1024 65535 65535 4294967295 4294967295\n"
+#define AT_1_7 "acc 0 1 7 1 1 0 0 0 1\n"
+#define AT_2_3 "acc 1 2 3 4 2 10 5 1000 2000\n"
+#define AT_2_7 "acc 3 2 7 4 2 10 5 1000 2000\n"
+
+static void texts(const char *folder) {
+    spaced(&tree, DELAYED("0") INTS AT_1_7 AT_2_3 AT_1_0 AT_2_7 AT_0_1);
+    spaced(&written, BUS INTS AT_0_1 AT_1_0 AT_1_7 AT_2_3 AT_2_7);
+    is_written();
+    spaced(&tree, BUS INTS AT_2_7 AT_1_7 AT_2_3 AT_1_0 AT_0_1);
+    is_written();
+    spaced(&tree, DELAYED("15") INTS AT_1_7 AT_2_3 AT_1_0 AT_2_7 AT_0_1);
+    spaced(&written, DELAYED("15") INTS AT_0_1 AT_1_0 AT_1_7 AT_2_3 AT_2_7);
+    is_written();
+    longest(&tree, false);
+    longest(&written, true);
+    same("the most bytes of a text", written.bytes, RAZHIKUM_TREE_TEXT);
+    is_written();
+    load(&tree, folder, "layout.tree");
+    load(&written, folder, "layout.written");
+    is_written();
+    load(&tree, folder, "scanner30.tree");
+    is_written();
+}
+
 /* The figures are those of docs/MODEL.md, M54 to M63, worked out by hand. */
 static void examples(const char *folder) {
     spaced(&tree, BUS ROOT ACCS);
@@ -367,6 +460,7 @@ int main(int arguments, char **words) {
     traces();
     waits();
     returns();
+    texts(words[1]);
     refused_trees();
     printf("%lu values, no difference\n", compared);
     return 0;

@@ -128,6 +128,23 @@ pub fn random_tree(random: &mut Random, ints: u64, accs: u64) -> Lines {
 
 const U32: u64 = 4_294_967_295;
 
+/// Another file of the same tree: the acc lines of a sound file in any order, and a return delay of 0 written or left out.
+pub fn another_file(random: &mut Random, file: &[u8]) -> Vec<u8> {
+    let mut lines: Vec<&[u8]> = file.split_inclusive(|&b| b == b'\n').collect();
+    let first = lines.iter().position(|line| line.starts_with(b"acc")).expect("an acc line");
+    for at in (first..lines.len()).rev() {
+        lines.swap(at, first + random.below((at - first + 1) as u64) as usize);
+    }
+    let mut bus = lines[0].trim_ascii_end().to_vec();
+    let fields = bus.split(|&b| b == b'\t').count();
+    if fields == 11 && random.one_in(2) {
+        bus.extend_from_slice(b"\t0");
+    } else if bus.ends_with(b"\t0") && random.one_in(2) {
+        bus.truncate(bus.len() - 2);
+    }
+    [&bus, &b"\n"[..], &lines[1..].concat()].concat()
+}
+
 /// A sound trace of at most so many lines, with slots close together.
 pub fn random_trace(random: &mut Random, accelerators: u64, lines: u64) -> Lines {
     let mut slot = 0;
@@ -298,6 +315,22 @@ pub fn full_tree() -> Vec<u8> {
 pub fn delayed(tree: &[u8], delay: u64) -> Vec<u8> {
     let end = tree.iter().position(|&b| b == b'\n').expect("a bus line");
     [&tree[..end], format!("\t{delay}").as_bytes(), &tree[end..]].concat()
+}
+
+/// The tree with the longest text: each field is as long as it can be, all accelerators are on interconnects of two digits, and so are
+/// the interconnects that can be. Its acc lines are by number, and the places fall.
+pub fn longest_tree() -> Vec<u8> {
+    let mut lines = vec![fields("bus", &[65_535, 255, 255, 255, 255, 4_095, 4_095, 255, 255, 256, 15])];
+    lines.push(vec!["int".into(), "0".into(), "-".into(), "-".into(), "16".into()]);
+    let at_root = (0..8).map(|port| (0, port));
+    let parents = at_root.chain([(1, 0), (1, 1)]).chain((0..4).map(|port| (10, port)));
+    for (i, (parent, port)) in parents.enumerate() {
+        lines.push(fields("int", &[i as u64 + 1, parent, port, 16]));
+    }
+    for (a, place) in (0..32).zip((4..36).rev()) {
+        lines.push(fields("acc", &[a, 10 + place / 8, place % 8, 16, 1_024, 65_535, 65_535, U32, U32]));
+    }
+    text(&lines)
 }
 
 /// Two levels and 5 interconnects, with so many accelerators on the lower level.

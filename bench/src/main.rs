@@ -1,6 +1,8 @@
 //! Times library and peer side by side, and how the times grow.
-use razhikum::PAGE;
-use razhikum_bench::inputs::{busy_trace, deep_tree, delayed, full_tree, middle_tree, small_tree, wide_tree};
+use razhikum::{PAGE, TREE_TEXT};
+use razhikum_bench::inputs::{
+    busy_trace, deep_tree, delayed, full_tree, longest_tree, middle_tree, small_tree, wide_tree,
+};
 use razhikum_bench::peer;
 use std::hint::black_box;
 use std::path::Path;
@@ -131,6 +133,23 @@ fn report_row(what: &str, tree: &[u8]) -> f64 {
     )
 }
 
+/// A tree written back. Both read the tree in the call.
+fn rewrite_row(what: &str, tree: &[u8]) -> f64 {
+    let (mut ours, mut theirs) = ([0; TREE_TEXT], [0; TREE_TEXT]);
+    let text = razhikum::rewrite(tree, &mut ours);
+    assert!(text.is_ok(), "{text:?}");
+    assert_eq!(text, peer::write::rewrite(tree, &mut theirs));
+    row(
+        what,
+        &mut || {
+            let _ = black_box(razhikum::rewrite(black_box(tree), &mut ours));
+        },
+        &mut || {
+            let _ = black_box(peer::write::rewrite(black_box(tree), &mut theirs));
+        },
+    )
+}
+
 /// A run of so many slots under a trace that keeps every accelerator busy. Both read the tree and the trace in the call.
 fn run_row(what: &str, tree: &[u8], slots: u32) -> f64 {
     let trace = busy_trace(tree, slots);
@@ -234,6 +253,15 @@ fn time_reading(small: &[u8], middle: &[u8], full: &[u8]) -> Vec<Target> {
     ]
 }
 
+fn time_texts(small: &[u8], middle: &[u8], full: &[u8]) -> Vec<Target> {
+    heading("a tree written back");
+    rewrite_row("small tree", small);
+    rewrite_row("middle tree", middle);
+    let of_full = rewrite_row("full tree", full);
+    rewrite_row("the longest text, 1,973 bytes", &longest_tree());
+    vec![("full tree, written back", of_full)]
+}
+
 fn time_runs(small: &[u8], middle: &[u8], full: &[u8]) -> Vec<Target> {
     heading("65,536 slots");
     let of_small = run_row("small tree: 1 interconnect, 2 accelerators", small, SLOTS);
@@ -285,12 +313,14 @@ fn main() {
     let (small, middle, full) = (small_tree(), middle_tree(), full_tree());
     println!("Processor time, median of {SAMPLES} samples each. A ratio above 1 says that the library takes longer.");
     let mut targets = time_reading(&small, &middle, &full);
+    targets.extend(time_texts(&small, &middle, &full));
     targets.extend(time_runs(&small, &middle, &full));
     targets.extend(time_waits(&small, &middle, &full));
     time_growth(&full);
 
     println!("\nprograms, from start to end by the wall clock");
     program_row("report", &[], Some("examples/full.tree"));
+    program_row("rewrite", &[], Some("examples/full.tree"));
     program_row("simulate", &["examples/full.tree", "examples/full.trace"], None);
 
     println!();

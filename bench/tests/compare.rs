@@ -1,17 +1,19 @@
-//! Compares the library with the peer on random and damaged files, and runs and waits also with the simple simulator. The seed
-//! is fixed. A difference prints the input and ends the test.
+//! Compares the library with the peer on random and damaged files, runs and waits also with the simple simulator, and texts with lines
+//! put in order. The seed is fixed. A difference prints the input and ends the test.
 mod common;
 
 use common::simple::{self, Making, Rule};
-use razhikum::{Ending, FileRefused, Wait, WaitRefused, LIMIT, OWN, PAGE};
-use razhikum_bench::inputs::{damage_bytes, damage_lines, random_trace, random_tree, text, Random};
+use common::written::{self, Writing};
+use razhikum::{Ending, FileRefused, Refused, Wait, WaitRefused, LIMIT, OWN, PAGE, TREE_TEXT};
+use razhikum_bench::inputs::{another_file, damage_bytes, damage_lines, random_trace, random_tree, text, Random};
 use razhikum_bench::peer;
-use razhikum_bench::peer::read::{read_trace, read_tree};
+use razhikum_bench::peer::read::{read_trace, read_tree, Interconnect, Port, Tree};
 use std::collections::BTreeMap;
 
 const TREES: usize = 1_000_000;
 const RUNS: usize = 300_000;
 const WAITS: usize = 100_000;
+const REWRITES: usize = 100_000;
 
 /// How many inputs got each answer.
 #[derive(Default)]
@@ -365,8 +367,155 @@ fn compare_waits() -> usize {
     WAITS
 }
 
+/// The length of a buffer for a text of so many bytes: about that of the text, about the limits, or any.
+fn text_room(random: &mut Random, bytes: usize) -> usize {
+    match random.below(10) {
+        0 => LIMIT - 1 + random.below(3) as usize,
+        1 => random.below(LIMIT as u64 + 1) as usize,
+        2 => TREE_TEXT - 1 + random.below(3) as usize,
+        3 => random.below(2) as usize,
+        4 => random.below(bytes as u64 + 40) as usize,
+        _ => (bytes + random.below(3) as usize).saturating_sub(1),
+    }
+}
+
+/// What the comparison of texts must meet in an accepted tree, and whether this one does.
+fn tree_kinds(file: &[u8], tree: &Tree, text: &[u8]) -> [(&'static str, bool); 12] {
+    let bus = |file: &[u8]| file.iter().position(|&b| b == b'\n').expect("a bus line");
+    let place = |a: usize| (tree.accelerators[a].interconnect, tree.accelerators[a].port);
+    let carries = |is: fn(&Port) -> bool| tree.interconnects.iter().any(|i| is(&i.ports[7]));
+    let is_bare = |i: &Interconnect| i.ports.iter().all(|port| *port == Port::Empty);
+    [
+        ("a file that is the text", file == text),
+        ("a return delay of 0 in the file", file[..bus(file)] != text[..bus(text)]),
+        ("a return delay of 15", tree.bus.delay == 15),
+        ("acc lines in another order", file[bus(file)..] != text[bus(text)..]),
+        ("an accelerator before one of a lower number", (1..tree.accelerators.len()).any(|a| place(a - 1) > place(a))),
+        ("an accelerator on port 7", carries(|port| matches!(port, Port::Acc(_)))),
+        ("an interconnect on port 7", carries(|port| matches!(port, Port::Int(_)))),
+        ("an interconnect without anything", tree.interconnects.iter().any(is_bare)),
+        ("15 interconnects", tree.interconnects.len() == 15),
+        ("32 accelerators", tree.accelerators.len() == 32),
+        ("a job without reads and writes", tree.accelerators.iter().any(|a| a.reads + a.writes == 0)),
+        ("a period of ten digits", tree.accelerators.iter().any(|a| a.period >= 1_000_000_000)),
+    ]
+}
+
+/// What it must meet in the length of a buffer; a text of no bytes is that of a refused tree.
+fn room_kinds(room: usize, text: usize) -> [(&'static str, bool); 9] {
+    let accepted = text > 0;
+    [
+        ("a buffer as long as the text", accepted && room == text),
+        ("a buffer a byte shorter than the text", accepted && room == text - 1),
+        ("a buffer a byte longer than the text", accepted && room == text + 1),
+        ("a buffer for the longest text", accepted && room == TREE_TEXT),
+        ("an empty buffer", accepted && room == 0),
+        ("a buffer of 65,536 bytes", accepted && room == LIMIT),
+        ("a buffer of 65,537 bytes", accepted && room == LIMIT + 1),
+        ("a refused tree, an empty buffer", !accepted && room == 0),
+        ("a refused tree, a buffer of 65,537 bytes", !accepted && room == LIMIT + 1),
+    ]
+}
+
+/// Ways to write a tree back that the comparison must find wrong.
+const WRONG_TEXTS: [Writing; 12] = [
+    Writing::AsRead,
+    Writing::ByNumber,
+    Writing::PortFirst,
+    Writing::ByDigits,
+    Writing::DelayWritten,
+    Writing::NoDelay,
+    Writing::WithoutPort7,
+    Writing::SizeBeforeTree,
+    Writing::AnySize,
+    Writing::RoomForMore,
+    Writing::CutShort,
+    Writing::Cleared,
+];
+
+/// The counts of a comparison of texts.
+#[derive(Default)]
+struct RewriteCounts {
+    answers: Counts,
+    kinds: BTreeMap<&'static str, usize>,
+    differing: [usize; WRONG_TEXTS.len()],
+}
+
+impl RewriteCounts {
+    fn add_kinds(&mut self, kinds: &[(&'static str, bool)]) {
+        for &(kind, met) in kinds {
+            *self.kinds.entry(kind).or_default() += usize::from(met);
+        }
+    }
+}
+
+/// The text is a file of the same tree, with the same report. It is written as it is, and so is another file of the tree.
+fn compare_again(file: &[u8], tree: &Tree, text: &[u8], random: &mut Random) {
+    let files = [file, text];
+    check("the tree read again", read_tree(text).as_ref(), Ok(tree), &files);
+    let report = |file: &[u8]| {
+        let mut page = Box::new([0; PAGE]);
+        razhikum::report(file, &mut page).map(<[u8]>::to_vec)
+    };
+    check("the report of the text", report(text), report(file), &files);
+    let another = another_file(random, file);
+    for other in [text, &another] {
+        let mut out = [0; TREE_TEXT];
+        check("the text of the same tree", razhikum::rewrite(other, &mut out), Ok(text), &[file, other]);
+    }
+}
+
+fn compare_rewrite(random: &mut Random, counts: &mut RewriteCounts) {
+    let file = if random.one_in(4) { tree_file(random) } else { text(&random_tree(random, 15, 32)) };
+    let tree = read_tree(&file);
+    let text = tree.as_ref().map_or(vec![], peer::write::tree_text);
+    let (room, filled) = (text_room(random, text.len()), random.below(256) as u8);
+    let written = |write: &mut dyn FnMut(&mut [u8]) -> Result<usize, Refused>| {
+        let mut out = vec![filled; room];
+        (write(&mut out), out)
+    };
+    let library = written(&mut |out| razhikum::rewrite(&file, out).map(<[u8]>::len));
+    let of_peer = written(&mut |out| peer::write::rewrite(&file, out).map(<[u8]>::len));
+    let what = format!("text in a buffer of {room} bytes");
+    check(&what, &library, &of_peer, &[&file]);
+    let read = tree.as_ref().map(|_| ()).map_err(|e| *e);
+    let simple = |writing| written(&mut |out| written::rewrite(&file, read, out, writing));
+    check(&what, &library, &simple(Writing::AsWritten), &[&file]);
+    for (count, writing) in counts.differing.iter_mut().zip(WRONG_TEXTS) {
+        *count += usize::from(simple(writing) != library);
+    }
+    counts.answers.add(match library.0 {
+        Ok(_) => "written".into(),
+        Err(r) if read.is_ok() => format!("buffer refused {}", r.cause.number()),
+        Err(r) => format!("tree refused {}", r.cause.number()),
+    });
+    counts.add_kinds(&room_kinds(room, text.len()));
+    if let Ok(tree) = tree {
+        counts.add_kinds(&tree_kinds(&file, &tree, &text));
+        compare_again(&file, &tree, &text, random);
+    }
+}
+
+fn compare_rewrites() -> usize {
+    let mut random = Random::new(4);
+    let mut counts = RewriteCounts::default();
+    for _ in 0..REWRITES {
+        compare_rewrite(&mut random, &mut counts);
+    }
+    counts.answers.print("trees written back: answer, text, every byte of the buffer, the text read again");
+    for (kind, count) in counts.kinds {
+        println!("  {kind}: {count}");
+        assert!(count > 0, "no input has {kind}");
+    }
+    for (writing, count) in WRONG_TEXTS.iter().zip(counts.differing) {
+        println!("  a text by {writing:?} would differ in {count} of them");
+        assert!(count > 0, "the comparison does not find {writing:?}");
+    }
+    REWRITES
+}
+
 fn main() {
-    let total = compare_trees() + compare_runs() + compare_waits();
+    let total = compare_trees() + compare_runs() + compare_waits() + compare_rewrites();
     assert!(total >= 1_000_000);
     println!("{total} inputs, no difference");
 }

@@ -1,5 +1,6 @@
 //! The edge files of crates/readcheck, whose answers the proved program is held to, read by the peer and by the library.
-use razhikum::{FileRefused, Refused};
+use razhikum::{FileRefused, Refused, TREE_TEXT};
+use razhikum_bench::peer;
 use razhikum_bench::peer::read::{read_trace, read_tree, Request, Tree};
 
 /// A trace is read on the tree of document 01's report, which is the first file.
@@ -42,6 +43,8 @@ fn edge_files() {
         let line = expected.next().expect("an answer for each file");
         let peer = if kind == "t" {
             assert_eq!(razhikum::read_tree(file), read_tree(file).map(|_| ()), "{name}");
+            let (mut out, mut other) = ([99; TREE_TEXT], [99; TREE_TEXT]);
+            assert_eq!(razhikum::rewrite(file, &mut out), peer::write::rewrite(file, &mut other), "{name}");
             answer(name, read_tree(file), of_tree)
         } else {
             let read = read_trace(2, file);

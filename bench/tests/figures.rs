@@ -1,5 +1,7 @@
-//! Figures of document 01 ("Figures to check by"), waits on them, return delays, and the limits on sizes, by library and peer alike.
-use razhikum::{Ending, FileRefused, Refused, Wait, WaitRefused, LIMIT, OWN, PAGE};
+//! Figures of document 01 ("Figures to check by"), waits on them, return delays, trees written back, and the limits on sizes, by library
+//! and peer alike.
+use razhikum::{Ending, FileRefused, Refused, Wait, WaitRefused, LIMIT, OWN, PAGE, TREE_TEXT};
+use razhikum_bench::inputs::longest_tree;
 use razhikum_bench::peer;
 
 const BUS: &str = "bus 16 1 4 2 2 30 25 1 1 16\nint 0 - - 1\n";
@@ -158,6 +160,64 @@ fn limits_of_the_return_delay() {
         let expected = if refused == 0 { Ok(()) } else { Err(Refused::by(refused, 1)) };
         assert_eq!(razhikum::read_tree(&tree), expected, "{delay:?}");
         assert_eq!(peer::read::read_tree(&tree).map(|_| ()), expected, "{delay:?}");
+    }
+}
+
+fn is_written_in(tree: &[u8], room: usize, expected: Result<&[u8], Refused>) {
+    let (mut out, mut other) = (vec![99; room], vec![99; room]);
+    assert_eq!(razhikum::rewrite(tree, &mut out), expected);
+    assert_eq!(peer::write::rewrite(tree, &mut other), expected);
+    let written = expected.map_or(0, <[u8]>::len);
+    assert!(out[written..].iter().all(|&b| b == 99));
+    assert_eq!(out, other);
+}
+
+/// By library and peer, in buffers of every length about that of the text and about the limit. The text is written as it is.
+fn is_written(tree: &[u8], text: &[u8]) {
+    for tree in [tree, text] {
+        for room in (0..text.len() + 3).chain([TREE_TEXT, LIMIT - 1, LIMIT, LIMIT + 1]) {
+            let expected = match room {
+                _ if room < text.len() => Err(Refused::by(13, 0)),
+                _ if room > LIMIT => Err(Refused::by(2, 0)),
+                _ => Ok(text),
+            };
+            is_written_in(tree, room, expected);
+        }
+    }
+}
+
+/// Interconnect before port, and neither the accelerator's number nor the order of the file.
+#[test]
+fn a_tree_written_back() {
+    let ints = "int 1 0 7 16\nint 2 0 0 3\n";
+    let [a, b, c, d] =
+        ["acc 0 1 7 1 1 0 0 0 1\n", "acc 1 2 3 4 8 1 1 0 1\n", "acc 2 1 0 4 8 1 1 0 1\n", "acc 3 0 1 4 8 1 1 0 1\n"];
+    let by_place = format!("{ints}{d}{c}{a}{b}");
+    for accs in [[a, b, c, d], [d, c, b, a], [b, a, d, c], [d, c, a, b]] {
+        let accs = format!("{ints}{}", accs.concat());
+        for (delay, kept) in [("", ""), (" 0", ""), (" 1", " 1"), (" 15", " 15")] {
+            is_written(&with_delay(delay, &accs), &with_delay(kept, &by_place));
+        }
+    }
+}
+
+/// No text is longer than `TREE_TEXT` bytes, and one has as many.
+#[test]
+fn the_longest_text() {
+    let tree = longest_tree();
+    let text = peer::write::tree_text(&peer::read::read_tree(&tree).expect("a sound tree"));
+    assert_eq!(text.len(), TREE_TEXT);
+    assert_ne!(text, tree);
+    is_written(&tree, &text);
+}
+
+/// A refused tree comes before the size of the buffer, and a buffer of any size stays as it was.
+#[test]
+fn refused_trees_are_not_written() {
+    let tree = file(&format!("{BUS}acc 0 0 0 17 8 1 1 0 1\n"));
+    for room in [0, 1, TREE_TEXT, LIMIT, LIMIT + 1] {
+        is_written_in(&tree, room, Err(Refused::by(2, 3)));
+        is_written_in(b"", room, Err(Refused::by(3, 1)));
     }
 }
 

@@ -28,6 +28,8 @@ pub enum Cause {
     Broken,
     /// 12: the number of a transaction is 0, or the run serves fewer of its accelerator.
     NotServed,
+    /// 13: the buffer is shorter than the text.
+    TooShort,
     /// A number that is none of these, so that every number has its cause. The archive of this version answers none.
     Other(u8),
 }
@@ -47,6 +49,7 @@ impl From<u8> for Cause {
             10 => Cause::LastSlot,
             11 => Cause::Broken,
             12 => Cause::NotServed,
+            13 => Cause::TooShort,
             other => Cause::Other(other),
         }
     }
@@ -68,6 +71,7 @@ impl Cause {
             Cause::LastSlot => 10,
             Cause::Broken => 11,
             Cause::NotServed => 12,
+            Cause::TooShort => 13,
             Cause::Other(other) => other,
         }
     }
@@ -88,6 +92,7 @@ impl fmt::Display for Cause {
             Cause::LastSlot => "the slot count at its end",
             Cause::Broken => "a configuration or a state that breaks its rules",
             Cause::NotServed => "the run serves no transaction of this number",
+            Cause::TooShort => "a buffer shorter than the text",
             Cause::Other(_) => "an unknown cause",
         })
     }

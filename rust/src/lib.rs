@@ -1,6 +1,6 @@
 //! The Razhikum planner for Rust: whether the blocks of a tree of interconnects meet their periods, which block is served in
-//! which slot, and why a burst waited. The work is done by the proved static library `librazhikum.a`, which `rt staticlib
-//! razhikum` writes for x86-64; this package wraps it: slices in, enums and structs out.
+//! which slot, and why a burst waited; and a tree written back. The work is done by the proved static library `librazhikum.a`,
+//! which `rt staticlib razhikum` writes for x86-64; this package wraps it: slices in, enums and structs out.
 //!
 //! No function of the library has a condition on the values that it is given, so every call is safe and answers every input,
 //! files of any bytes included. What C passes as a pointer and a length comes from a slice here. Files are those of
@@ -29,6 +29,9 @@
 //! assert_eq!((wait.slot, wait.count), (0, 2));
 //! assert_eq!(wait.pairs, [[0, razhikum::OWN], [1, 0]]);
 //!
+//! let mut text = [0; razhikum::TREE_TEXT];
+//! assert_eq!(razhikum::rewrite(tree, &mut text)?, tree);
+//!
 //! let refused = razhikum::bound(tree, 2).unwrap_err();
 //! assert_eq!(refused.cause, razhikum::Cause::Unknown);
 //! # Ok::<(), Box<dyn std::error::Error>>(())
@@ -42,13 +45,16 @@ mod raw;
 pub use answers::{Bound, Cause, Ending, FileRefused, Refused, Wait, WaitRefused};
 
 /// The version of this wrapper: 10,000 for each first figure, 100 for each second, 1 for each third.
-pub const VERSION: u32 = 10_200;
+pub const VERSION: u32 = 10_300;
 
 /// The size of the page that a report is put on, in bytes.
 pub const PAGE: usize = 65_536;
 
-/// The most bytes that a file, a run's buffer and a wait's buffer may have; a run has as many slots.
+/// The most bytes that a file and the buffer of a run, of a wait or of a tree's text may have; a run has as many slots.
 pub const LIMIT: usize = 65_536;
+
+/// The most bytes of a tree's text as [`rewrite`] writes it: a buffer of so many bytes is long enough for every tree.
+pub const TREE_TEXT: usize = 1_973;
 
 /// The byte of an idle slot.
 pub const IDLE: u8 = 255;
@@ -98,6 +104,18 @@ pub fn report<'a>(tree: &[u8], page: &'a mut [u8; PAGE]) -> Result<&'a [u8], Ref
     let r = unsafe { raw::razhikum_report(tree.as_ptr(), tree.len(), page.as_mut_ptr()) };
     refusal(r.number, r.line)?;
     Ok(&page[..r.bytes])
+}
+
+/// Writes the tree of a tree file back at the beginning of `out`, and gives that part of it: the bus line, without a return delay of
+/// 0, the int lines by number, and the acc lines by interconnect and then by port, whatever their order in the file. Read again it
+/// gives the same tree, and two files of one tree give the same bytes. The bytes past it keep their contents; on a refusal all do.
+///
+/// Refused as the tree is, then by [`Cause::Range`] where `out` is longer than [`LIMIT`], then by [`Cause::TooShort`] where it is
+/// shorter than the text.
+pub fn rewrite<'a>(tree: &[u8], out: &'a mut [u8]) -> Result<&'a [u8], Refused> {
+    let r = unsafe { raw::razhikum_rewrite(tree.as_ptr(), tree.len(), out.as_mut_ptr(), out.len()) };
+    refusal(r.number, r.line)?;
+    Ok(&out[..r.bytes])
 }
 
 /// Runs a trace on a tree and writes one byte a slot into `out`: the accelerator's number, or [`IDLE`]. The bytes past the slots

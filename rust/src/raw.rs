@@ -57,6 +57,7 @@ extern "C" {
     pub fn razhikum_read_trace(tree: *const u8, tree_bytes: usize, trace: *const u8, trace_bytes: usize) -> Reading;
     pub fn razhikum_count(tree: *const u8, tree_bytes: usize) -> Counted;
     pub fn razhikum_report(tree: *const u8, tree_bytes: usize, out: *mut u8) -> Page;
+    pub fn razhikum_rewrite(tree: *const u8, tree_bytes: usize, out: *mut u8, out_bytes: usize) -> Page;
     pub fn razhikum_run(
         tree: *const u8,
         tree_bytes: usize,

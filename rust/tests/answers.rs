@@ -1,7 +1,7 @@
 //! Each function on accepted and refused files, with figures worked out by hand from `docs/MODEL.md`.
 use razhikum::{
-    bound, count, read_trace, read_tree, report, run, why, Bound, Cause, Ending, FileRefused, Refused, Wait,
-    WaitRefused, IDLE, LIMIT, OWN, PAGE,
+    bound, count, read_trace, read_tree, report, rewrite, run, why, Bound, Cause, Ending, FileRefused, Refused, Wait,
+    WaitRefused, IDLE, LIMIT, OWN, PAGE, TREE_TEXT,
 };
 
 const SMALL: &str = "bus 8 1 4 2 2 30 25 1 1 16\nint 0 - - 1\nacc 0 0 0 4 2 10 5 1000 2000\nacc 1 0 3 4 2 1 0 0 100\n";
@@ -43,6 +43,52 @@ fn a_refused_report_leaves_the_page() {
     assert_eq!(report(b"", &mut page), Err(refused));
     assert!(page.iter().all(|&b| b == 99));
     assert_eq!((read_tree(b""), count(b""), bound(b"", 0)), (Err(refused), Err(refused), Err(refused)));
+}
+
+/// The tree is written back as `text`, in buffers of its own length and longer, and so is the text itself. A byte less is too short.
+fn is_written(tree: &[u8], text: &[u8]) {
+    for tree in [tree, text] {
+        for room in [text.len(), text.len() + 1, TREE_TEXT, LIMIT] {
+            let mut out = vec![99; room];
+            assert_eq!(rewrite(tree, &mut out), Ok(text));
+            assert!(out[text.len()..].iter().all(|&b| b == 99));
+        }
+        for (room, cause) in [(text.len() - 1, Cause::TooShort), (0, Cause::TooShort), (LIMIT + 1, Cause::Range)] {
+            let mut out = vec![99; room];
+            assert_eq!(rewrite(tree, &mut out), Err(Refused { cause, line: 0 }));
+            assert!(out.iter().all(|&b| b == 99));
+        }
+    }
+}
+
+/// By interconnect, then by port, and not by number; an interconnect or an accelerator on port 7; a return delay of 0 goes.
+#[test]
+fn trees_written_back() {
+    let tree = |delay, accs: [&str; 4]| {
+        let ints = "int 0 - - 1\nint 1 0 7 16\nint 2 0 0 3\n";
+        file(&format!("bus 8 1 4 2 2 30 25 1 1 16{delay}\n{ints}{}", accs.concat()))
+    };
+    let accs = [
+        "acc 0 1 7 1 1 0 0 0 1\n",
+        "acc 1 2 3 4 2 10 5 1000 2000\n",
+        "acc 2 1 0 16 1024 65535 65535 4294967295 4294967295\n",
+        "acc 3 0 1 4 2 1 0 0 100\n",
+    ];
+    let by_place = [accs[3], accs[2], accs[0], accs[1]];
+    is_written(&tree(" 0", accs), &tree("", by_place));
+    is_written(&tree("", [accs[1], accs[0], accs[3], accs[2]]), &tree("", by_place));
+    is_written(&tree(" 15", accs), &tree(" 15", by_place));
+    is_written(&example("layout.tree"), &example("layout.written"));
+    is_written(&example("scanner30.tree"), &example("layout.written"));
+}
+
+#[test]
+fn a_refused_tree_is_not_written() {
+    for room in [0, TREE_TEXT, LIMIT + 1] {
+        let mut out = vec![99; room];
+        assert_eq!(rewrite(b"", &mut out), Err(Refused { cause: Cause::Order, line: 1 }));
+        assert!(out.iter().all(|&b| b == 99));
+    }
 }
 
 #[test]
@@ -169,6 +215,8 @@ fn refusals_in_words() {
     assert_eq!(of_trace.to_string(), "trace refused by 2 at line 1: a value, a total or a size outside its limits");
     let of_wait = why(&file(SMALL), b"", 0, 1, &mut []).unwrap_err();
     assert_eq!(of_wait.to_string(), "refused by 12: the run serves no transaction of this number");
+    let of_text = rewrite(&file(SMALL), &mut []).unwrap_err();
+    assert_eq!(of_text.to_string(), "refused by 13: a buffer shorter than the text");
 }
 
 /// Threads that run different files at the same time get the answers that each file gets alone.
@@ -181,10 +229,13 @@ fn threads() {
     let answers = |(tree, trace): &(Vec<u8>, Vec<u8>)| {
         let mut page = Box::new([0; PAGE]);
         let mut out = vec![0; LIMIT];
+        let mut room = [0; TREE_TEXT];
+        let written = rewrite(tree, &mut room).expect("a text").to_vec();
         let text = report(tree, &mut page).expect("a report").to_vec();
         let mut list = vec![0; LIMIT];
         let waits = [1, 2].map(|number| why(tree, trace, 1, number, &mut list).map(|wait| (wait.count, wait.slot)));
-        (text, run(tree, trace, &mut out), out, waits, list, (0..=32).map(|a| bound(tree, a)).collect::<Vec<_>>())
+        let bounds: Vec<_> = (0..=32).map(|a| bound(tree, a)).collect();
+        (text, written, run(tree, trace, &mut out), out, waits, list, bounds)
     };
     let alone = files.each_ref().map(answers);
     std::thread::scope(|scope| {

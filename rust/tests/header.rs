@@ -1,5 +1,5 @@
 //! The header `include/razhikum.h`, the archive and this wrapper say the same.
-use razhikum::{Cause, IDLE, LIMIT, OWN, PAGE, VERSION};
+use razhikum::{Cause, IDLE, LIMIT, OWN, PAGE, TREE_TEXT, VERSION};
 use std::process::Command;
 
 const HEADER: &str = include_str!("../../include/razhikum.h");
@@ -30,6 +30,7 @@ fn sizes() {
     assert_eq!(of_header("RAZHIKUM_PAGE"), PAGE as u64);
     assert_eq!(of_header("RAZHIKUM_LIMIT"), LIMIT as u64);
     assert_eq!(of_header("RAZHIKUM_SLOTS"), LIMIT as u64);
+    assert_eq!(of_header("RAZHIKUM_TREE_TEXT"), TREE_TEXT as u64);
     assert_eq!(of_header("RAZHIKUM_IDLE"), u64::from(IDLE));
     assert_eq!(of_header("RAZHIKUM_OWN"), u64::from(OWN));
 }
@@ -49,6 +50,7 @@ fn causes() {
         ("RAZHIKUM_LAST_SLOT", Cause::LastSlot),
         ("RAZHIKUM_BROKEN", Cause::Broken),
         ("RAZHIKUM_NOT_SERVED", Cause::NotServed),
+        ("RAZHIKUM_TOO_SHORT", Cause::TooShort),
     ];
     for (number, (name, cause)) in (1..).zip(named) {
         assert_eq!(of_header(name), u64::from(number));

@@ -1,4 +1,4 @@
-//! An independent implementation of document 01, and of document 02's items 1 and 2, in plain Rust. It shares no code with the
+//! An independent implementation of document 01, and of document 02's items 1, 2 and 4, in plain Rust. It shares no code with the
 //! library, and is as fast as plain Rust makes it, so that a ratio of times says something.
 pub mod bounds;
 pub mod machine;
@@ -6,3 +6,4 @@ pub mod read;
 pub mod report;
 pub mod run;
 pub mod why;
+pub mod write;

@@ -1,7 +1,7 @@
 //! The readers of tree and trace files ("The tree on paper", "What is refused"; document 02, item 2, for the return delay).
 use razhikum::{Refused, LIMIT};
 
-#[derive(Clone, Copy, Debug, Default)]
+#[derive(Clone, Copy, Debug, Default, PartialEq, Eq)]
 pub struct Bus {
     pub window: u32,
     pub ta: u64,
@@ -26,7 +26,7 @@ pub enum Port {
 }
 
 /// An interconnect. The root's own parent and port are 0 and mean nothing.
-#[derive(Clone, Copy, Debug, Default)]
+#[derive(Clone, Copy, Debug, Default, PartialEq, Eq)]
 pub struct Interconnect {
     pub parent: u8,
     pub port: u8,
@@ -35,7 +35,7 @@ pub struct Interconnect {
     pub ports: [Port; 8],
 }
 
-#[derive(Clone, Copy, Debug, Default)]
+#[derive(Clone, Copy, Debug, Default, PartialEq, Eq)]
 pub struct Accelerator {
     pub interconnect: u8,
     pub port: u8,
@@ -47,7 +47,7 @@ pub struct Accelerator {
     pub period: u64,
 }
 
-#[derive(Clone, Debug, Default)]
+#[derive(Clone, Debug, Default, PartialEq, Eq)]
 pub struct Tree {
     pub bus: Bus,
     pub interconnects: Vec<Interconnect>,

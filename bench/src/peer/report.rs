@@ -3,7 +3,7 @@ use crate::peer::bounds::bounds;
 use crate::peer::read::read_tree;
 use razhikum::Refused;
 
-fn put_number(out: &mut Vec<u8>, mut n: u64) {
+pub fn put_number(out: &mut Vec<u8>, mut n: u64) {
     let mut digits = [0; 20];
     let mut at = digits.len();
     loop {
