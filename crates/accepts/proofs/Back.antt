@@ -22,7 +22,7 @@ use Rattle.model.specs.declared.Port.the-variants.{Empty, Acc}
 use Rattle.model.specs.declared.Refusal.{Refusal}
 use Rattle.model.specs.declared.Refusal.the-variants.{Order, Shape, Limit, Taken, Level}
 use Rattle.folds.specs.Fold.{pick, all}
-use Rattle.model.specs.Tree.{noAccelerator, acceleratorOf, portOf, granularityOf, parentOf, parentPortOf, limitOf, levelOf}
+use Rattle.model.specs.Tree.{noAccelerator, acceleratorOf, portOf, granularityOf, parentOf, parentPortOf, phiOf, levelOf}
 use Rattle.rules.specs.Rules.{isEmpty, busKeeps, treeKeeps}
 use Rattle.rules.proofs.Sound.{sound}
 use Rattle.rules.proofs.Beneath.{only, only-same, only-other}
@@ -204,7 +204,7 @@ record Keeps (u t : Tree) : Type 0 where
   parent : (j : ℕ) → j < u .ints → parentOf t j ≡ parentOf u j
   parent-port : (j : ℕ) → j < u .ints → parentPortOf t j ≡ parentPortOf u j
   granularity : (j : ℕ) → j < u .ints → granularityOf t j ≡ granularityOf u j
-  acc : (a : ℕ) → 0 < limitOf u a → acceleratorOf t a ≡ acceleratorOf u a
+  acc : (a : ℕ) → 0 < phiOf u a → acceleratorOf t a ≡ acceleratorOf u a
 
 keeps-same : (t : Tree) → Keeps t t
 keeps-same t =
@@ -278,7 +278,7 @@ keeps-step {u} P (acc-stands v e k o f q) =
       parent = λ j h. stored-parent u home port (Acc (getD v 0 0)) size j;
       parent-port = λ j h. stored-parent-port u home port (Acc (getD v 0 0)) size j;
       granularity = λ j h. stored-granularity u home port (Acc (getD v 0 0)) size j;
-      acc = λ a h. acc-old u v P e k o f a (λ x. let y = ap (limitOf u) x in omega arith);
+      acc = λ a h. acc-old u v P e k o f a (λ x. let y = ap (phiOf u) x in omega arith);
     }
 
 -- the bus line, where it is still to come
@@ -296,8 +296,8 @@ record Rest (u t : Tree) (ls : List (List ℕ)) : Type 0 where
   bus : List ℕ
   writes-bus : u .bus .window ≡ 0 → WritesBus (t .bus) bus
   order : List ℕ
-  read : (a : ℕ) → 0 < limitOf u a → times a order ≡ 0
-  left : (a : ℕ) → limitOf u a ≡ 0 → times a order ≡ pick (ltb 0 (limitOf t a)) 1 0
+  read : (a : ℕ) → 0 < phiOf u a → times a order ≡ 0
+  left : (a : ℕ) → phiOf u a ≡ 0 → times a order ≡ pick (ltb 0 (phiOf t a)) 1 0
   text : ls ≡ busPart u bus ++ (rows (t .ints - u .ints) (u .ints) (intText t) ++ map (accText t) order)
 
 rows-next : (n k : ℕ) (f : ℕ → List ℕ) → k + 1 ≤ n → rows (n - k) k f ≡ f k ∷ rows (n - (k + 1)) (k + 1) f
@@ -328,7 +328,7 @@ int-rest u w t l ls h b i a K q R =
     let M = map (accText t) (R .order) in
     let left : ℕ → List (List ℕ) = λ k. rows (t .ints - k) k (intText t) ++ M in
     let read : 0 < w .bus .window = subst (λ (c : Bus). 0 < c .window) (sym b) h in
-    let same : (x : ℕ) → limitOf w x ≡ limitOf u x = λ x. ap (λ (y : List Accelerator). getD y x noAccelerator .phi) a in
+    let same : (x : ℕ) → phiOf w x ≡ phiOf u x = λ x. ap (λ (y : List Accelerator). getD y x noAccelerator .phi) a in
     record {
       part = R .part;
       keeps = keeps-on u w t K (R .keeps);
@@ -344,7 +344,7 @@ int-rest u w t l ls h b i a K q R =
 
 -- a number counts once in a list that begins with it
 module _ (u t : Tree) (v : List ℕ) (l : List ℕ) (ls : List (List ℕ)) (P : Partial u) (e : limitsKept AccLine v ≡ true)
-    (k : getD v 1 0 < u .ints) (o : limitOf u (getD v 0 0) ≡ 0) (f : portOf u (getD v 1 0) (getD v 2 0) ≡ Empty)
+    (k : getD v 1 0 < u .ints) (o : phiOf u (getD v 0 0) ≡ 0) (f : portOf u (getD v 1 0) (getD v 2 0) ≡ Empty)
     (q : l ≡ accWritten (getD v 0 0) (accOf v)) (h : 0 < u .bus .window) (K : Keeps u (withAcc u v)) (R : Rest (withAcc u v) t ls) where
   abbrev a : ℕ
   a = getD v 0 0
@@ -355,30 +355,30 @@ module _ (u t : Tree) (v : List ℕ) (l : List ℕ) (ls : List (List ℕ)) (P : 
   some-limit : 0 < accOf v .phi
   some-limit = least AccLine v e 3 (lit< tt)
 
-  here : 0 < limitOf (withAcc u v) a
+  here : 0 < phiOf (withAcc u v) a
   here = omega (arith, ap (λ (x : Accelerator). x .phi) new, some-limit)
 
   kept : acceleratorOf t a ≡ accOf v
   kept = R .keeps .acc a here ∙ new
 
-  counted : pick {A = ℕ} (ltb 0 (limitOf t a)) 1 0 ≡ 1
-  counted = picked _ _ _ (lt-ltb 0 (limitOf t a) (omega (arith, ap (λ (y : Accelerator). y .phi) kept, some-limit)))
+  counted : pick {A = ℕ} (ltb 0 (phiOf t a)) 1 0 ≡ 1
+  counted = picked _ _ _ (lt-ltb 0 (phiOf t a) (omega (arith, ap (λ (y : Accelerator). y .phi) kept, some-limit)))
 
-  other : (x : ℕ) → (x ≡ a → ⊥) → limitOf (withAcc u v) x ≡ limitOf u x
+  other : (x : ℕ) → (x ≡ a → ⊥) → phiOf (withAcc u v) x ≡ phiOf u x
   other x d = ap (λ (y : Accelerator). y .phi) (acc-old u v P e k o f x d)
 
-  acc-left : (x : ℕ) → limitOf u x ≡ 0 → times x (a ∷ R .order) ≡ pick (ltb 0 (limitOf t x)) 1 0
+  acc-left : (x : ℕ) → phiOf u x ≡ 0 → times x (a ∷ R .order) ≡ pick (ltb 0 (phiOf t x)) 1 0
   unfolding times
   acc-left x z = elim (ℕ-discrete x a) [
-    | yes w ↦ subst (λ (y : ℕ). only y a + times y (R .order) ≡ pick (ltb 0 (limitOf t y)) 1 0) (sym w)
+    | yes w ↦ subst (λ (y : ℕ). only y a + times y (R .order) ≡ pick (ltb 0 (phiOf t y)) 1 0) (sym w)
         (omega (arith, only-same a a refl, R .read a here, counted))
     | no d ↦ omega (arith, only-other x a d, R .left x (other x d ∙ z))
   ]
 
-  acc-read : (x : ℕ) → 0 < limitOf u x → times x (a ∷ R .order) ≡ 0
+  acc-read : (x : ℕ) → 0 < phiOf u x → times x (a ∷ R .order) ≡ 0
   unfolding times
   acc-read x y =
-      let d : x ≡ a → ⊥ = λ w. (let c = ap (limitOf u) w in omega arith) in
+      let d : x ≡ a → ⊥ = λ w. (let c = ap (phiOf u) w in omega arith) in
       omega (arith, only-other x a d, R .read x (omega (arith, other x d)))
 
   acc-rest : Rest u t (l ∷ ls)
@@ -433,7 +433,7 @@ rest-end n u r t P e =
     let a = passed-end (eqb (length r) 0) Shape n (pick (complete u) (given u) (refusedAt Order n)) e in
     let b = passed-end (complete u) Order n (given u) (a .1) in
     let q = given-same u t (b .1) in
-    let c = both _ (ltb 0 (u .accs)) (both _ (all (u .accs) (λ x. ltb 0 (limitOf u x))) (b .0) .0) in
+    let c = both _ (ltb 0 (u .accs)) (both _ (all (u .accs) (λ x. ltb 0 (phiOf u x))) (b .0) .0) in
     let w : 0 < u .bus .window = ltb-true _ _ (both (ltb 0 (u .bus .window)) (ltb 0 (u .ints)) (c .0) .0) in
     let z : u .ints - u .ints ≡ 0 = omega arith in (
       nothing r (eqb-true _ _ (a .0)),
@@ -445,7 +445,7 @@ rest-end n u r t P e =
             writes-bus = λ h. absurd (omega arith);
             order = [];
             read = λ x h. refl;
-            left = λ x h. sym (passed _ _ _ (le-ltb 0 (limitOf u x) (omega arith)));
+            left = λ x h. sym (passed _ _ _ (le-ltb 0 (phiOf u x) (omega arith)));
             text = sym (bus-over u [] _ w ∙ ap (λ (c : ℕ). rows c (u .ints) (intText u) ++ []) z);
           }),
     )
@@ -474,12 +474,12 @@ rest (l ∷ ls) n u r t P B e =
     (i .0, rest-step t ls P B (S .2) (i .1))
 
 -- the accelerators of a configuration that keeps its rules are those with a limit
-limit-below : (t : Tree) → treeKeeps t ≡ true → Partial t → (a : ℕ) → ltb 0 (limitOf t a) ≡ ltb a (t .accs)
+limit-below : (t : Tree) → treeKeeps t ≡ true → Partial t → (a : ℕ) → ltb 0 (phiOf t a) ≡ ltb a (t .accs)
 limit-below t k P a = elim (decLt a (t .accs)) [
-  | yes h ↦ lt-ltb 0 (limitOf t a) (sound t k .limit a h .0) ∙ sym (lt-ltb a (t .accs) h)
+  | yes h ↦ lt-ltb 0 (phiOf t a) (sound t k .phi a h .0) ∙ sym (lt-ltb a (t .accs) h)
   | no h ↦
       let z = ap (λ (x : Accelerator). x .phi) (P .unused-acc a (omega arith)) in
-      le-ltb 0 (limitOf t a) (omega arith) ∙ sym (le-ltb a (t .accs) (omega arith))
+      le-ltb 0 (phiOf t a) (omega arith) ∙ sym (le-ltb a (t .accs) (omega arith))
 ]
 
 small : (s : List ℕ) (t : Tree) → readTree s ≡ given t → length s ≤ 65536
@@ -496,7 +496,7 @@ read-written s t e =
     let P = R .part in
     let k = subst (λ (r : TreeRead). treeKeeps (r .tree) ≡ true) e (accepted-keeps s (ap (λ (r : TreeRead). r .answer) e)) in
     let z : t .ints - 0 ≡ t .ints = omega arith in
-    let none : (a : ℕ) → limitOf emptyTree a ≡ 0 = λ a. ap (λ (x : Accelerator). x .phi) (partial-empty .unused-acc a (omega arith)) in (
+    let none : (a : ℕ) → phiOf emptyTree a ≡ 0 = λ a. ap (λ (x : Accelerator). x .phi) (partial-empty .unused-acc a (omega arith)) in (
       k,
       record {
         bus = R .bus;

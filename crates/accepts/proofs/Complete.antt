@@ -13,7 +13,7 @@ use borrow.Author.Tests.{lt-ltb, eq-eqb, ne-eqb}
 use Rattle.text.specs.Write.{fieldsText, lineText, fileText, numbers, rows}
 use Rattle.text.proofs.Written.{Clean, clean-append, fields-clean, AllClean, all-none, all-more, lines-read, number-length}
 use Rattle.model.specs.declared.Tree.{Tree}
-use Rattle.model.specs.Tree.{granularityOf, parentOf, parentPortOf, acceleratorOf, limitOf}
+use Rattle.model.specs.Tree.{granularityOf, parentOf, parentPortOf, acceleratorOf, phiOf}
 use Rattle.rules.specs.Rules.{treeKeeps}
 use Rattle.folds.proofs.Folds.{picked, passed, joined, at-all}
 use Rattle.rules.proofs.Sound.{Sound, sound}
@@ -171,7 +171,7 @@ module _ (t : Tree) (e : treeKeeps t ≡ true) where
   whole =
       joined _ _
       (joined _ _ (joined _ _ (lt-ltb 0 (t .bus .window) (S .window)) (lt-ltb 0 (t .ints) (S .some-ints))) (lt-ltb 0 (t .accs) (S .some-accs)))
-      (at-all (t .accs) (λ a. ltb 0 (limitOf t a)) (λ a l. lt-ltb 0 (limitOf t a) (S .limit a l .0)))
+      (at-all (t .accs) (λ a. ltb 0 (phiOf t a)) (λ a l. lt-ltb 0 (phiOf t a) (S .phi a l .0)))
 
   end-read : (n : ℕ) → readLines n t [] [] ≡ given t
   unfolding readLines finish

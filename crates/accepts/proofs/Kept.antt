@@ -22,7 +22,7 @@ use Rattle.model.specs.declared.Refusal.{Refusal}
 use Rattle.model.specs.declared.Refusal.the-variants.{Order, Shape, Limit}
 use Rattle.folds.specs.Fold.{pick, all}
 use Rattle.model.specs.Tree.{emptyCell, noInterconnect, noAccelerator, interconnectOf, granularityOf, parentOf, parentPortOf, above, levelOf}
-use Rattle.model.specs.Tree.{acceleratorOf, portOf, homeOf, homePortOf, limitOf, budgetOf}
+use Rattle.model.specs.Tree.{acceleratorOf, portOf, homeOf, homePortOf, phiOf, budgetOf}
 use Rattle.rules.specs.Rules.{busKeeps, isEmpty, isAcc, isInt, carries, rootPlaced, childPlaced, isPlaced, treeKeeps}
 use Rattle.rules.specs.Rules.{usedInterconnect, unusedInterconnect, interconnectKeeps, usedAccelerator, unusedAccelerator, acceleratorKeeps}
 use Rattle.folds.proofs.Folds.{picked, passed, tests, both, all-at, clash}
@@ -45,7 +45,7 @@ pub record Used (t : Tree) (a : ℕ) : Type 0 where
   pub home : homeOf t a < t .ints
   pub home-port : homePortOf t a < 8
   pub home-carries : portOf t (homeOf t a) (homePortOf t a) ≡ Acc a
-  pub phi : limitOf t a ≤ 16
+  pub phi : phiOf t a ≤ 16
   pub budget : (1 ≤ budgetOf t a) × (budgetOf t a ≤ 1024)
   pub reads : acceleratorOf t a .reads ≤ 65535
   pub writes : acceleratorOf t a .writes ≤ 65535
@@ -67,9 +67,9 @@ pub record Partial (t : Tree) : Type 0 where
   pub parent-carries : (k : ℕ) → 0 < k → k < t .ints → portOf t (parentOf t k) (parentPortOf t k) ≡ Int k
   pub unused-int : (j : ℕ) → t .ints ≤ j → interconnectOf t j ≡ noInterconnect
   pub unused-acc : (a : ℕ) → t .accs ≤ a → acceleratorOf t a ≡ noAccelerator
-  pub gap : (a : ℕ) → limitOf t a ≡ 0 → acceleratorOf t a ≡ noAccelerator
-  pub used : (a : ℕ) → 0 < limitOf t a → Used t a
-  pub acc-place : (j p a : ℕ) → portOf t j p ≡ Acc a → (0 < limitOf t a) × (homeOf t a ≡ j) × (homePortOf t a ≡ p)
+  pub gap : (a : ℕ) → phiOf t a ≡ 0 → acceleratorOf t a ≡ noAccelerator
+  pub used : (a : ℕ) → 0 < phiOf t a → Used t a
+  pub acc-place : (j p a : ℕ) → portOf t j p ≡ Acc a → (0 < phiOf t a) × (homeOf t a ≡ j) × (homePortOf t a ≡ p)
   pub int-place : (j p k : ℕ) → portOf t j p ≡ Int k → (0 < k) × (k < t .ints) × (parentOf t k ≡ j) × (parentPortOf t k ≡ p)
 
 -- a list of one value has that value everywhere, where the default is it too
@@ -207,7 +207,7 @@ no-port : (j p : ℕ) → portOf emptyTree j p ≡ Empty
 no-port j p = blank-port emptyTree j p (same-everywhere 15 j noInterconnect)
 
 -- an accelerator whose record is blank has no limit
-no-limit : (t : Tree) (a : ℕ) → acceleratorOf t a ≡ noAccelerator → 0 < limitOf t a → ⊥
+no-limit : (t : Tree) (a : ℕ) → acceleratorOf t a ≡ noAccelerator → 0 < phiOf t a → ⊥
 no-limit t a e h = omega (arith, ap (λ (x : Accelerator). x .phi) e)
 
 pub partial-empty : Partial emptyTree
@@ -381,7 +381,7 @@ module _ (t : Tree) (j parent port g : ℕ) (P : Partial t) (next : j ≡ t .int
       let o = P .int-place k q m (sym f ∙ e) in
       (o .0, omega (arith, o .1), child-parent m (omega (arith, o .1)) ∙ o .2, child-parent-port m (omega (arith, o .1)) ∙ o .3)
 
-  child-acc-place : (k q a : ℕ) → portOf child k q ≡ Acc a → PortOf k q → (0 < limitOf t a) × (homeOf t a ≡ k) × (homePortOf t a ≡ q)
+  child-acc-place : (k q a : ℕ) → portOf child k q ≡ Acc a → PortOf k q → (0 < phiOf t a) × (homeOf t a ≡ k) × (homePortOf t a ≡ q)
   child-acc-place k q a e (of-new f) = absurd (not-acc _ a f e)
   child-acc-place k q a e (of-parent f h i) = absurd (acc-not-int _ j a i e)
   child-acc-place k q a e (of-old f) = P .acc-place k q a (sym f ∙ e)
@@ -436,7 +436,7 @@ module _ (t : Tree) (j parent port g : ℕ) (P : Partial t) (next : j ≡ t .int
 
 -- an accelerator is stored in its port and as its record
 module _ (t : Tree) (v : List ℕ) (P : Partial t) (e : limitsKept AccLine v ≡ true) (known : getD v 1 0 < t .ints)
-    (once : limitOf t (getD v 0 0) ≡ 0) (free : portOf t (getD v 1 0) (getD v 2 0) ≡ Empty) where
+    (once : phiOf t (getD v 0 0) ≡ 0) (free : portOf t (getD v 1 0) (getD v 2 0) ≡ Empty) where
   abbrev number : ℕ
   number = getD v 0 0
 
@@ -477,10 +477,10 @@ module _ (t : Tree) (v : List ℕ) (P : Partial t) (e : limitsKept AccLine v ≡
   acc-port = each-port AccPort home port (of-acc refl refl acc-at) (λ j p d. of-rest (stored-apart t home port (Acc number) home-size j p d))
 
   -- the record of an accelerator that was read before
-  other : (b : ℕ) → 0 < limitOf t b → acceleratorOf (withAcc t v) b ≡ acceleratorOf t b
-  other b h = acc-old b (λ q. let z = ap (limitOf t) q in omega (arith, once))
+  other : (b : ℕ) → 0 < phiOf t b → acceleratorOf (withAcc t v) b ≡ acceleratorOf t b
+  other b h = acc-old b (λ q. let z = ap (phiOf t) q in omega (arith, once))
 
-  new-limit : 0 < limitOf grown number
+  new-limit : 0 < phiOf grown number
   new-limit = omega (arith, ap (λ (x : Accelerator). x .phi) acc-new, least AccLine v e 3 (lit< tt))
 
   new-home : homeOf grown number ≡ home
@@ -490,9 +490,9 @@ module _ (t : Tree) (v : List ℕ) (P : Partial t) (e : limitsKept AccLine v ≡
   new-home-port = ap (λ (x : Accelerator). x .port) acc-new
 
   acc-acc-place : (j p b : ℕ) → portOf grown j p ≡ Acc b → AccPort j p
-      → (0 < limitOf grown b) × (homeOf grown b ≡ j) × (homePortOf grown b ≡ p)
+      → (0 < phiOf grown b) × (homeOf grown b ≡ j) × (homePortOf grown b ≡ p)
   acc-acc-place j p b f (of-acc i q g) =
-      subst (λ (n : ℕ). (0 < limitOf grown n) × (homeOf grown n ≡ j) × (homePortOf grown n ≡ p)) (sym (same-acc _ number b g f))
+      subst (λ (n : ℕ). (0 < phiOf grown n) × (homeOf grown n ≡ j) × (homePortOf grown n ≡ p)) (sym (same-acc _ number b g f))
       (new-limit, new-home ∙ sym i, new-home-port ∙ sym q)
   acc-acc-place j p b f (of-rest g) =
       let o = P .acc-place j p b (sym g ∙ f) in
@@ -527,7 +527,7 @@ module _ (t : Tree) (v : List ℕ) (P : Partial t) (e : limitsKept AccLine v ≡
       }
 
   -- a tree whose record of b is the same, with b's port still carrying it, uses b as before
-  used-old : (b : ℕ) → Used t b → 0 < limitOf t b → Used (withAcc t v) b
+  used-old : (b : ℕ) → Used t b → 0 < phiOf t b → Used (withAcc t v) b
   used-old b U h =
       let r = other b h in
       record {
@@ -564,12 +564,12 @@ module _ (t : Tree) (v : List ℕ) (P : Partial t) (e : limitsKept AccLine v ≡
         unused-int = λ j l. stored-other t home port (Acc number) home-size j (omega arith) ∙ P .unused-int j l;
         unused-acc = λ b l. acc-old b (omega arith) ∙ P .unused-acc b (omega arith);
         gap = λ b z. elim (ℕ-discrete b number) [
-          | yes q ↦ absurd (let y = ap (limitOf grown) q in omega (arith, new-limit))
+          | yes q ↦ absurd (let y = ap (phiOf grown) q in omega (arith, new-limit))
           | no d ↦ acc-old b d ∙ P .gap b (sym (ap (λ (x : Accelerator). x .phi) (acc-old b d)) ∙ z)
         ];
         used = λ b h. elim (ℕ-discrete b number) [
           | yes q ↦ subst (Used grown) (sym q) used-new
-          | no d ↦ let k : 0 < limitOf t b = omega (arith, ap (λ (x : Accelerator). x .phi) (acc-old b d)) in used-old b (P .used b k) k
+          | no d ↦ let k : 0 < phiOf t b = omega (arith, ap (λ (x : Accelerator). x .phi) (acc-old b d)) in used-old b (P .used b k) k
         ];
         acc-place = λ j p b f. acc-acc-place j p b f (acc-port j p);
         int-place = λ j p k f. acc-int-place j p k f (acc-port j p);
@@ -639,9 +639,9 @@ fine-acc : (n : ℕ) (t : Tree) (v : List ℕ) → Partial t → limitsKept AccL
 unfolding accLine
 fine-acc n t v P e =
     fine-pick (leb (t .ints) (getD v 1 0)) _ n _ λ h.
-    fine-pick (ltb 0 (limitOf t (getD v 0 0))) _ n _ λ k.
+    fine-pick (ltb 0 (phiOf t (getD v 0 0))) _ n _ λ k.
     fine-pick (not (isEmpty (portOf t (getD v 1 0) (getD v 2 0)))) _ n _ λ p f.
-    partial-acc t v P e (leb-false _ _ h) (let z = ltb-false 0 (limitOf t (getD v 0 0)) k in omega arith) (is-empty _ (not-false _ p))
+    partial-acc t v P e (leb-false _ _ h) (let z = ltb-false 0 (phiOf t (getD v 0 0)) k in omega arith) (is-empty _ (not-false _ p))
 
 fine-record : (n : ℕ) (t : Tree) (l : Line) → Partial t → (k : Kind) → limitsKept k (l .values) ≡ true → Fine (recordLine k n t l)
 fine-record n t l P NoRecord e f = never-refused _ _ n f
@@ -666,7 +666,7 @@ module _ (t : Tree) (P : Partial t) where
       let o = P .acc-place j p a e in
       simp tests ((below a (o .0), o .1), o .2)
     where
-      below : (a : ℕ) → 0 < limitOf t a → a < t .accs
+      below : (a : ℕ) → 0 < phiOf t a → a < t .accs
       below a h = elim (decLt a (t .accs)) [ yes l ↦ l | no d ↦ absurd (no-limit t a (P .unused-acc a (omega arith)) h) ]
   port-kept j p (Int k) e =
       let o = P .int-place j p k e in
@@ -703,7 +703,7 @@ module _ (t : Tree) (P : Partial t) where
     | no d ↦ passed _ _ _ (le-ltb j (t .ints) (omega arith)) ∙ unused-int-kept j (omega arith)
   ]
 
-  used-acc-kept : (a : ℕ) → 0 < limitOf t a → usedAccelerator t a ≡ true
+  used-acc-kept : (a : ℕ) → 0 < phiOf t a → usedAccelerator t a ≡ true
   unfolding usedAccelerator
   used-acc-kept a h =
       let U = P .used a h in
@@ -717,7 +717,7 @@ module _ (t : Tree) (P : Partial t) where
       eqb (x .interconnect) 0 && eqb (x .port) 0 && eqb (x .phi) 0 && eqb (x .budget) 0
       && eqb (x .reads) 0 && eqb (x .writes) 0 && eqb (x .computing) 0 && eqb (x .period) 0
 
-  acc-kept : (a : ℕ) → ((b : ℕ) → b < t .accs → 0 < limitOf t b) → acceleratorKeeps t a ≡ true
+  acc-kept : (a : ℕ) → ((b : ℕ) → b < t .accs → 0 < phiOf t b) → acceleratorKeeps t a ≡ true
   unfolding unusedAccelerator
   acc-kept a full = elim (decLt a (t .accs)) [
     | yes l ↦ picked _ _ _ (lt-ltb _ _ l) ∙ used-acc-kept a (full a l)
@@ -730,7 +730,7 @@ module _ (t : Tree) (P : Partial t) where
       let h = both (ltb 0 (t .bus .window) && ltb 0 (t .ints) && ltb 0 (t .accs)) _ e in
       let g = both (ltb 0 (t .bus .window) && ltb 0 (t .ints)) _ (h .0) in
       let w = both (ltb 0 (t .bus .window)) _ (g .0) in
-      let full : (b : ℕ) → b < t .accs → 0 < limitOf t b = λ b l. ltb-true _ _ (all-at (t .accs) (λ a. ltb 0 (limitOf t a)) (h .1) b l) in
+      let full : (b : ℕ) → b < t .accs → 0 < phiOf t b = λ b l. ltb-true _ _ (all-at (t .accs) (λ a. ltb 0 (phiOf t a)) (h .1) b l) in
       let bus = P .bus (ltb-true _ _ (w .0)) in
       let ints = ltb-true _ _ (w .1) in
       let accs = ltb-true _ _ (g .1) in

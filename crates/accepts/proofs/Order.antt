@@ -21,7 +21,7 @@ use Rattle.model.specs.declared.Port.the-variants.{Empty, Acc}
 use Rattle.model.specs.declared.Refusal.{Refusal}
 use Rattle.model.specs.declared.Refusal.the-variants.{Shape, Limit, Order, Taken}
 use Rattle.folds.specs.Fold.{pick}
-use Rattle.model.specs.Tree.{noInterconnect, acceleratorOf, portOf, limitOf}
+use Rattle.model.specs.Tree.{noInterconnect, acceleratorOf, portOf, phiOf}
 use Rattle.rules.specs.Rules.{isEmpty}
 use Rattle.lines.specs.declared.FileAnswer.{FileAnswer}
 use Rattle.lines.specs.declared.FileAnswer.the-variants.{Accepted, Refused, Broken}
@@ -50,7 +50,7 @@ pub record Placed (t : Tree) (l : Line) : Type 0 where
   pub form : inTree (l .kind) && shaped l ≡ true
   pub limits : limitsKept AccLine (l .values) ≡ true
   pub known : getD (l .values) 1 0 < t .ints
-  pub once : limitOf t (getD (l .values) 0 0) ≡ 0
+  pub once : phiOf t (getD (l .values) 0 0) ≡ 0
   pub free : portOf t (getD (l .values) 1 0) (getD (l .values) 2 0) ≡ Empty
 
 pub placed : (n : ℕ) (t : Tree) (l : Line) → l .kind ≡ AccLine → treeLine n t l .answer ≡ Accepted → Placed t l
@@ -61,13 +61,13 @@ placed n t l k e =
     let r = subst (λ (x : Kind). recordLine x n t l .answer ≡ Accepted) k (b .1) in
     let v = l .values in
     let f = passed-test (leb (t .ints) (getD v 1 0)) Order n _ r in
-    let g = passed-test (ltb 0 (limitOf t (getD v 0 0))) Order n _ (f .1) in
+    let g = passed-test (ltb 0 (phiOf t (getD v 0 0))) Order n _ (f .1) in
     let h = passed-test (not (isEmpty (portOf t (getD v 1 0) (getD v 2 0)))) Taken n _ (g .1) in
     record {
       form = not-false _ (a .0);
       limits = subst (λ (x : Kind). limitsKept x v ≡ true) k (not-false _ (b .0));
       known = leb-false _ _ (f .0);
-      once = let z = ltb-false 0 (limitOf t (getD v 0 0)) (g .0) in omega arith;
+      once = let z = ltb-false 0 (phiOf t (getD v 0 0)) (g .0) in omega arith;
       free = is-empty _ (not-false _ (h .0));
     }
 
@@ -137,7 +137,7 @@ module _ (t : Tree) (x y : Line) (P : Partial t) (X : Placed t x) (Y : Placed (w
 
   apart : getD v 0 0 ≡ getD w 0 0 → ⊥
   apart e =
-      let l = ap (limitOf (withAcc t v)) e in
+      let l = ap (phiOf (withAcc t v)) e in
       let n = ap (λ (a : Accelerator). a .phi) new in
       omega (arith, Y .once, least AccLine v (X .limits) 3 (lit< tt))
 
@@ -149,7 +149,7 @@ module _ (t : Tree) (x y : Line) (P : Partial t) (X : Placed t x) (Y : Placed (w
   first-size = home-size t v P (X .limits) (X .known) (X .once) (X .free)
 
   -- the second line may come first
-  second-once : limitOf t (getD w 0 0) ≡ 0
+  second-once : phiOf t (getD w 0 0) ≡ 0
   second-once =
       let old = acc-old t v P (X .limits) (X .known) (X .once) (X .free) (getD w 0 0) (λ e. apart (sym e)) in
       sym (ap (λ (a : Accelerator). a .phi) old) ∙ Y .once

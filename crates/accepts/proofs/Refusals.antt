@@ -19,7 +19,7 @@ use Rattle.model.specs.declared.Refusal.{Refusal}
 use Rattle.model.specs.declared.Refusal.the-variants.{Shape, Limit, Order, Taken, Level}
 use Rattle.folds.specs.Fold.{pick, all}
 use Rattle.folds.proofs.Folds.{picked, passed, both, joined, clash}
-use Rattle.model.specs.Tree.{portOf, limitOf, levelOf}
+use Rattle.model.specs.Tree.{portOf, phiOf, levelOf}
 use Rattle.rules.specs.Rules.{isEmpty}
 use Rattle.lines.specs.declared.Kind.{Kind}
 use Rattle.lines.specs.declared.Kind.the-variants.{NoRecord, BusLine, IntLine, AccLine, OfferLine}
@@ -80,7 +80,7 @@ module _ (n : ℕ) where
       int-answers (intInOrder u l) (eqb (valueAt l 0) 0) (isEmpty (portOf u (valueAt l 1) (valueAt l 2))) (leb 4 (levelOf u (valueAt l 1))) _ _
   record-rules u l AccLine e false = refl
   record-rules u l AccLine e true =
-      acc-answers (leb (u .ints) (valueAt l 1)) (ltb 0 (limitOf u (valueAt l 0))) (isEmpty (portOf u (valueAt l 1) (valueAt l 2))) _
+      acc-answers (leb (u .ints) (valueAt l 1)) (ltb 0 (phiOf u (valueAt l 0))) (isEmpty (portOf u (valueAt l 1) (valueAt l 2))) _
   record-rules u l OfferLine e b = clash cc
 
   line-rules : (u : Tree) (l : Line) → inTree (l .kind) && shaped l ≡ true → treeLine n u l .answer ≡ broken n (lineRules u l)

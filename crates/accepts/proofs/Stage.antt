@@ -20,7 +20,7 @@ use Rattle.model.specs.declared.Port.{Port}
 use Rattle.model.specs.declared.Port.the-variants.{Empty, Acc, Int}
 use Rattle.folds.specs.Fold.{pick, all, within}
 use Rattle.model.specs.Tree.{emptyCell, noInterconnect, noAccelerator, interconnectOf, granularityOf, parentOf, parentPortOf, levelOf}
-use Rattle.model.specs.Tree.{acceleratorOf, portOf, homeOf, homePortOf, limitOf, budgetOf}
+use Rattle.model.specs.Tree.{acceleratorOf, portOf, homeOf, homePortOf, phiOf, budgetOf}
 use Rattle.rules.specs.Rules.{isEmpty, busKeeps, rootPlaced, interconnectKeeps, usedInterconnect, unusedInterconnect, treeKeeps}
 use Rattle.rules.specs.Rules.{acceleratorKeeps, unusedAccelerator}
 use Rattle.folds.proofs.Folds.{picked, passed, tests, joined, clash}
@@ -298,13 +298,13 @@ module _ (t : Tree) (e : treeKeeps t ≡ true) where
   unfolding all
   acc-limits m h =
       let r = acc-ranges t e m h in
-      let f = S .limit m h in
+      let f = S .phi m h in
       let b = S .budget m h in
       joined _ _ (joined _ _ (joined _ _ (joined _ _ (joined _ _ (joined _ _ (joined _ _ (joined _ _
       (within-yes 0 m 31 (omega arith) (omega (arith, S .most-accs)))
       (within-yes 0 (homeOf t m) 14 (omega arith) (omega (arith, S .home m h, S .most-ints))))
       (within-yes 0 (homePortOf t m) 7 (omega arith) (omega (arith, S .home-port m h))))
-      (within-yes 1 (limitOf t m) 16 (f .0) (f .1)))
+      (within-yes 1 (phiOf t m) 16 (f .0) (f .1)))
       (within-yes 1 (budgetOf t m) 1024 (b .0) (b .1)))
       (within-yes 0 (acceleratorOf t m .reads) 65535 (omega arith) (r .0)))
       (within-yes 0 (acceleratorOf t m .writes) 65535 (omega arith) (r .1)))
@@ -330,7 +330,7 @@ module _ (t : Tree) (e : treeKeeps t ≡ true) where
     known : homeOf t m < u .ints
     known = omega (arith, S .home m h, A .ints)
 
-    once : limitOf u m ≡ 0
+    once : phiOf u m ≡ 0
     once = ap (λ (x : Accelerator). x .phi) (A .part .unused-acc m (omega (arith, A .accs)))
 
     acc-free : portOf u home home-port ≡ Empty

@@ -22,7 +22,7 @@ use Rattle.model.specs.declared.Bus.{Bus}
 use Rattle.model.specs.declared.Port.the-variants.{Empty}
 use Rattle.model.specs.declared.Refusal.{Refusal}
 use Rattle.model.specs.declared.Refusal.the-variants.{Shape, Limit, Order, Taken, Level}
-use Rattle.model.specs.Tree.{portOf, limitOf, levelOf}
+use Rattle.model.specs.Tree.{portOf, phiOf, levelOf}
 use Rattle.rules.specs.Rules.{isEmpty, busKeeps}
 use Rattle.text.specs.declared.Field.{Field}
 use Rattle.text.specs.Text.{lines, unended}
@@ -44,7 +44,7 @@ pub data Stands (u : Tree) (l : List ℕ) : Tree → Type 0 where
   root-stands : (g : ℕ) → 1 ≤ g → g ≤ 16 → 0 < u .bus .window → u .accs ≡ 0 → u .ints ≡ 0 → l ≡ rootWritten g → Stands u l (withRoot u g)
   child-stands : (j p q g : ℕ) → 1 ≤ g → g ≤ 16 → 0 < u .bus .window → u .accs ≡ 0 → j ≡ u .ints → 0 < j → j < 15 → p < j → q < 8
       → portOf u p q ≡ Empty → levelOf u p < 4 → l ≡ childWritten j p q g → Stands u l (withChild u j p q g)
-  acc-stands : (v : List ℕ) → limitsKept AccLine v ≡ true → getD v 1 0 < u .ints → limitOf u (getD v 0 0) ≡ 0
+  acc-stands : (v : List ℕ) → limitsKept AccLine v ≡ true → getD v 1 0 < u .ints → phiOf u (getD v 0 0) ≡ 0
       → portOf u (getD v 1 0) (getD v 2 0) ≡ Empty → l ≡ accWritten (getD v 0 0) (accOf v) → Stands u l (withAcc u v)
 
 pub data Leads : Tree → List (List ℕ) → Tree → Type 0 where
@@ -55,7 +55,7 @@ abbrev pub inOrder : Kind → Tree → Line → Bool
 inOrder NoRecord u l = true
 inOrder BusLine u l = not (ltb 0 (u .bus .window))
 inOrder IntLine u l = intInOrder u l
-inOrder AccLine u l = not (leb (u .ints) (valueAt l 1)) && not (ltb 0 (limitOf u (valueAt l 0)))
+inOrder AccLine u l = not (leb (u .ints) (valueAt l 1)) && not (ltb 0 (phiOf u (valueAt l 0)))
 inOrder OfferLine u l = true
 
 abbrev pub free : Kind → Tree → Line → Bool

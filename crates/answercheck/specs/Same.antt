@@ -3,7 +3,7 @@
 -- sameFlag x y           both true or both false
 -- sameSaid x s           a reader's answer: number and line
 -- sameEnd x y            two ends of a run: number, line, slots, done
--- sameFigures f r        the figures of an accelerator: all seven
+-- sameFigures f r        the figures of an accelerator: all eight
 -- sameSlices a b         two lists: as long, and the same at each place
 -- sameBytes o n          in an array of two buffers, the first n bytes from 0 and from 65,537 on; not if n is above 65,537
 -- sameReading x f s      an exported reading: number, line, and the file f is named if s refuses it
@@ -11,7 +11,7 @@
 -- sameOutcome x k e      an exported run: kind k, number, line, slots
 -- kindTold w             the kind of an exported wait on an accepted tree: 0 told, 4 refused without a line and not by 2, 3 refused else
 -- sameWait x k w         an exported wait: kind k, number, line, count, slot
--- sameRow x s r          an exported bound: the refusal s, or number and line 0, and all seven figures
+-- sameRow x s r          an exported bound: the refusal s, or number and line 0, and all eight figures
 -- samePage x n s         an exported report or writing: n bytes, number and line
 -- sameCount x n s        an exported number of accelerators: n, number and line
 -- sameRequest x s a n    a request: slot s, accelerator a, count n
@@ -62,9 +62,10 @@ sameEnd x y =
 abbrev pub sameFigures : Figures → expected.Row → Bool
 sameFigures f r =
     eqb (f .level) (r .level)
-    && eqb (f .share) (r .share)
-    && eqb (f .reads .0) (r .reads)
-    && eqb (f .writes .0) (r .writes)
+    && eqb (f .reads .share) (r .sr)
+    && eqb (f .writes .share) (r .sw)
+    && eqb (f .reads .interference .0) (r .reads)
+    && eqb (f .writes .interference .0) (r .writes)
     && eqb (f .response .0) (r .response)
     && eqb (f .period .0) (r .period)
     && sameFlag (f .meets) (r .meets)
@@ -102,7 +103,8 @@ sameRow x s r =
     eqb (x .number) (s .number)
     && eqb (x .line) (s .line)
     && eqb (x .level) (r .level)
-    && eqb (x .share) (r .share)
+    && eqb (x .sr) (r .sr)
+    && eqb (x .sw) (r .sw)
     && eqb (x .yr) (r .reads)
     && eqb (x .yw) (r .writes)
     && eqb (x .response) (r .response)

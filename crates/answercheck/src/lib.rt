@@ -55,12 +55,15 @@ pub fn same_figures(f: Figures, r: Row) -> bool
 {
     let reads = f.reads;
     let writes = f.writes;
+    let yr = reads.interference;
+    let yw = writes.interference;
     let response = f.response;
     let period = f.period;
     (f.level as usize == r.level)
-        & (f.share as usize == r.share)
-        & (reads.0 as usize == r.reads)
-        & (writes.0 as usize == r.writes)
+        & (reads.share as usize == r.sr)
+        & (writes.share as usize == r.sw)
+        & (yr.0 as usize == r.reads)
+        & (yw.0 as usize == r.writes)
         & (response.0 as usize == r.response)
         & (period.0 as usize == r.period)
         & same_flag(f.meets, r.meets)

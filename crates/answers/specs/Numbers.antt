@@ -1,6 +1,7 @@
 -- What a reader, a run, a wait and a bound answer, as numbers, from the definitions of documents 01 and 02 that the libraries
 -- below cite.
 --
+-- channelNumber c       the number of channel c: 0 reads, 1 writes; channelOf n: the channel of number n, writes for any but 0
 -- isAccepted x          a reader's answer x is "accepted"
 -- fileRefused f x       0 if so, else f, the file that is refused
 -- readingOf f x         a reader's answer x as numbers, with f for the file that is refused: 1 the tree, 2 the trace
@@ -13,11 +14,14 @@
 -- waitOf x              how a transaction waited, as numbers: kind 0 told, with the count of all slots and the slot of admission; 3
 --                       refused with a line, or 0 for a size; 4 refused without one
 -- unbounded n l         no bounds, refused by number n at line l
--- rowOf x               what a bound answers, as numbers; yr and yw are the interference of its reads and of its writes; 7 and 11
+-- rowOf x               what a bound answers, as numbers; sr and sw are the shares of its reads and of its writes, yr and yw their interference; 7 and 11
 --                       have no line
 use Prim.Native.Nat.{ℕ}
+use lib.Dec.{eqb}
 use mathlib.Core.Bool.{Bool, true, false}
 use Rattle.folds.specs.Fold.{pick}
+use Rattle.model.specs.declared.Channel.{Channel}
+use Rattle.model.specs.declared.Channel.the-variants.{Read, Write}
 use Rattle.lines.specs.Answer.{answerNumber, answerLine}
 use Rattle.lines.specs.declared.FileAnswer.{FileAnswer}
 use Rattle.lines.specs.declared.FileAnswer.the-variants.{Accepted, Refused, Broken}
@@ -29,6 +33,13 @@ use Rattle.answers.specs.declared.Count.{Count}
 use Rattle.answers.specs.declared.Outcome.{Outcome}
 use Rattle.answers.specs.declared.Wait.{Wait}
 use Rattle.answers.specs.declared.Row.{Row}
+
+abbrev pub channelNumber : Channel → ℕ
+channelNumber Read = 0
+channelNumber Write = 1
+
+abbrev pub channelOf : ℕ → Channel
+channelOf n = pick (eqb n 0) Read Write
 
 abbrev pub isAccepted : FileAnswer → Bool
 isAccepted Accepted = true
@@ -69,7 +80,7 @@ waitOf (waited n m) = record { kind = 0; number = 0; line = 0; count = n; slot =
 
 abbrev pub unbounded : ℕ → ℕ → Row
 unbounded n l =
-    record { number = n; line = l; level = 0; meets = false; share = 0; yr = 0; yw = 0; response = 0; period = 0 }
+    record { number = n; line = l; level = 0; meets = false; sr = 0; sw = 0; yr = 0; yw = 0; response = 0; period = 0 }
 
 abbrev pub rowOf : BoundResult → Row
 rowOf (refused n) = unbounded n 0
@@ -79,9 +90,10 @@ rowOf (analysed r) =
       line = 0;
       level = r .level;
       meets = r .meets;
-      share = r .share;
-      yr = r .reads;
-      yw = r .writes;
+      sr = r .reads .share;
+      sw = r .writes .share;
+      yr = r .reads .interference;
+      yw = r .writes .interference;
       response = r .response;
       period = r .period;
     }

@@ -7,6 +7,7 @@ use bounds::BoundAnswer;
 use lines::FileAnswer;
 use lines::answer_line;
 use lines::answer_number;
+use model::Channel;
 use model::number;
 use runner::RunAnswer;
 use waits::WhyAnswer;
@@ -14,7 +15,7 @@ ghost use mathlib.Core.Path.{_≡_};
 ghost use Rattle.runner.specs.Answers.{runMeans};
 ghost use Rattle.waits.specs.Answers.{whyMeans};
 ghost use Rattle.bounds.specs.Bounds.{meaningOf};
-ghost use Rattle.answers.specs.Numbers.{isAccepted, fileRefused, readingOf, acceptedCount, countOf, outcomeOf, treeRefused, noWait, waitOf, rowOf, unbounded};
+ghost use Rattle.answers.specs.Numbers.{channelNumber, channelOf, isAccepted, fileRefused, readingOf, acceptedCount, countOf, outcomeOf, refusedBy, treeRefused, noWait, waitOf, rowOf, unbounded};
 
 // What a reader answers. `file` says which file is refused: 0 neither, 1 the tree, 2 the trace.
 #[repr(C)]
@@ -25,7 +26,7 @@ pub struct Reading {
 }
 
 // How a run ended. `kind` is 0 for done, 1 for stopped, 2 where the tree is refused, 3 where the trace or the size of the
-// buffer is. `slots` is the number of slots used, 0 on a refusal.
+// buffer is, 4 where the number of the channel is. `slots` is the number of slots used, 0 on a refusal.
 #[repr(C)]
 pub struct Outcome {
     pub kind: u8,
@@ -35,7 +36,7 @@ pub struct Outcome {
 }
 
 // How a transaction waited. `kind` is 0 where it is told, 2 where the tree is refused, 3 where the trace or the size of the buffer
-// is, 4 where the accelerator or the number is, without a line. `count` is the number of slots that it waited, `slot` that of its
+// is, 4 where the channel, the accelerator or the number is, without a line. `count` is the number of slots that it waited, `slot` that of its
 // admission: both 0 on a refusal.
 #[repr(C)]
 pub struct Wait {
@@ -53,7 +54,8 @@ pub struct Row {
     pub line: u32,
     pub level: u8,
     pub meets: bool,
-    pub share: u64,
+    pub sr: u64,
+    pub sw: u64,
     pub yr: u64,
     pub yw: u64,
     pub response: u64,
@@ -66,6 +68,26 @@ pub struct Count {
     pub number: u8,
     pub line: u32,
     pub accelerators: u8,
+}
+
+// The number of a channel.
+pub fn channel_number(channel: Channel) -> u8
+    ensures { λ r. ⌜ r ≡ channelNumber channel ⌝ }
+{
+    match channel {
+        Channel::Read => 0,
+        Channel::Write => 1,
+    }
+}
+
+// The channel of a number, for a caller that has checked that it is one: any but 0 gives the write channel.
+pub fn channel_of(number: u8) -> Channel
+    ensures { λ r. ⌜ r ≡ channelOf number ⌝ }
+{
+    if number == 0 {
+        return Channel::Read;
+    }
+    Channel::Write
 }
 
 // Whether the file is accepted.
@@ -153,16 +175,23 @@ pub fn outcome_of(answer: RunAnswer) -> Outcome
     }
 }
 
+// A run that does not begin: refused in that kind, by that number, at that line.
+pub fn refused_by(kind: u8, number: u8, at: u32) -> Outcome
+    ensures { λ r. ⌜ r ≡ refusedBy kind number at ⌝ }
+{
+    Outcome {
+        kind: kind,
+        number: number,
+        line: at,
+        slots: 0,
+    }
+}
+
 // A run that does not begin, because the tree is refused.
 pub fn tree_refused(answer: FileAnswer) -> Outcome
     ensures { λ r. ⌜ r ≡ treeRefused answer ⌝ }
 {
-    Outcome {
-        kind: 2,
-        number: answer_number(answer),
-        line: answer_line(answer),
-        slots: 0,
-    }
+    refused_by(2, answer_number(answer), answer_line(answer))
 }
 
 // No wait is told: refused in that kind, by that number, at that line.
@@ -206,7 +235,8 @@ pub fn unbounded(number: u8, line: u32) -> Row
         line: line,
         level: 0,
         meets: false,
-        share: 0,
+        sr: 0,
+        sw: 0,
         yr: 0,
         yw: 0,
         response: 0,
@@ -225,9 +255,10 @@ pub fn row_of(answer: BoundAnswer) -> Row
             line: 0,
             level: f.level,
             meets: f.meets,
-            share: f.share,
-            yr: f.reads.0,
-            yw: f.writes.0,
+            sr: f.reads.share,
+            sw: f.writes.share,
+            yr: f.reads.interference.0,
+            yw: f.writes.interference.0,
             response: f.response.0,
             period: f.period.0,
         },

@@ -49,9 +49,8 @@ abbrev largest : Analysis
 largest =
     record {
       level = 4;
-      share = 163047361;
-      reads = 10685308737600;
-      writes = 10685308737600;
+      reads = record { share = 163047361; interference = 10685308737600 };
+      writes = record { share = 163047361; interference = 10685308737600 };
       response = 1490760862231729620;
       period = 4294967295;
       meets = false;

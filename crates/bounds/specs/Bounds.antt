@@ -11,13 +11,14 @@
 -- channelTime n alone y s    "N × alone .. + Y × slot", what a channel adds to the response
 -- readTime b x l share       what reads add to the response of accelerator x at level l: Nr × alone read + Yr × slot read
 -- writeTime b x l share      "the same for writes"
--- responseOf b x l share     "The response is C + Nr × alone read + Yr × slot read, plus the same for writes"
+-- responseOf b x l sr sw     "The response is C + Nr × alone read + Yr × slot read, plus the same for writes", with the shares of both channels
 -- isMet x r                  "An accelerator meets its period if the response is at most T"
--- Analysis                   what is known of an accelerator: level, share, both interferences, response, period, verdict
--- analysisFrom b x l share   that of accelerator x at level l with this share
+-- Contention                 what a job's transactions meet on a channel: share and interference; contention n share: that of n of them
+-- Analysis                   what is known of an accelerator: level, what its reads and its writes meet, response, period, verdict
+-- analysisFrom b x l sr sw   that of accelerator x at level l with these shares of its reads and its writes
 -- analysisOf t a             that of accelerator a, "With L the level"
 -- BoundResult                what a call of `bound` answers: refused by a number, or the analysis
--- figuresMean f              the analysis that the figures of the code stand for
+-- onChannelMeans f           what the figures of a channel of the code stand for; figuresMean f: those of an accelerator
 -- meaningOf r                the answer that the enum of the code stands for
 -- boundOf t a                "a bound 11, 7", else the analysis
 use Prim.Native.Nat.{ℕ, _+_, _*_, _-_, max}
@@ -26,11 +27,13 @@ use lib.Dec.{leb}
 use Rattle.model.specs.declared.Tree.{Tree}
 use Rattle.model.specs.declared.Bus.{Bus}
 use Rattle.model.specs.declared.Accelerator.{Accelerator}
+use Rattle.model.specs.declared.Channel.the-variants.{Read, Write}
 use Rattle.folds.specs.Fold.{pick}
 use Rattle.model.specs.Tree.{homeOf, levelOf, acceleratorOf}
 use Rattle.rules.specs.Rules.{treeKeeps}
 use Rattle.shares.specs.Shares.{shareOf}
 use Rattle.model.specs.Answer.{numberOf}
+use Rattle.bounds.specs.declared.OnChannel.{OnChannel}
 use Rattle.bounds.specs.declared.Figures.{Figures}
 use Rattle.bounds.specs.declared.BoundAnswer.{BoundAnswer}
 use Rattle.bounds.specs.declared.BoundAnswer.the-variants.{Refused, Bound}
@@ -62,47 +65,55 @@ readTime b x l share = channelTime (x .reads) (aloneRead b l) (interference (x .
 abbrev pub writeTime : Bus → Accelerator → ℕ → ℕ → ℕ
 writeTime b x l share = channelTime (x .writes) (aloneWrite b l) (interference (x .writes) share) (slotWrite b)
 
-abbrev pub responseOf : Bus → Accelerator → ℕ → ℕ → ℕ
-responseOf b x l share = x .computing + readTime b x l share + writeTime b x l share
+abbrev pub responseOf : Bus → Accelerator → ℕ → ℕ → ℕ → ℕ
+responseOf b x l sr sw = x .computing + readTime b x l sr + writeTime b x l sw
 
 abbrev pub isMet : Accelerator → ℕ → Bool
 isMet x r = leb r (x .period)
 
+pub record Contention : Type 0 where
+  pub share : ℕ
+  pub interference : ℕ
+
+abbrev pub contention : ℕ → ℕ → Contention
+contention n share = record { share = share; interference = interference n share }
+
 pub record Analysis : Type 0 where
   pub level : ℕ
-  pub share : ℕ
-  pub reads : ℕ
-  pub writes : ℕ
+  pub reads : Contention
+  pub writes : Contention
   pub response : ℕ
   pub period : ℕ
   pub meets : Bool
 
-abbrev pub analysisFrom : Bus → Accelerator → ℕ → ℕ → Analysis
-analysisFrom b x l share =
+abbrev pub analysisFrom : Bus → Accelerator → ℕ → ℕ → ℕ → Analysis
+analysisFrom b x l sr sw =
     record {
       level = l;
-      share = share;
-      reads = interference (x .reads) share;
-      writes = interference (x .writes) share;
-      response = responseOf b x l share;
+      reads = contention (x .reads) sr;
+      writes = contention (x .writes) sw;
+      response = responseOf b x l sr sw;
       period = x .period;
-      meets = isMet x (responseOf b x l share);
+      meets = isMet x (responseOf b x l sr sw);
     }
 
 abbrev pub analysisOf : Tree → ℕ → Analysis
-analysisOf t a = analysisFrom (t .bus) (acceleratorOf t a) (levelOf t (homeOf t a)) (shareOf t a)
+analysisOf t a =
+    analysisFrom (t .bus) (acceleratorOf t a) (levelOf t (homeOf t a)) (shareOf t Read a) (shareOf t Write a)
 
 pub data BoundResult : Type 0 where
   refused : ℕ → BoundResult
   analysed : Analysis → BoundResult
 
+abbrev pub onChannelMeans : OnChannel → Contention
+onChannelMeans f = record { share = f .share; interference = f .interference .0 }
+
 abbrev pub figuresMean : Figures → Analysis
 figuresMean f =
     record {
       level = f .level;
-      share = f .share;
-      reads = f .reads .0;
-      writes = f .writes .0;
+      reads = onChannelMeans (f .reads);
+      writes = onChannelMeans (f .writes);
       response = f .response .0;
       period = f .period .0;
       meets = f .meets;

@@ -1,11 +1,12 @@
-// The bounds of document 01: for an accelerator of a configuration its share, the interference that its job meets, its
-// response and whether it meets its period.
+// The bounds of document 01: for an accelerator of a configuration its share on each channel, the interference that its job meets
+// there, its response and whether it meets its period.
 mod timing;
 
 use crate::timing::interference_of;
 use crate::timing::response_of;
 use model::Accelerator;
 use model::Bus;
+use model::Channel;
 use model::Refusal;
 use model::Tree;
 use model::access::accelerator_at;
@@ -13,8 +14,8 @@ use model::access::level_of;
 use rules::tree_keeps;
 use shares::share_of;
 ghost use mathlib.Core.Path.{_≡_};
-ghost use Rattle.bounds.specs.Bounds.{analysed, analysisFrom, meaningOf, boundOf};
-ghost use Rattle.bounds.specs.Limited.{Limited};
+ghost use Rattle.bounds.specs.Bounds.{contention, onChannelMeans, analysed, analysisFrom, meaningOf, boundOf};
+ghost use Rattle.bounds.specs.Limited.{Limited, Share};
 
 // A count of transactions, each of which takes one slot.
 pub struct Slots(pub u64);
@@ -22,13 +23,18 @@ pub struct Slots(pub u64);
 // A time in clock cycles.
 pub struct Cycles(pub u64);
 
-// What is known of an accelerator: the level L of its interconnect, its share, the interference of its job's reads and
-// writes, its response and its period, and whether it meets the period.
+// What the transactions of a job meet on a channel: the share of their accelerator there, and their interference.
+pub struct OnChannel {
+    pub share: u64,
+    pub interference: Slots,
+}
+
+// What is known of an accelerator: the level L of its interconnect, what its job's reads and its writes meet, its response and its
+// period, and whether it meets the period.
 pub struct Figures {
     pub level: u8,
-    pub share: u64,
-    pub reads: Slots,
-    pub writes: Slots,
+    pub reads: OnChannel,
+    pub writes: OnChannel,
     pub response: Cycles,
     pub period: Cycles,
     pub meets: bool,
@@ -40,18 +46,28 @@ pub enum BoundAnswer {
     Bound(Figures),
 }
 
-// The figures of accelerator x, on an interconnect of this level, with this share.
-fn figures_from(b: Bus, x: Accelerator, level: u8, share: u64) -> Figures
-    requires { ⌜ Limited b x level share ⌝ }
-    ensures { λ r. ⌜ meaningOf (BoundAnswer.Bound r) ≡ analysed (analysisFrom b x level share) ⌝ }
+// What n transactions of a channel meet, with this share.
+fn on_channel(n: u16, share: u64) -> OnChannel
+    requires { ⌜ Share share ⌝ }
+    ensures { λ r. ⌜ onChannelMeans r ≡ contention n share ⌝ }
 {
-    let response = response_of(b, x, level, share);
+    OnChannel {
+        share: share,
+        interference: interference_of(n, share),
+    }
+}
+
+// The figures of accelerator x, on an interconnect of this level, with these shares of its reads and its writes.
+fn figures_from(b: Bus, x: Accelerator, level: u8, reads: u64, writes: u64) -> Figures
+    requires { ⌜ Limited b x level × Share reads × Share writes ⌝ }
+    ensures { λ r. ⌜ meaningOf (BoundAnswer.Bound r) ≡ analysed (analysisFrom b x level reads writes) ⌝ }
+{
+    let response = response_of(b, x, level, reads, writes);
     let period = x.period as u64;
     Figures {
         level: level,
-        share: share,
-        reads: interference_of(x.reads, share),
-        writes: interference_of(x.writes, share),
+        reads: on_channel(x.reads, reads),
+        writes: on_channel(x.writes, writes),
         response: response,
         period: Cycles(period),
         meets: response.0 <= period,
@@ -70,5 +86,7 @@ pub fn bound(t: Tree, a: u8) -> BoundAnswer
     }
     let x = accelerator_at(t, a);
     let level = level_of(t, x.interconnect);
-    BoundAnswer::Bound(figures_from(t.bus, x, level, share_of(t, a)))
+    let reads = share_of(t, Channel::Read, a);
+    let writes = share_of(t, Channel::Write, a);
+    BoundAnswer::Bound(figures_from(t.bus, x, level, reads, writes))
 }

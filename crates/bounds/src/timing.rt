@@ -6,11 +6,11 @@ use model::Bus;
 ghost use mathlib.Core.Path.{_≡_};
 ghost use Prim.Native.Nat.{_*_, _≤_, max};
 ghost use Rattle.bounds.specs.Bounds.{interference, aloneRead, aloneWrite, slotRead, slotWrite, cyclesOf, channelTime, readTime, writeTime, responseOf};
-ghost use Rattle.bounds.specs.Limited.{Limited};
+ghost use Rattle.bounds.specs.Limited.{Limited, Share};
 
 // The interference of n transactions.
 pub fn interference_of(n: u16, share: u64) -> Slots
-    requires { ⌜ (1 ≤ share) × (share ≤ 163047361) ⌝ }
+    requires { ⌜ Share share ⌝ }
     ensures { λ r. ⌜ r .0 ≡ interference n share ⌝ }
 {
     Slots((n as u64) * (share - 1))
@@ -90,7 +90,7 @@ fn channel_time(n: u16, alone: Cycles, interference: Slots, slot: Cycles) -> Cyc
 
 // What the reads of a job add to its response.
 fn read_time(b: Bus, x: Accelerator, level: u8, share: u64) -> Cycles
-    requires { ⌜ Limited b x level share ⌝ }
+    requires { ⌜ Limited b x level × Share share ⌝ }
     ensures { λ r. ⌜ r .0 ≡ readTime b x level share ⌝ }
 {
     channel_time(
@@ -103,7 +103,7 @@ fn read_time(b: Bus, x: Accelerator, level: u8, share: u64) -> Cycles
 
 // What the writes of a job add to its response.
 fn write_time(b: Bus, x: Accelerator, level: u8, share: u64) -> Cycles
-    requires { ⌜ Limited b x level share ⌝ }
+    requires { ⌜ Limited b x level × Share share ⌝ }
     ensures { λ r. ⌜ r .0 ≡ writeTime b x level share ⌝ }
 {
     channel_time(
@@ -114,12 +114,12 @@ fn write_time(b: Bus, x: Accelerator, level: u8, share: u64) -> Cycles
     )
 }
 
-// The response of accelerator x, on an interconnect of this level, with this share.
-pub fn response_of(b: Bus, x: Accelerator, level: u8, share: u64) -> Cycles
-    requires { ⌜ Limited b x level share ⌝ }
-    ensures { λ r. ⌜ r .0 ≡ responseOf b x level share ⌝ }
+// The response of accelerator x, on an interconnect of this level, with these shares of its reads and its writes.
+pub fn response_of(b: Bus, x: Accelerator, level: u8, reads: u64, writes: u64) -> Cycles
+    requires { ⌜ Limited b x level × Share reads × Share writes ⌝ }
+    ensures { λ r. ⌜ r .0 ≡ responseOf b x level reads writes ⌝ }
 {
-    let reads = read_time(b, x, level, share);
-    let writes = write_time(b, x, level, share);
-    Cycles(x.computing as u64 + reads.0 + writes.0)
+    let read = read_time(b, x, level, reads);
+    let written = write_time(b, x, level, writes);
+    Cycles(x.computing as u64 + read.0 + written.0)
 }

@@ -8,15 +8,19 @@
 -- sameReturns s a r d  the returns of accelerator a: as many, and each due in the same slot
 -- sameRecord s a r d   the record of accelerator a: what waits, what is admitted in this window, and what returns
 -- sameTurn s j d       the turn of interconnect j: its last port and its allowance
--- sameState s r d      on a tree with return delay r the slot count, the records of all thirty-two accelerators, the turns of all fifteen interconnects
+-- sameChannel c d      the channel: reads stand as 0, writes as 1
+-- sameState s r d      on a tree with return delay r the slot count, the records of all thirty-two accelerators, the turns of all fifteen interconnects,
+--                      and the channel
 use Prim.Native.Nat.{ℕ, _+_, _-_, _%_, _^_}
 use mathlib.Core.Bool.{Bool, _&&_, not}
 use mathlib.Core.List.{List}
 use lib.Dec.{eqb}
 use Rattle.folds.specs.Fold.{pick, all}
 use Rattle.model.specs.declared.State.{State}
+use Rattle.model.specs.declared.Channel.{Channel}
+use Rattle.model.specs.declared.Channel.the-variants.{Read, Write}
 use Rattle.model.specs.Tree.{bit, waitingOf, returnsOf, returningOf, admittedOf, lastOf, allowanceOf}
-use Rattle.second.specs.Machine.{queuedOf, isDue, usedOf, lastPortOf, leftOf, slotOf}
+use Rattle.second.specs.Machine.{queuedOf, isDue, usedOf, lastPortOf, leftOf, slotOf, channelOf}
 use Rattle.second.specs.Machine as second
 
 abbrev pub bitIs : ℕ → ℕ → Bool
@@ -40,5 +44,13 @@ sameRecord s a r d = eqb (waitingOf s a) (queuedOf d a) && eqb (admittedOf s a) 
 unfoldable pub sameTurn : State → ℕ → List ℕ → Bool
 sameTurn s j d = eqb (lastOf s j) (lastPortOf d j) && eqb (allowanceOf s j) (leftOf d j)
 
+abbrev pub sameChannel : Channel → List ℕ → Bool
+sameChannel Read d = eqb (channelOf d) 0
+sameChannel Write d = eqb (channelOf d) 1
+
 abbrev pub sameState : State → ℕ → List ℕ → Bool
-sameState s r d = eqb (s .slot) (slotOf d) && all 32 (λ a. sameRecord s a r d) && all 15 (λ j. sameTurn s j d)
+sameState s r d =
+    eqb (s .slot) (slotOf d)
+    && all 32 (λ a. sameRecord s a r d)
+    && all 15 (λ j. sameTurn s j d)
+    && sameChannel (s .channel) d

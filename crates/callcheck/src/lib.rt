@@ -4,12 +4,19 @@
 // Test code: it is proved that each function is safe and ends, and of the comparison which number of the store it compares with
 // which entry of the state.
 pub mod returns;
+pub mod states;
 
-use crate::returns::UNUSED;
-use crate::returns::WAYS;
 use crate::returns::altered_bits;
 use crate::returns::give_all;
 use crate::returns::same_returns;
+use crate::states::alter_both;
+use crate::states::at_slot;
+use crate::states::of_other_channel;
+use crate::states::some_accelerator;
+use crate::states::some_jobless;
+use crate::states::some_way;
+use crate::states::with_jobless;
+use crate::states::with_returns;
 use generator::number_below;
 use machine::FreshAnswer;
 use machine::OfferAnswer;
@@ -17,6 +24,7 @@ use machine::SlotAnswer;
 use machine::fresh;
 use machine::offer;
 use machine::slot;
+use model::Channel;
 use model::State;
 use model::Tree;
 use model::access::accelerator_at;
@@ -28,33 +36,36 @@ use model::access::waiting_of;
 use model::number;
 use second::BUDGET_FIRST;
 use second::DUE_NOW;
+use second::JOB_FIRST;
+use second::JOB_LAST;
+use second::JOBLESS_KEPT;
 use second::LAST_FIRST;
 use second::NO_WRONG_RULE;
+use second::OTHER_CHANNEL;
 use second::UNKNOWN_FIRST;
-use second::calls::LEFT;
-use second::calls::PORT;
-use second::calls::SPENT;
-use second::calls::WAITS;
-use second::calls::alter;
+use second::book::READ;
+use second::book::WRITE;
+use second::book::other;
+use second::calls::CHANNEL;
 use second::calls::last_port;
 use second::calls::left;
 use second::calls::offer_answer;
 use second::calls::offer_one;
 use second::calls::rules_broken;
-use second::calls::set_slot_count;
 use second::calls::slot_count;
 use second::calls::slot_one;
 use second::calls::slot_refusal;
 use second::calls::start_one;
 use second::calls::used;
 use second::calls::waiting;
+use second::queues::channel;
 use store::DIFFERENCES;
 use store::WRONG;
 use store::add;
 use store::note;
 ghost use mathlib.Core.Path.{_≡_};
 ghost use Rattle.folds.specs.Fold.{all};
-ghost use Rattle.callcheck.specs.Same.{sameRecord, sameTurn, sameState};
+ghost use Rattle.callcheck.specs.Same.{sameRecord, sameTurn, sameChannel, sameState};
 
 // Offers by the number of their answer.
 pub const OFFERS: usize = 3200;
@@ -73,6 +84,18 @@ pub const BROKEN: usize = 3352;
 
 // and those that keep them.
 pub const KEPT: usize = 3360;
+
+// States whose channel is altered: those that break their rules, and those that keep them.
+pub const CHANGED: usize = 3424;
+
+// States in which an accelerator without a job on the channel has something, by the ways of `states`: those that break their rules,
+pub const JOBLESS_BROKEN: usize = 3428;
+
+// and those that keep them.
+pub const JOBLESS_AS_KEPT: usize = 3432;
+
+// Starts on the write channel.
+pub const WRITE_STARTS: usize = 3436;
 
 // The slot count at which no slot is left.
 const LAST_SLOT: u32 = 4294967295;
@@ -117,11 +140,32 @@ fn same_turns(s: State, d: &[usize; 16384]) -> bool
     same
 }
 
+fn same_channel(c: Channel, d: &[usize; 16384]) -> bool
+    ensures { λ r. ⌜ r ≡ sameChannel c (now (d .entry)) ⌝ }
+{
+    match c {
+        Channel::Read => channel(d) == READ,
+        Channel::Write => channel(d) == WRITE,
+    }
+}
+
 // Is each entry of the library's state, on a tree with this return delay, what the store has?
 fn same_state(s: State, delay: u8, d: &[usize; 16384]) -> bool
     ensures { λ r. ⌜ r ≡ sameState s delay (now (d .entry)) ⌝ }
 {
-    (s.slot as usize == slot_count(d)) & same_records(s, delay, d) & same_turns(s, d)
+    let c = s.channel;
+    (s.slot as usize == slot_count(d))
+        & same_records(s, delay, d)
+        & same_turns(s, d)
+        & same_channel(c, d)
+}
+
+// The library's channel of a number.
+pub fn channel_of(n: usize) -> Channel {
+    if n == READ {
+        return Channel::Read;
+    }
+    Channel::Write
 }
 
 fn started(answer: FreshAnswer) -> usize {
@@ -161,6 +205,20 @@ fn note_offer(a: usize, answer: usize, wrong: usize, d: &mut [usize; 16384]) {
     note(d, WRONG, wrong, answer == wrongly);
 }
 
+// On an offer that answers this, is one of the wrong rules on jobs seen? Each is asked where it could answer something else.
+fn note_jobs(a: usize, answer: usize, d: &mut [usize; 16384]) {
+    if answer == 7 {
+        note_offer(a, answer, JOB_FIRST, d);
+    }
+    if answer == 11 {
+        note_offer(a, answer, JOBLESS_KEPT, d);
+    }
+    if answer == 14 {
+        note_offer(a, answer, JOB_LAST, d);
+        note_offer(a, answer, OTHER_CHANNEL, d);
+    }
+}
+
 // An offer of accelerator a that is refused by 8: do fewer than phi wait?
 fn note_held_back(t: Tree, s: State, a: u8, d: &mut [usize; 16384]) {
     let x = accelerator_at(t, a);
@@ -174,6 +232,7 @@ fn try_offer(t: Tree, s: State, a: u8, d: &mut [usize; 16384]) -> State {
     note_offer(a as usize, answer, BUDGET_FIRST, d);
     note_offer(a as usize, answer, UNKNOWN_FIRST, d);
     note_offer(a as usize, answer, DUE_NOW, d);
+    note_jobs(a as usize, answer, d);
     let ours = offer_one(d, a as usize, NO_WRONG_RULE);
     let next = r.state;
     let same = same_state(next, t.bus.delay, d);
@@ -202,6 +261,9 @@ fn try_slot(t: Tree, s: State, d: &mut [usize; 16384]) -> State {
     let code = slot_code(said);
     note_slot(code, LAST_FIRST, d);
     note_slot(code, DUE_NOW, d);
+    if slot_number(code) == 11 {
+        note_slot(code, JOBLESS_KEPT, d);
+    }
     let ours = slot_one(d, NO_WRONG_RULE);
     let next = r.state;
     let same = same_state(next, t.bus.delay, d);
@@ -224,77 +286,30 @@ fn try_calls(t: Tree, s: State, n: usize, d: &mut [usize; 16384]) -> State {
     state
 }
 
-// The state with n in entry i of a part.
-fn altered(s: State, which: usize, i: usize, n: u8) -> State {
-    let mut next = s;
-    let a = i % 32;
-    let j = i % 15;
-    if which == WAITS {
-        next.waiting[a] = n;
-        return next;
-    }
-    if which == SPENT {
-        next.admitted[a] = n as u16;
-        return next;
-    }
-    if which == PORT {
-        next.last[j] = n;
-        return next;
-    }
-    next.allowance[j] = n;
-    next
-}
-
-// The state at slot n; what returns is due as many slots ahead as before.
-fn at_slot(t: Tree, s: State, n: u32, d: &mut [usize; 16384]) -> State {
-    set_slot_count(d, n as usize);
-    let mut next = s;
-    next.slot = n;
-    give_all(next, t.bus.delay, d);
-    next
-}
-
 // A slot where none is left, then calls at slot 0.
 fn try_late_and_early(t: Tree, s: State, n: usize, d: &mut [usize; 16384]) {
     let late = try_slot(t, at_slot(t, s, LAST_SLOT, d), d);
     try_calls(t, at_slot(t, late, 0, d), n, d);
 }
 
+// Calls where the state is that of the other channel.
+fn try_changed(t: Tree, s: State, d: &mut [usize; 16384]) {
+    let next = of_other_channel(s, d);
+    let keeps = !rules_broken(d, NO_WRONG_RULE);
+    add(d, CHANGED, keeps as usize, 1);
+    try_late_and_early(t, next, 8, d);
+}
+
 // Calls where one entry is altered at random.
 fn try_altered(t: Tree, s: State, d: &mut [usize; 16384]) {
-    let which = number_below(d, 4);
+    let which = number_below(d, 5);
+    if which == CHANNEL {
+        try_changed(t, s, d);
+        return;
+    }
     let i = number_below(d, 32);
-    let n = (number_below(d, 10) % 256) as u8;
-    alter(d, which, i, n as usize);
-    try_late_and_early(t, altered(s, which, i, n), 8, d);
-}
-
-// An accelerator of the tree, or, in the last of the ways, one that it has not.
-fn some_accelerator(t: Tree, way: usize, d: &mut [usize; 16384]) -> u8 {
-    let accs = t.accs as usize;
-    if way != UNUSED {
-        return (number_below(d, accs) % 32) as u8;
-    }
-    if 32 <= accs {
-        return 31;
-    }
-    ((accs + number_below(d, 32 - accs) % 32) % 32) as u8
-}
-
-// The state with x as the returns of accelerator a.
-fn with_returns(t: Tree, s: State, a: u8, x: u32, d: &mut [usize; 16384]) -> State {
-    let mut next = s;
-    next.returning[(a % 32) as usize] = x;
-    give_all(next, t.bus.delay, d);
-    next
-}
-
-// One of the ways; not the last one where the tree has all accelerators.
-fn some_way(t: Tree, d: &mut [usize; 16384]) -> usize {
-    if 32 <= t.accs {
-        return number_below(d, UNUSED);
-    }
-    number_below(d, WAYS)
+    let n = (number_below(d, 10) % 256) as u16;
+    try_late_and_early(t, alter_both(s, which, i, n, d), 8, d);
 }
 
 // Calls where the returns of an accelerator are altered.
@@ -311,6 +326,23 @@ fn try_returns(t: Tree, s: State, d: &mut [usize; 16384]) {
     try_late_and_early(t, next, 8, d);
 }
 
+// Calls where an accelerator without a job on the channel has something, an offer of it first.
+fn try_jobless(t: Tree, s: State, d: &mut [usize; 16384]) {
+    let a = some_jobless(t, d);
+    if a == 32 {
+        return;
+    }
+    let way = number_below(d, 4);
+    let next = with_jobless(t, s, a, way, d);
+    if rules_broken(d, NO_WRONG_RULE) {
+        add(d, JOBLESS_BROKEN, way, 1);
+    } else {
+        add(d, JOBLESS_AS_KEPT, way, 1);
+    }
+    let after = try_offer(t, next, a, d);
+    try_late_and_early(t, after, 4, d);
+}
+
 // Slots where the slot count is at its end, or one or two before it, and then calls in the last slot: what is due later stays.
 fn try_last_slots(t: Tree, s: State, d: &mut [usize; 16384]) -> State {
     let n = 4294967293 + (number_below(d, 3) % 3) as u32;
@@ -321,33 +353,40 @@ fn try_last_slots(t: Tree, s: State, d: &mut [usize; 16384]) -> State {
     try_calls(t, next, 6, d)
 }
 
-// The start.
-pub fn try_start(t: Tree, d: &mut [usize; 16384]) -> State {
-    let r = fresh(t);
+// The start on a channel.
+fn try_start(t: Tree, channel: usize, d: &mut [usize; 16384]) -> State {
+    let r = fresh(t, channel_of(channel));
     let said = r.answer;
     let answer = started(said);
     let state = r.state;
-    let ours = start_one(d);
+    let ours = start_one(d, channel);
     let same = same_state(state, t.bus.delay, d);
     note(d, DIFFERENCES, 0, (answer == ours) & same);
     add(d, STARTS, ours, 1);
+    if channel == WRITE {
+        add(d, WRITE_STARTS, 0, 1);
+    }
     state
 }
 
-// Each call from the fresh state on.
+// Each call from the fresh state on: those of one channel, and fewer of the other.
 pub fn try_machine(t: Tree, d: &mut [usize; 16384]) {
-    let state = try_start(t, d);
+    let channel = number_below(d, 2);
+    let state = try_start(t, channel, d);
     let busy = try_calls(t, state, 60, d);
     let late = try_last_slots(t, busy, d);
     try_altered(t, at_slot(t, late, 0, d), d);
-    let start = try_start(t, d);
+    let start = try_start(t, other(channel), d);
     let again = try_calls(t, start, 16, d);
     try_returns(t, again, d);
+    let more = busy_state(t, d);
+    try_jobless(t, more, d);
 }
 
-// A state that some calls lead to.
+// A state of a channel that some calls lead to.
 pub fn busy_state(t: Tree, d: &mut [usize; 16384]) -> State {
-    let state = try_start(t, d);
+    let channel = number_below(d, 2);
+    let state = try_start(t, channel, d);
     try_calls(t, state, 6, d)
 }
 
@@ -357,5 +396,6 @@ pub fn try_other(t: Tree, s: State, d: &mut [usize; 16384]) {
     give_all(s, t.bus.delay, d);
     let next = try_offer(t, s, 32, d);
     try_late_and_early(t, next, 4, d);
-    try_start(t, d);
+    let channel = number_below(d, 2);
+    try_start(t, channel, d);
 }

@@ -2,3 +2,4 @@ pub mod Quick
 pub mod Figures
 pub mod Clauses
 pub mod Returns
+pub mod Channels

@@ -8,7 +8,7 @@
 -- onesOf d n            ones n, its d lowest digits one by one, where `ones` takes n steps
 -- quickRecord, quickKeeps  recordKeeps and keeps with returns counted so
 -- Left, left e bs       how a run ends and the bytes that it leaves
--- quickRan t s n        those of a run of trace s over n bytes of 7
+-- quickRan t c s n      those of a run of trace s on channel c over n bytes of 7
 -- quickly f             what the figure f claims, by these
 -- everyQuickly fs       that of each of the figures fs
 use Prim.Native.Nat.{ℕ, zero, suc, _+_, _-_, _/_, _%_}
@@ -20,6 +20,7 @@ use lib.Count.{ones, ones-step}
 use lib.ListN.{length, replicate, length-replicate}
 use Rattle.model.specs.declared.Tree.{Tree}
 use Rattle.model.specs.declared.State.{State}
+use Rattle.model.specs.declared.Channel.{Channel}
 use Rattle.folds.specs.Fold.{pick, all}
 use Rattle.model.specs.Answer.{numberOf}
 use Rattle.model.specs.Tree.{delayOf, limitOf, budgetOf, waitingOf, admittedOf, returnsOf}
@@ -125,7 +126,7 @@ ones-quick (suc d) n = ones-step n ∙ ap (λ (m : ℕ). n % 2 + m) (ones-quick 
 abbrev pub recordBy : Tree → State → ℕ → ℕ → Bool
 recordBy t s a m =
     pick (ltb a (t .accs))
-    (leb (waitingOf s a + m) (limitOf t a) && leb (admittedOf s a) (budgetOf t a) && onTheWay (delayOf t) (returnsOf s a))
+    (leb (waitingOf s a + m) (limitOf t (s .channel) a) && leb (admittedOf s a) (budgetOf t a) && onTheWay (delayOf t) (returnsOf s a))
     (eqb (waitingOf s a) 0 && eqb (admittedOf s a) 0 && eqb (returnsOf s a) 0)
 
 abbrev pub quickRecord : Tree → State → ℕ → Bool
@@ -160,61 +161,61 @@ leftRead Accepted x d = left (endOf x) (over x d)
 leftRead (Refused r n) x d = left (refusedAt (numberOf r) n) d
 leftRead Broken x d = left (broken 11) d
 
-unfoldable pub quickRan : Tree → List ℕ → ℕ → Left
-quickRan t s n =
+unfoldable pub quickRan : Tree → Channel → List ℕ → ℕ → Left
+quickRan t c s n =
     pick (not (treeKeeps t)) (left (broken 11) (replicate n 7))
     (pick (ltb 65536 n) (left (refusedAt 2 0) (replicate n 7))
-    (leftRead (readTrace t s) (quickTrail n t (start t (requests (lines s)))) (replicate n 7)))
+    (leftRead (readTrace t s) (quickTrail n t (start t c (requests (lines s)))) (replicate n 7)))
 
-module _ (t : Tree) (s : List ℕ) (n : ℕ) where
+module _ (t : Tree) (c : Channel) (s : List ℕ) (n : ℕ) where
   abbrev x : Trail
-  x = runFor t (requests (lines s)) n
+  x = runFor t c (requests (lines s)) n
 
   abbrev d : List ℕ
   d = replicate n 7
 
-  run-quick : quickRan t s n
-      ≡ left (ranOf t s n) (pick (not (treeKeeps t)) d (pick (ltb 65536 n) d (overwritten (readTrace t s) x d)))
+  run-quick : quickRan t c s n
+      ≡ left (ranOf t c s n) (pick (not (treeKeeps t)) d (pick (ltb 65536 n) d (overwritten (readTrace t s) x d)))
   unfolding quickRan ranOf
   run-quick = go (treeKeeps t) refl (ltb 65536 n) (readTrace t s)
     where
-      go : (b : Bool) → treeKeeps t ≡ b → (c : Bool) (r : FileAnswer)
-          → pick (not b) (left (broken 11) d) (pick c (left (refusedAt 2 0) d) (leftRead r (quickTrail n t (start t (requests (lines s)))) d))
-          ≡ left (pick (not b) (broken 11) (pick c (refusedAt 2 0) (answered r x))) (pick (not b) d (pick c d (overwritten r x d)))
-      go false e c r = refl
+      go : (b : Bool) → treeKeeps t ≡ b → (over-size : Bool) (r : FileAnswer)
+          → pick (not b) (left (broken 11) d) (pick over-size (left (refusedAt 2 0) d) (leftRead r (quickTrail n t (start t c (requests (lines s)))) d))
+          ≡ left (pick (not b) (broken 11) (pick over-size (refusedAt 2 0) (answered r x))) (pick (not b) d (pick over-size d (overwritten r x d)))
+      go false e w r = refl
       go true e true r = refl
       go true e false Accepted =
-          ap (λ (y : Trail). left (endOf y) (over y d)) (sym (trail-quick n t (start t (requests (lines s))) (fresh-keeps t e)))
+          ap (λ (y : Trail). left (endOf y) (over y d)) (sym (trail-quick n t (start t c (requests (lines s))) (fresh-keeps t c e)))
       go true e false (Refused r m) = refl
       go true e false Broken = refl
 
-  buffer-quick : quickRan t s n .bytes ≡ bufferAfter t s d
+  buffer-quick : quickRan t c s n .bytes ≡ bufferAfter t c s d
   unfolding bufferAfter
   buffer-quick =
       ap (λ (y : Left). y .bytes) run-quick
-      ∙ ap (λ (m : ℕ). pick (not (treeKeeps t)) d (pick (ltb 65536 m) d (overwritten (readTrace t s) (runFor t (requests (lines s)) m) d)))
+      ∙ ap (λ (m : ℕ). pick (not (treeKeeps t)) d (pick (ltb 65536 m) d (overwritten (readTrace t s) (runFor t c (requests (lines s)) m) d)))
       (sym (length-replicate n 7))
 
 abbrev pub quickly : Figure → Type 0
-quickly (answers t cs xs) = quickAnswers t (freshState t) cs ≡ xs
+quickly (answers t c cs xs) = quickAnswers t (freshState t c) cs ≡ xs
 quickly (answersFrom t s cs xs) = quickAnswers t s cs ≡ xs
 quickly (keeping t s b) = quickKeeps t s ≡ b
-quickly (starting t x) = holds (starting t x)
-quickly (ran t s n e bs) = quickRan t s n ≡ left e (bs ++ replicate (n - length bs) 7)
-quickly (ends t s n e) = quickRan t s n .ending ≡ e
+quickly (starting t c x) = holds (starting t c x)
+quickly (ran t c s n e bs) = quickRan t c s n ≡ left e (bs ++ replicate (n - length bs) 7)
+quickly (ends t c s n e) = quickRan t c s n .ending ≡ e
 quickly (numbers xs ys) = holds (numbers xs ys)
 quickly (bounded t a x) = holds (bounded t a x)
 quickly (printed t ls) = holds (printed t ls)
 quickly (told xs ls) = holds (told xs ls)
 
 quick-holds : (f : Figure) → quickly f → holds f
-quick-holds (answers t cs xs) h = answers-quick t (freshState t) cs ∙ h
+quick-holds (answers t c cs xs) h = answers-quick t (freshState t c) cs ∙ h
 quick-holds (answersFrom t s cs xs) h = answers-quick t s cs ∙ h
 quick-holds (keeping t s b) h = keeps-quick t s ∙ h
-quick-holds (starting t x) h = h
-quick-holds (ran t s n e bs) h =
-    (ap (λ (y : Left). y .ending) (sym (run-quick t s n) ∙ h), sym (buffer-quick t s n) ∙ ap (λ (y : Left). y .bytes) h)
-quick-holds (ends t s n e) h = ap (λ (y : Left). y .ending) (sym (run-quick t s n)) ∙ h
+quick-holds (starting t c x) h = h
+quick-holds (ran t c s n e bs) h =
+    (ap (λ (y : Left). y .ending) (sym (run-quick t c s n) ∙ h), sym (buffer-quick t c s n) ∙ ap (λ (y : Left). y .bytes) h)
+quick-holds (ends t c s n e) h = ap (λ (y : Left). y .ending) (sym (run-quick t c s n)) ∙ h
 quick-holds (numbers xs ys) h = h
 quick-holds (bounded t a x) h = h
 quick-holds (printed t ls) h = h

@@ -1,3 +1,4 @@
 pub mod Figures
 pub mod Clauses
 pub mod Returns
+pub mod Channels

@@ -1,14 +1,14 @@
--- What a run reads of a configuration in each slot, as plain numbers, so that no configuration is copied there.
+-- What a run of a channel reads of a configuration in each slot, as plain numbers, so that no configuration is copied there.
 --
 -- portNumber j p        port p of interconnect j among the 120 ports of fifteen interconnects
 -- interconnects, empty  where in the numbers of what a port carries those of the interconnects begin, and which says: nothing
 -- carriedNumber x       "A port is empty, or carries one accelerator, or one lower interconnect": accelerator a as a,
 --                       interconnect k as `interconnects` + k, nothing as `empty`
--- entryOf t n           entry n of the table of t: what each port carries; the granularity of each interconnect, and the port
---                       of its parent that carries it; the port that carries each accelerator, its outstanding limit and
---                       its budget
+-- entryOf t c n         entry n of the table of t for channel c: what each port carries; the granularity of each interconnect, and the port
+--                       of its parent that carries it; the port that carries each accelerator, its outstanding limit on the channel
+--                       and its budget
 -- entries n f           the numbers f 0, f 1, .. f (n - 1)
--- tableOf t             the table of t
+-- tableOf t c           the table of t for channel c
 -- granularities w, parentPorts w, ownPorts w, limits w, budgets w   the parts of the table w after what the ports carry
 use Prim.Native.Nat.{ℕ, zero, suc, _+_, _-_, _*_, _/_, _%_}
 use mathlib.Core.List.{List, [], _∷_, _++_}
@@ -16,6 +16,7 @@ use lib.ListN.{drop}
 use lib.Dec.{ltb}
 use Rattle.folds.specs.Fold.{pick}
 use Rattle.model.specs.declared.Tree.{Tree}
+use Rattle.model.specs.declared.Channel.{Channel}
 use Rattle.model.specs.declared.Port.{Port}
 use Rattle.model.specs.declared.Port.the-variants.{Empty, Acc, Int}
 use Rattle.model.specs.Tree.{portOf, granularityOf, parentOf, parentPortOf, homeOf, homePortOf, limitOf, budgetOf}
@@ -34,20 +35,20 @@ carriedNumber Empty = empty
 carriedNumber (Acc a) = a
 carriedNumber (Int k) = k + interconnects
 
-unfoldable pub entryOf : Tree → ℕ → ℕ
-entryOf t n =
+unfoldable pub entryOf : Tree → Channel → ℕ → ℕ
+entryOf t c n =
     pick (ltb n 120) (carriedNumber (portOf t (n / 8) (n % 8)))
     (pick (ltb n 135) (granularityOf t (n - 120))
     (pick (ltb n 150) (portNumber (parentOf t (n - 135)) (parentPortOf t (n - 135)))
     (pick (ltb n 182) (portNumber (homeOf t (n - 150)) (homePortOf t (n - 150)))
-    (pick (ltb n 214) (limitOf t (n - 182)) (budgetOf t (n - 214))))))
+    (pick (ltb n 214) (limitOf t c (n - 182)) (budgetOf t (n - 214))))))
 
 unfoldable pub entries : ℕ → (ℕ → ℕ) → List ℕ
 entries zero f = []
 entries (suc n) f = entries n f ++ f n ∷ []
 
-abbrev pub tableOf : Tree → List ℕ
-tableOf t = entries 246 (entryOf t)
+abbrev pub tableOf : Tree → Channel → List ℕ
+tableOf t c = entries 246 (entryOf t c)
 
 abbrev pub granularities : List ℕ → List ℕ
 granularities w = drop 120 w

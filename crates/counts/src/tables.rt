@@ -1,4 +1,4 @@
-// The table of a configuration.
+// The table of a configuration for a channel.
 use crate::BUDGET;
 use crate::EMPTY;
 use crate::GRANULARITY;
@@ -6,10 +6,12 @@ use crate::INTERCONNECTS;
 use crate::LIMIT;
 use crate::OWN_PORT;
 use crate::PARENT_PORT;
+use model::Channel;
 use model::Port;
 use model::Tree;
 use model::access::accelerator_at;
 use model::access::interconnect_at;
+use model::access::limit_of;
 use model::access::port_at;
 ghost use mathlib.Core.Path.{_≡_};
 ghost use Prim.Native.Nat.{_<_};
@@ -32,9 +34,9 @@ fn port_number(j: u8, p: u8) -> u16
 }
 
 // Entry n of the table.
-fn entry_at(t: Tree, n: usize) -> u16
+fn entry_at(t: Tree, channel: Channel, n: usize) -> u16
     requires { ⌜ n < 246 ⌝ }
-    ensures { λ r. ⌜ r ≡ entryOf t n ⌝ }
+    ensures { λ r. ⌜ r ≡ entryOf t channel n ⌝ }
 {
     if n < GRANULARITY {
         return carried_number(port_at(t, (n / 8) as u8, (n % 8) as u8));
@@ -52,22 +54,21 @@ fn entry_at(t: Tree, n: usize) -> u16
         return port_number(x.interconnect, x.port);
     }
     if n < BUDGET {
-        let x = accelerator_at(t, (n - LIMIT) as u8);
-        return x.phi as u16;
+        return limit_of(t, channel, (n - LIMIT) as u8) as u16;
     }
     let x = accelerator_at(t, (n - BUDGET) as u8);
     x.budget
 }
 
-// What a slot reads of the configuration: what each port carries, the granularities, the port that carries each interconnect
+// What a slot of a channel reads of the configuration: what each port carries, the granularities, the port that carries each interconnect
 // and each accelerator, the outstanding limits and the budgets.
-pub fn table_of(t: Tree) -> [u16; 246]
-    ensures { λ r. ⌜ r ≡ tableOf t ⌝ }
+pub fn table_of(t: Tree, channel: Channel) -> [u16; 246]
+    ensures { λ r. ⌜ r ≡ tableOf t channel ⌝ }
 {
     let mut table = [0u16; 246];
     let mut n: usize = 0;
     while n < 246 {
-        table[n] = entry_at(t, n);
+        table[n] = entry_at(t, channel, n);
         n += 1;
     }
     table

@@ -2,6 +2,7 @@
 use answercheck::OURS;
 use answercheck::same_figures;
 use bounds::BoundAnswer;
+use callcheck::channel_of;
 use model::Tree;
 use runner::RunAnswer;
 use second::Said;
@@ -44,10 +45,10 @@ pub fn fill(out: &mut [u8]) {
     }
 }
 
-// The library's run, its answer in the second implementation's terms.
-fn run_library(t: Tree, trace: &[u8], out: &mut [u8]) -> Ended {
+// The library's run on a channel, its answer in the second implementation's terms.
+fn run_library(t: Tree, channel: usize, trace: &[u8], out: &mut [u8]) -> Ended {
     fill(out);
-    match runner::run(t, trace, out) {
+    match runner::run(t, channel_of(channel), trace, out) {
         RunAnswer::Refused(r, line) => refused(model::number(r) as usize, line as usize),
         RunAnswer::Broken => refused(11, 0),
         RunAnswer::Done(n) => run_end(true, n as usize),
@@ -56,22 +57,29 @@ fn run_library(t: Tree, trace: &[u8], out: &mut [u8]) -> Ended {
 }
 
 // The library's run over the first n bytes.
-pub fn library_run(t: Tree, trace: &[u8], out: &mut [u8], n: usize) -> Ended {
+pub fn library_run(t: Tree, channel: usize, trace: &[u8], out: &mut [u8], n: usize) -> Ended {
     if out.len() < n {
         return refused(0, 0);
     }
-    run_library(t, trace, &mut out[0..n])
+    run_library(t, channel, trace, &mut out[0..n])
 }
 
-fn run_second(trace: Said, d: &mut [usize; 16384], out: &mut [u8], wrong: usize) -> Ended {
+fn run_second(
+    trace: Said,
+    d: &mut [usize; 16384],
+    channel: usize,
+    out: &mut [u8],
+    wrong: usize,
+) -> Ended {
     fill(out);
-    run_trace(trace, d, out, wrong)
+    run_trace(trace, d, channel, out, wrong)
 }
 
-// The second run, over n bytes from OURS on.
+// The second run on a channel, over n bytes from OURS on.
 pub fn second_run(
     trace: Said,
     d: &mut [usize; 16384],
+    channel: usize,
     out: &mut [u8],
     n: usize,
     wrong: usize,
@@ -80,5 +88,5 @@ pub fn second_run(
     if out.len() < to {
         return refused(0, 0);
     }
-    run_second(trace, d, &mut out[OURS..to], wrong)
+    run_second(trace, d, channel, &mut out[OURS..to], wrong)
 }

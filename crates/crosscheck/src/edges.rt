@@ -1,6 +1,7 @@
 // Inputs that are not generated: the edge list of the reader's own check, document 01's case 11, return delays at their limits,
 // and files and buffers at the size limit.
 use crate::results::CASE11;
+use crate::results::CHANNEL_TURNS;
 use crate::results::DELAY_FILES;
 use crate::results::EDGES;
 use crate::trials::try_file_runs;
@@ -18,28 +19,61 @@ use generator::size;
 use lines::FileAnswer;
 use reader::read_tree;
 use second::NO_WRONG_RULE;
+use second::book::READ;
 use second::book::read_book;
 use store::add;
+use store::get;
 
-// A trace on a tree file that is accepted, run over a buffer of this size.
-fn try_on(tree: &[u8], s: &[u8], d: &mut [usize; 16384], out: &mut [u8; 131074], size: usize) {
-    read_book(tree, d, NO_WRONG_RULE);
-    let r = read_tree(tree);
-    try_file_runs(tree, r.tree, s, d, out, size);
+// The channel whose turn it is.
+fn next_channel(d: &mut [usize; 16384]) -> usize {
+    add(d, CHANNEL_TURNS, 0, 1);
+    get(d, CHANNEL_TURNS, 0) % 2
 }
 
-// A tree file; or a trace on the tree of document 01's report, and on that tree with a return delay.
-fn try_file(s: &[u8], is_tree: bool, d: &mut [usize; 16384], out: &mut [u8; 131074], size: usize) {
+// A trace on a tree file that is accepted, run over a buffer of this size.
+fn try_on(
+    tree: &[u8],
+    channel: usize,
+    s: &[u8],
+    d: &mut [usize; 16384],
+    out: &mut [u8; 131074],
+    size: usize,
+) {
+    read_book(tree, d, NO_WRONG_RULE);
+    let r = read_tree(tree);
+    try_file_runs(tree, r.tree, channel, s, d, out, size);
+}
+
+// A trace on the tree of document 01's report, and on that tree with a return delay.
+fn try_trace_file(
+    channel: usize,
+    s: &[u8],
+    d: &mut [usize; 16384],
+    out: &mut [u8; 131074],
+    size: usize,
+) {
+    let tree =
+        b"bus\t8\t1\t4\t2\t2\t30\t25\t1\t1\t16\nint\t0\t-\t-\t1\nacc\t0\t0\t0\t4\t2\t10\t5\t1000\t2000\nacc\t1\t0\t3\t4\t2\t1\t0\t0\t100\n";
+    try_on(tree, channel, s, d, out, size);
+    let late =
+        b"bus\t8\t1\t4\t2\t2\t30\t25\t1\t1\t16\t15\nint\t0\t-\t-\t1\nacc\t0\t0\t0\t3\t2\t10\t5\t1000\t2000\nacc\t1\t0\t3\t1\t2\t1\t0\t0\t100\n";
+    try_on(late, channel, s, d, out, size);
+}
+
+// A tree file, or a trace for a channel.
+fn try_file(
+    s: &[u8],
+    is_tree: bool,
+    channel: usize,
+    d: &mut [usize; 16384],
+    out: &mut [u8; 131074],
+    size: usize,
+) {
     if is_tree {
         try_tree(s, d, out);
         return;
     }
-    let tree =
-        b"bus\t8\t1\t4\t2\t2\t30\t25\t1\t1\t16\nint\t0\t-\t-\t1\nacc\t0\t0\t0\t4\t2\t10\t5\t1000\t2000\nacc\t1\t0\t3\t4\t2\t1\t0\t0\t100\n";
-    try_on(tree, s, d, out, size);
-    let late =
-        b"bus\t8\t1\t4\t2\t2\t30\t25\t1\t1\t16\t15\nint\t0\t-\t-\t1\nacc\t0\t0\t0\t3\t2\t10\t5\t1000\t2000\nacc\t1\t0\t3\t1\t2\t1\t0\t0\t100\n";
-    try_on(late, s, d, out, size);
+    try_trace_file(channel, s, d, out, size);
 }
 
 // The listed file whose heading is at `at`; where the next heading is.
@@ -58,7 +92,8 @@ fn try_next(s: &[u8], at: usize, d: &mut [usize; 16384], out: &mut [u8; 131074])
         return n;
     }
     let to = from + size;
-    try_file(&s[from..to], s[at] == 116, d, out, 64);
+    let channel = next_channel(d);
+    try_file(&s[from..to], s[at] == 116, channel, d, out, 64);
     add(d, EDGES, 0, 1);
     to
 }
@@ -93,7 +128,8 @@ fn try_delay(w: &mut [u8; 16384], d: &mut [usize; 16384], out: &mut [u8; 131074]
     let t = r.tree;
     try_machine(t, d);
     let s = b"o\t0\t0\t16\no\t0\t1\t9\no\t40\t0\t5\n";
-    try_file_runs(file_in(w, n), t, s, d, out, 200);
+    let channel = next_channel(d);
+    try_file_runs(file_in(w, n), t, channel, s, d, out, 200);
 }
 
 // Return delays at their limits, left out and wrong.
@@ -116,15 +152,16 @@ fn try_made(w: &[u8; 16384], d: &mut [usize; 16384], out: &mut [u8; 131074]) {
     let n = size(d);
     let r = try_tree(file_in(w, n), d, out);
     let t = r.tree;
-    try_file_runs(file_in(w, n), t, b"o\t0\t31\t16\n", d, out, 64);
+    let channel = next_channel(d);
+    try_file_runs(file_in(w, n), t, channel, b"o\t0\t31\t16\n", d, out, 64);
     let all = b"o\t0\t0\t9\no\t0\t30\t2\no\t1\t31\t16\n";
-    try_file_runs(file_in(w, n), t, all, d, out, 64);
+    try_file_runs(file_in(w, n), t, channel, all, d, out, 64);
 }
 
 fn try_long_file(page: &mut [u8], i: usize, d: &mut [usize; 16384], out: &mut [u8; 131074]) {
     let n = long_file(page, i);
     if n <= page.len() {
-        try_file(&page[0..n], 4 < i, d, out, 500);
+        try_file(&page[0..n], 4 < i, READ, d, out, 500);
     }
 }
 
@@ -134,6 +171,6 @@ pub fn try_long(page: &mut [u8], d: &mut [usize; 16384], out: &mut [u8; 131074])
         try_long_file(page, i, d, out);
     }
     let late = b"o\t0\t0\t16\no\t65534\t1\t3\n";
-    try_file(late, false, d, out, 65536);
-    try_file(late, false, d, out, 65537);
+    try_trace_file(READ, late, d, out, 65536);
+    try_trace_file(READ, late, d, out, 65537);
 }

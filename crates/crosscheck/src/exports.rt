@@ -2,6 +2,7 @@
 use crate::compare::fill;
 use crate::compare::second_run;
 use crate::results::EXPORTS;
+use crate::results::NO_CHANNEL;
 use crate::results::REWRITINGS;
 use crate::whys::Question;
 use crate::whys::next_question;
@@ -137,28 +138,49 @@ fn try_rewritings(tree: &[u8], s: Said, d: &mut [usize; 16384], out: &mut [u8; 1
     try_rewriting(tree, s, d, out, size);
 }
 
-// A tree that is refused comes before its trace, and leaves the buffer of a run and of a wait.
-fn try_refused(tree: &[u8], s: Said, d: &mut [usize; 16384]) {
-    let reading = razhikum_read_trace(tree, b"x");
-    note(d, DIFFERENCES, 0, same_reading(reading, 1, s));
+// A run and a wait on a channel that are refused so, and leave the buffer.
+fn try_refusal(
+    tree: &[u8],
+    channel: u8,
+    trace: &[u8],
+    kind: usize,
+    s: Said,
+    d: &mut [usize; 16384],
+) {
     let mut theirs = [46u8; 8];
     let ours = [46u8; 8];
-    let x = razhikum_run(tree, b"x", &mut theirs);
+    let x = razhikum_run(tree, channel, trace, &mut theirs);
     let e = refused(s.number, s.line);
     note(
         d,
         DIFFERENCES,
         0,
-        same_outcome(x, 2, e) & same_slices(&theirs, &ours),
+        same_outcome(x, kind, e) & same_slices(&theirs, &ours),
     );
-    let y = razhikum_why(tree, b"x", 0, 1, &mut theirs);
+    let y = razhikum_why(tree, channel, trace, 0, 1, &mut theirs);
     let w = told_by(s.number, s.line, 0, 0);
     note(
         d,
         DIFFERENCES,
         0,
-        same_wait(y, 2, w) & same_slices(&theirs, &ours),
+        same_wait(y, kind, w) & same_slices(&theirs, &ours),
     );
+}
+
+// A channel that there is not comes before both files, whatever they are.
+fn try_no_channel(tree: &[u8], trace: &[u8], d: &mut [usize; 16384]) {
+    let s = Said { number: 2, line: 0 };
+    try_refusal(tree, 2, trace, 4, s, d);
+    try_refusal(tree, 255, trace, 4, s, d);
+    add(d, NO_CHANNEL, 0, 4);
+}
+
+// A tree that is refused comes before its trace, and leaves the buffer of a run and of a wait, on both channels in turn.
+fn try_refused(tree: &[u8], s: Said, d: &mut [usize; 16384]) {
+    let reading = razhikum_read_trace(tree, b"x");
+    note(d, DIFFERENCES, 0, same_reading(reading, 1, s));
+    let turn = (get(d, EXPORTS, 5) % 2) as u8;
+    try_refusal(tree, turn, b"x", 2, s, d);
     add(d, EXPORTS, 0, 1);
     add(d, EXPORTS, 5, 1);
     add(d, EXPORTS, 7, 1);
@@ -173,13 +195,19 @@ pub fn try_tree_exports(tree: &[u8], s: Said, d: &mut [usize; 16384], out: &mut 
     try_bounds(tree, s, d);
     try_report(tree, s, d);
     try_rewritings(tree, s, d, out);
+    try_no_channel(tree, b"x", d);
     if s.number != 0 {
         try_refused(tree, s, d);
     }
 }
 
-// The exported run over the first n bytes.
-fn exported_run(tree: &[u8], trace: &[u8], out: &mut [u8], n: usize) -> Outcome {
+// The number of a channel in an export.
+fn exported_channel(channel: usize) -> u8 {
+    (channel % 2) as u8
+}
+
+// The exported run on a channel over the first n bytes.
+fn exported_run(tree: &[u8], channel: usize, trace: &[u8], out: &mut [u8], n: usize) -> Outcome {
     if out.len() < n {
         return Outcome {
             kind: 255,
@@ -188,17 +216,24 @@ fn exported_run(tree: &[u8], trace: &[u8], out: &mut [u8], n: usize) -> Outcome 
             slots: 0,
         };
     }
-    run_filled(tree, trace, &mut out[0..n])
+    run_filled(tree, channel, trace, &mut out[0..n])
 }
 
-fn run_filled(tree: &[u8], trace: &[u8], out: &mut [u8]) -> Outcome {
+fn run_filled(tree: &[u8], channel: usize, trace: &[u8], out: &mut [u8]) -> Outcome {
     fill(out);
-    razhikum_run(tree, trace, out)
+    razhikum_run(tree, exported_channel(channel), trace, out)
 }
 
 fn why_filled(tree: &[u8], trace: &[u8], q: Question, out: &mut [u8]) -> Wait {
     fill(out);
-    razhikum_why(tree, trace, q.accelerator, q.number, out)
+    razhikum_why(
+        tree,
+        exported_channel(q.channel),
+        trace,
+        q.accelerator,
+        q.number,
+        out,
+    )
 }
 
 // The exported answer why a transaction waited, over the first bytes.
@@ -213,6 +248,7 @@ fn exported_why(tree: &[u8], trace: &[u8], q: Question, out: &mut [u8]) -> Wait 
 // A question to accelerator a of the trace, which the tree may not have.
 fn try_wait(
     tree: &[u8],
+    channel: usize,
     trace: &[u8],
     s: Said,
     d: &mut [usize; 16384],
@@ -221,7 +257,7 @@ fn try_wait(
     out: &mut [u8; 131074],
 ) {
     let turn = get(d, EXPORTS, 6);
-    let q = next_question(d, past, a, turn, out);
+    let q = next_question(channel, d, past, a, turn, out);
     let x = exported_why(tree, trace, q, out);
     let w = second_why(s, d, past, q, out, NO_WRONG_RULE);
     note(
@@ -234,25 +270,42 @@ fn try_wait(
 }
 
 // A question to each trace, unless its run goes on after these slots; its accelerators and one past the last come in turn.
-fn try_waits(tree: &[u8], trace: &[u8], s: Said, d: &mut [usize; 16384], out: &mut [u8; 131074]) {
+fn try_waits(
+    tree: &[u8],
+    channel: usize,
+    trace: &[u8],
+    s: Said,
+    d: &mut [usize; 16384],
+    out: &mut [u8; 131074],
+) {
     let a = get(d, EXPORTS, 6) % (accs(d) % 255 + 1);
     let mut slots = [0usize; 1000];
     if s.number != 0 {
         let none = &slots[..];
-        try_wait(tree, trace, s, d, &none[0..0], (a % 256) as u8, out);
+        try_wait(
+            tree,
+            channel,
+            trace,
+            s,
+            d,
+            &none[0..0],
+            (a % 256) as u8,
+            out,
+        );
         return;
     }
-    let n = keep_run(d, &mut slots) % 1001;
+    let n = keep_run(d, channel, &mut slots) % 1001;
     if n < 1000 {
         let all = &slots[..];
-        try_wait(tree, trace, s, d, &all[0..n], (a % 256) as u8, out);
+        try_wait(tree, channel, trace, s, d, &all[0..n], (a % 256) as u8, out);
     }
 }
 
-// A trace file on an accepted tree file, on which the second reader says s; the log has its lines. It is read, run over n bytes,
-// and asked for a wait.
+// A trace file on an accepted tree file, on which the second reader says s; the log has its lines. It is read, run on a channel over n
+// bytes, and asked for a wait; and it is given to a channel that there is not.
 pub fn try_trace_exports(
     tree: &[u8],
+    channel: usize,
     trace: &[u8],
     s: Said,
     d: &mut [usize; 16384],
@@ -262,8 +315,8 @@ pub fn try_trace_exports(
     let reading = razhikum_read_trace(tree, trace);
     note(d, DIFFERENCES, 0, same_reading(reading, 2, s));
     add(d, EXPORTS, 0, 1);
-    let x = exported_run(tree, trace, out, n);
-    let e = second_run(s, d, out, n, NO_WRONG_RULE);
+    let x = exported_run(tree, channel, trace, out, n);
+    let e = second_run(s, d, channel, out, n, NO_WRONG_RULE);
     note(
         d,
         DIFFERENCES,
@@ -271,5 +324,6 @@ pub fn try_trace_exports(
         same_outcome(x, kind_of(e), e) & same_bytes(out, n),
     );
     add(d, EXPORTS, 4, 1);
-    try_waits(tree, trace, s, d, out);
+    try_waits(tree, channel, trace, s, d, out);
+    try_no_channel(tree, trace, d);
 }

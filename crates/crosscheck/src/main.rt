@@ -23,13 +23,14 @@ use callcheck::try_machine;
 use generator::buffer_size;
 use generator::file_in;
 use generator::made;
+use generator::number_below;
 use generator::start;
 use generator::trace_file;
 use generator::tree_file;
 use libc::STDIN_FILENO;
 use lines::FileAnswer;
 
-// A generated tree, in w, and, if it is accepted, a generated trace, in v.
+// A generated tree, in w, and, if it is accepted, a generated trace for one of the channels, in v.
 fn try_pair(
     w: &mut [u8; 16384],
     v: &mut [u8; 16384],
@@ -45,10 +46,11 @@ fn try_pair(
     };
     let t = r.tree;
     try_machine(t, d);
-    trace_file(v, d, t.accs as usize);
-    try_altered(t, made(v, d), d, out);
+    let channel = number_below(d, 2);
+    trace_file(v, d, t.accs as usize, channel);
+    try_altered(t, channel, made(v, d), d, out);
     let size = buffer_size(d);
-    try_file_runs(file_in(w, n), t, made(v, d), d, out, size);
+    try_file_runs(file_in(w, n), t, channel, made(v, d), d, out, size);
 }
 
 // The generated inputs, case 11, the return delay's limits, and the widest trees.

@@ -7,23 +7,33 @@ use alter::tangle::UNUSED_ACCELERATOR;
 use alter::tangle::UNUSED_INTERCONNECT;
 use alter::tangle::UNUSED_PORT;
 use callcheck::BROKEN;
+use callcheck::CHANGED;
 use callcheck::HELD_BACK;
+use callcheck::JOBLESS_AS_KEPT;
+use callcheck::JOBLESS_BROKEN;
 use callcheck::KEPT;
 use callcheck::OFFERS;
 use callcheck::SLOTS as SLOT_CALLS;
 use callcheck::STARTS;
+use callcheck::WRITE_STARTS;
 use callcheck::returns::AT_ONCE;
 use callcheck::returns::EARLIER;
 use callcheck::returns::IN_EACH;
 use callcheck::returns::ONE_MORE;
 use callcheck::returns::TOO_FAR;
 use callcheck::returns::UNUSED;
+use callcheck::states::BUDGET_PASSED;
+use callcheck::states::BUDGET_USED;
+use callcheck::states::ONE_RETURNS;
+use callcheck::states::ONE_WAITS;
 use libc::STDOUT_FILENO;
 use second::ADMITTED_LATE;
 use second::AS_READ;
+use second::BOTH_COUNT;
 use second::BUDGET_FIRST;
 use second::BY_NUMBER;
 use second::DONE_AT_HOME;
+use second::DONE_HOLDING;
 use second::DUE_NOW;
 use second::FALLING_FIRST;
 use second::FROM_ZERO;
@@ -32,6 +42,10 @@ use second::HALF_PAIR;
 use second::HOME_AT_WINDOW;
 use second::HOME_EARLY;
 use second::HOME_LATE;
+use second::JOB_FIRST;
+use second::JOB_LAST;
+use second::JOBLESS_ADMITTED;
+use second::JOBLESS_KEPT;
 use second::LAST_FIRST;
 use second::LONG_FIRST;
 use second::LOWER_RESET;
@@ -40,6 +54,7 @@ use second::NO_PORT_7;
 use second::NOT_OUTSTANDING;
 use second::NUMBER_FIRST;
 use second::ORDER_FIRST;
+use second::OTHER_CHANNEL;
 use second::OWN_MEETS;
 use second::OWN_PORT;
 use second::ROOT_MEETS;
@@ -150,8 +165,25 @@ pub const WRITINGS: usize = 3392;
 // Exported writings by the number of their answer on an accepted tree; at 1 those refused by the tree.
 pub const REWRITINGS: usize = 3408;
 
+// Accelerators of accepted trees by their jobs: 0 with reads and writes, 1 with writes only, 2 with reads only, 3 with neither.
+pub const JOBS: usize = 3440;
+
+// Runs that hold requests of an accelerator without a job on the channel, and runs on the write channel.
+pub const STUCK: usize = 3444;
+
+pub const WRITE_RUNS: usize = 3445;
+
+// Questions of the write channel.
+pub const WRITE_WHYS: usize = 3446;
+
+// Exported runs and waits on a channel that there is not.
+pub const NO_CHANNEL: usize = 3447;
+
+// Listed inputs whose turn chose the channel.
+pub const CHANNEL_TURNS: usize = 3448;
+
 // What the program writes: a label to each line,
-const LABELS: [u8; 4020] = *b"trees accepted\n\
+const LABELS: [u8; 4847] = *b"trees accepted\n\
     trees accepted, 1 level\n\
     trees accepted, 2 levels\n\
     trees accepted, 3 levels\n\
@@ -161,6 +193,10 @@ const LABELS: [u8; 4020] = *b"trees accepted\n\
     trees accepted, 32 accelerators\n\
     trees accepted, return delay above 0\n\
     trees accepted, return delay 15\n\
+    their jobs with reads and writes\n\
+    their jobs with reads only\n\
+    their jobs with writes only\n\
+    their jobs with neither\n\
     trees refused by 1\n\
     trees refused by 2\n\
     trees refused by 3\n\
@@ -178,6 +214,8 @@ const LABELS: [u8; 4020] = *b"trees accepted\n\
     bounds\n\
     runs done\n\
     runs stopped\n\
+    runs stopped, requests held without a job\n\
+    runs on the write channel\n\
     runs refused by 1\n\
     runs refused by 2\n\
     runs refused by 6\n\
@@ -188,12 +226,14 @@ const LABELS: [u8; 4020] = *b"trees accepted\n\
     bytes of the buffers\n\
     starts\n\
     starts refused by 11\n\
+    starts on the write channel\n\
     offers admitted one by one\n\
     offers refused by 7\n\
     offers refused by 8\n\
     offers refused by 8, fewer than phi waiting\n\
     offers refused by 9\n\
     offers refused by 11\n\
+    offers refused by 14\n\
     slots served one by one\n\
     slots idle\n\
     slots refused by 10\n\
@@ -218,6 +258,12 @@ const LABELS: [u8; 4020] = *b"trees accepted\n\
     returns put in: one due earlier\n\
     returns put in: one due too far ahead\n\
     returns put in: one of an unused accelerator\n\
+    channel changed, state kept\n\
+    channel changed, state broken\n\
+    without a job: its budget used, state kept\n\
+    without a job: above its budget\n\
+    without a job: one waiting\n\
+    without a job: one returning\n\
     requests looked up line by line\n\
     runs asked for waits of every accelerator\n\
     waits told\n\
@@ -230,6 +276,7 @@ const LABELS: [u8; 4020] = *b"trees accepted\n\
     waits refused by 7\n\
     waits refused by 11\n\
     waits refused by 12\n\
+    waits asked on the write channel\n\
     trees written back\n\
     trees written back, a return delay of 0 dropped\n\
     other texts of these trees\n\
@@ -245,6 +292,7 @@ const LABELS: [u8; 4020] = *b"trees accepted\n\
     exports: runs refused by the tree\n\
     exports: waits on an accepted tree\n\
     exports: waits refused by the tree\n\
+    exports: runs and waits refused by the channel\n\
     exports: writings done\n\
     exports: writings refused by 2\n\
     exports: writings refused by 13\n\
@@ -281,10 +329,17 @@ const LABELS: [u8; 4020] = *b"trees accepted\n\
     wrong: 2 tested before 11, writings seen\n\
     wrong: 13 tested before 11, writings seen\n\
     wrong: written and then refused by 13, writings seen\n\
+    wrong: phi counted on both channels, trees seen\n\
+    wrong: 14 tested after 8, offers seen\n\
+    wrong: 14 tested before 7, offers seen\n\
+    wrong: one waiting without a job kept, offers and slots seen\n\
+    wrong: the other channel's job, offers and runs seen\n\
+    wrong: admitted without a job, runs seen\n\
+    wrong: done though held without a job, runs seen\n\
     differences\n";
 
 // and where its count stands.
-const PLACES: [usize; 131] = [
+const PLACES: [usize; 154] = [
     TREES,
     LEVELS + 1,
     LEVELS + 2,
@@ -295,6 +350,10 @@ const PLACES: [usize; 131] = [
     SIZES + 1,
     DELAYED,
     DELAYED + 1,
+    JOBS,
+    JOBS + 2,
+    JOBS + 1,
+    JOBS + 3,
     TREES + 1,
     TREES + 2,
     TREES + 3,
@@ -312,6 +371,8 @@ const PLACES: [usize; 131] = [
     BOUNDS,
     DONE,
     STOPPED,
+    STUCK,
+    WRITE_RUNS,
     RUN_REFUSALS + 1,
     RUN_REFUSALS + 2,
     RUN_REFUSALS + 6,
@@ -322,12 +383,14 @@ const PLACES: [usize; 131] = [
     BUFFERS,
     STARTS,
     STARTS + 11,
+    WRITE_STARTS,
     OFFERS,
     OFFERS + 7,
     OFFERS + 8,
     HELD_BACK,
     OFFERS + 9,
     OFFERS + 11,
+    OFFERS + 14,
     SLOT_CALLS,
     SLOT_CALLS + 1,
     SLOT_CALLS + 10,
@@ -352,6 +415,12 @@ const PLACES: [usize; 131] = [
     BROKEN + EARLIER,
     BROKEN + TOO_FAR,
     BROKEN + UNUSED,
+    CHANGED + 1,
+    CHANGED,
+    JOBLESS_AS_KEPT + BUDGET_USED,
+    JOBLESS_BROKEN + BUDGET_PASSED,
+    JOBLESS_BROKEN + ONE_WAITS,
+    JOBLESS_BROKEN + ONE_RETURNS,
     REQUESTS,
     RUNS_ASKED,
     WHYS,
@@ -364,6 +433,7 @@ const PLACES: [usize; 131] = [
     WHYS + 7,
     WHYS + 11,
     WHYS + 12,
+    WRITE_WHYS,
     WRITTEN,
     ZEROS,
     TEXTS,
@@ -379,6 +449,7 @@ const PLACES: [usize; 131] = [
     EXPORTS + 5,
     EXPORTS + 6,
     EXPORTS + 7,
+    NO_CHANNEL,
     REWRITINGS,
     REWRITINGS + 2,
     REWRITINGS + 13,
@@ -415,6 +486,13 @@ const PLACES: [usize; 131] = [
     WRONG + LONG_FIRST,
     WRONG + SHORT_FIRST,
     WRONG + WRITTEN_SHORT,
+    WRONG + BOTH_COUNT,
+    WRONG + JOB_LAST,
+    WRONG + JOB_FIRST,
+    WRONG + JOBLESS_KEPT,
+    WRONG + OTHER_CHANNEL,
+    WRONG + JOBLESS_ADMITTED,
+    WRONG + DONE_HOLDING,
     DIFFERENCES,
 ];
 
@@ -438,7 +516,7 @@ fn show_line(labels: &[u8], from: usize, n: usize) -> usize {
 pub fn show(d: &[usize; 16384]) {
     let labels = LABELS;
     let mut from = 0;
-    for i in 0..131 {
+    for i in 0..154 {
         from = show_line(&labels, from, get(d, PLACES[i], 0));
     }
 }

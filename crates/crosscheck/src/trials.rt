@@ -11,17 +11,20 @@ use crate::results::BOUNDS;
 use crate::results::BUFFERS;
 use crate::results::DELAYED;
 use crate::results::DONE;
+use crate::results::JOBS;
 use crate::results::LEVELS;
 use crate::results::REQUESTS;
 use crate::results::RUN_REFUSALS;
 use crate::results::SIZES;
 use crate::results::SLOTS;
 use crate::results::STOPPED;
+use crate::results::STUCK;
 use crate::results::TANGLED;
 use crate::results::TRACES;
 use crate::results::TREES;
 use crate::results::VARIED;
 use crate::results::WINDOWS;
+use crate::results::WRITE_RUNS;
 use crate::results::ZEROS;
 use crate::walked::same_requests;
 use crate::whys::try_whys;
@@ -39,23 +42,31 @@ use generator::number_below;
 use model::Tree;
 use placing::TreeRead;
 use reader::read_tree;
+use second::BOTH_COUNT;
+use second::DONE_HOLDING;
 use second::DUE_NOW;
 use second::FALLING_FIRST;
 use second::NESTED;
 use second::NO_WRONG_RULE;
 use second::NOT_OUTSTANDING;
 use second::ORDER_FIRST;
+use second::OTHER_CHANNEL;
 use second::OWN_PORT;
 use second::SIZE_FIRST;
 use second::Said;
 use second::TRACE_FIRST;
 use second::UNKNOWN_FIRST;
 use second::WHOLE_RUN;
+use second::book::READ;
+use second::book::WRITE;
 use second::book::cell;
 use second::book::deepest;
+use second::book::is_jobless;
+use second::book::other;
 use second::book::read_book;
 use second::book::varied;
 use second::queues::Ended;
+use second::queues::is_stuck;
 use second::queues::run_refusal;
 use second::requests::lines;
 use second::requests::read_log;
@@ -79,17 +90,47 @@ fn count_delay(delay: u8, d: &mut [usize; 16384]) {
     }
 }
 
+// What the job of accelerator a has: 0 reads and writes, 1 writes only, 2 reads only, 3 neither.
+fn job_kind(d: &[usize; 16384], a: usize) -> usize {
+    let no_writes = is_jobless(d, a, WRITE, NO_WRONG_RULE);
+    if !is_jobless(d, a, READ, NO_WRONG_RULE) {
+        return if no_writes { 2 } else { 0 };
+    }
+    if no_writes { 3 } else { 1 }
+}
+
+// The jobs of an accepted tree.
+fn count_jobs(accs: usize, d: &mut [usize; 16384]) {
+    for a in 0..32 {
+        if a < accs {
+            let kind = job_kind(d, a);
+            add(d, JOBS, kind, 1);
+        }
+    }
+}
+
+// Does a wrong rule change a bound of the tree?
+fn note_bounds(t: Tree, d: &mut [usize; 16384], wrong: usize) {
+    let same = same_bounds(t, d, wrong);
+    note(d, WRONG, wrong, same);
+}
+
+// The bounds of an accepted tree.
+fn try_bounds(t: Tree, d: &mut [usize; 16384]) {
+    let right = same_bounds(t, d, NO_WRONG_RULE);
+    note(d, DIFFERENCES, 0, right);
+    note_bounds(t, d, OWN_PORT);
+    note_bounds(t, d, NESTED);
+    note_bounds(t, d, BOTH_COUNT);
+    add(d, BOUNDS, 0, t.accs as usize + 1);
+}
+
 // An accepted tree: its entries and its bounds.
 fn try_content(t: Tree, d: &mut [usize; 16384]) {
     let tree = same_tree(t, d);
     note(d, DIFFERENCES, 0, tree);
-    let right = same_bounds(t, d, NO_WRONG_RULE);
-    note(d, DIFFERENCES, 0, right);
-    let own_port = same_bounds(t, d, OWN_PORT);
-    note(d, WRONG, OWN_PORT, own_port);
-    let nested = same_bounds(t, d, NESTED);
-    note(d, WRONG, NESTED, nested);
-    add(d, BOUNDS, 0, t.accs as usize + 1);
+    try_bounds(t, d);
+    count_jobs(t.accs as usize, d);
     let levels = deepest(d);
     add(d, LEVELS, levels, 1);
     if varied(d) {
@@ -162,6 +203,9 @@ fn count_run(e: Ended, d: &mut [usize; 16384]) {
     } else {
         add(d, STOPPED, 0, 1);
     }
+    if is_stuck(d) {
+        add(d, STUCK, 0, 1);
+    }
     add(d, SLOTS, 0, e.slots);
     let window = cell(d, 0, 0);
     if window != 0 {
@@ -173,6 +217,7 @@ fn count_run(e: Ended, d: &mut [usize; 16384]) {
 fn try_wrong_runs(
     said: Said,
     d: &mut [usize; 16384],
+    channel: usize,
     out: &mut [u8; 131074],
     right: Ended,
     n: usize,
@@ -180,7 +225,7 @@ fn try_wrong_runs(
     to: usize,
 ) {
     for wrong in from..to {
-        let e = second_run(said, d, out, n, wrong);
+        let e = second_run(said, d, channel, out, n, wrong);
         note(d, WRONG, wrong, same_end(e, right) & same_bytes(out, n));
     }
 }
@@ -196,44 +241,70 @@ fn note_order(said: Said, d: &mut [usize; 16384], right: Ended, n: usize, wrong:
     );
 }
 
-// A run over n bytes of each buffer; the slots used if it is done, else 0.
+// A run on a channel over n bytes of each buffer; what the library answers.
+fn same_run(
+    t: Tree,
+    channel: usize,
+    s: &[u8],
+    said: Said,
+    d: &mut [usize; 16384],
+    out: &mut [u8; 131074],
+    n: usize,
+) -> Ended {
+    let right = library_run(t, channel, s, out, n);
+    let e = second_run(said, d, channel, out, n, NO_WRONG_RULE);
+    note(d, DIFFERENCES, 0, same_end(e, right) & same_bytes(out, n));
+    count_run(e, d);
+    add(d, WRITE_RUNS, 0, channel);
+    add(d, BUFFERS, 0, n);
+    right
+}
+
+// Such a run, and by each wrong rule; the slots used if it is done, else 0.
 fn try_run(
     t: Tree,
+    channel: usize,
     s: &[u8],
     said: Said,
     d: &mut [usize; 16384],
     out: &mut [u8; 131074],
     n: usize,
 ) -> usize {
-    let right = library_run(t, s, out, n);
-    let e = second_run(said, d, out, n, NO_WRONG_RULE);
-    note(d, DIFFERENCES, 0, same_end(e, right) & same_bytes(out, n));
-    count_run(e, d);
-    add(d, BUFFERS, 0, n);
+    let right = same_run(t, channel, s, said, d, out, n);
     note_order(said, d, right, n, SIZE_FIRST);
     note_order(said, d, right, n, TRACE_FIRST);
     if said.number == 0 {
-        try_wrong_runs(said, d, out, right, n, WHOLE_RUN, OWN_PORT);
-        try_wrong_runs(said, d, out, right, n, NOT_OUTSTANDING, DUE_NOW);
+        try_wrong_runs(said, d, channel, out, right, n, WHOLE_RUN, OWN_PORT);
+        try_wrong_runs(said, d, channel, out, right, n, NOT_OUTSTANDING, DUE_NOW);
+        let to = DONE_HOLDING + 1;
+        try_wrong_runs(said, d, channel, out, right, n, OTHER_CHANNEL, to);
     }
-    if e.done { e.slots } else { 0 }
+    if right.done { right.slots } else { 0 }
 }
 
 // A trace, and runs of it: over a buffer of n bytes, and if that is done, over just enough and over one byte less; if it is
-// refused, now and then over a buffer that is too large. What the second reader says of it.
-fn try_runs(t: Tree, s: &[u8], d: &mut [usize; 16384], out: &mut [u8; 131074], n: usize) -> Said {
+// refused, now and then over a buffer that is too large; and on the other channel once. What the second reader says of it.
+fn try_runs(
+    t: Tree,
+    channel: usize,
+    s: &[u8],
+    d: &mut [usize; 16384],
+    out: &mut [u8; 131074],
+    n: usize,
+) -> Said {
     let said = try_trace(t, s, d);
-    let slots = try_run(t, s, said, d, out, n);
+    let slots = try_run(t, channel, s, said, d, out, n);
     if slots != 0 {
-        try_run(t, s, said, d, out, slots);
+        try_run(t, channel, s, said, d, out, slots);
         let short = slots - 1;
-        try_run(t, s, said, d, out, short);
+        try_run(t, channel, s, said, d, out, short);
     }
     if said.number != 0 {
         if number_below(d, 4) == 0 {
-            try_run(t, s, said, d, out, 65537);
+            try_run(t, channel, s, said, d, out, 65537);
         }
     }
+    same_run(t, other(channel), s, said, d, out, n);
     said
 }
 
@@ -241,14 +312,15 @@ fn try_runs(t: Tree, s: &[u8], d: &mut [usize; 16384], out: &mut [u8; 131074], n
 pub fn try_file_runs(
     tree: &[u8],
     t: Tree,
+    channel: usize,
     s: &[u8],
     d: &mut [usize; 16384],
     out: &mut [u8; 131074],
     n: usize,
 ) {
-    let said = try_runs(t, s, d, out, n);
-    try_whys(t, s, said, d, out, n);
-    try_trace_exports(tree, s, said, d, out, n);
+    let said = try_runs(t, channel, s, d, out, n);
+    try_whys(t, channel, s, said, d, out, n);
+    try_trace_exports(tree, channel, s, said, d, out, n);
 }
 
 // A bound of accelerator a, which the tree may not have.
@@ -265,23 +337,24 @@ fn try_bound(t: Tree, a: u8, d: &mut [usize; 16384]) {
 // runs of the trace s and a wait in it. The rows are left with t again.
 fn try_other_tree(
     t: Tree,
-    other: Tree,
+    changed: Tree,
+    channel: usize,
     s: &[u8],
     d: &mut [usize; 16384],
     out: &mut [u8; 131074],
 ) -> bool {
     let state = busy_state(t, d);
-    let keeps = judge(other, d);
+    let keeps = judge(changed, d);
     add(d, ALTERED, keeps as usize, 1);
-    try_other(other, state, d);
-    try_bound(other, 0, d);
-    try_bound(other, 32, d);
+    try_other(changed, state, d);
+    try_bound(changed, 0, d);
+    try_bound(changed, 32, d);
     if keeps {
-        try_written(other, d, out);
+        try_written(changed, d, out);
     } else {
-        try_writings(other, d, out);
-        let said = try_runs(other, s, d, out, 8);
-        try_whys(other, s, said, d, out, 8);
+        try_writings(changed, d, out);
+        let said = try_runs(changed, channel, s, d, out, 8);
+        try_whys(changed, channel, s, said, d, out, 8);
     }
     let back = judge(t, d);
     note(d, DIFFERENCES, 0, back);
@@ -289,10 +362,16 @@ fn try_other_tree(
 }
 
 // The tree t, altered at random and in one of the ways of `tangle`, of which those are counted that break the rules.
-pub fn try_altered(t: Tree, s: &[u8], d: &mut [usize; 16384], out: &mut [u8; 131074]) {
-    try_other_tree(t, altered(t, d), s, d, out);
+pub fn try_altered(
+    t: Tree,
+    channel: usize,
+    s: &[u8],
+    d: &mut [usize; 16384],
+    out: &mut [u8; 131074],
+) {
+    try_other_tree(t, altered(t, d), channel, s, d, out);
     let way = number_below(d, WAYS);
-    if !try_other_tree(t, tangled(t, way, d), s, d, out) {
+    if !try_other_tree(t, tangled(t, way, d), channel, s, d, out) {
         add(d, TANGLED, way, 1);
     }
 }

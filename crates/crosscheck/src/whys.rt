@@ -7,11 +7,13 @@ use crate::results::WHYS;
 use crate::results::WHYS_ASKED;
 use crate::results::WHYS_AT_ONCE;
 use crate::results::WHYS_CUT;
+use crate::results::WRITE_WHYS;
 use answercheck::OURS;
 use answercheck::same_bytes;
 use answercheck::same_told;
 use answercheck::told_by;
 use answercheck::told_of;
+use callcheck::channel_of;
 use model::Tree;
 use second::NO_WRONG_RULE;
 use second::NOT_OUTSTANDING;
@@ -28,8 +30,9 @@ use store::get;
 use store::least;
 use store::note;
 
-// A question: an accelerator, the number of one of its transactions, and the size of the buffer that is lent.
+// A question: a channel, an accelerator, the number of one of its transactions, and the size of the buffer that is lent.
 pub struct Question {
+    pub channel: usize,
     pub accelerator: u8,
     pub number: u32,
     pub size: usize,
@@ -37,7 +40,8 @@ pub struct Question {
 
 fn ask_library(t: Tree, s: &[u8], q: Question, out: &mut [u8]) -> Told {
     fill(out);
-    told_of(waits::why(t, s, q.accelerator, q.number, out))
+    let c = channel_of(q.channel);
+    told_of(waits::why(t, c, s, q.accelerator, q.number, out))
 }
 
 // The library's answer, over the first bytes.
@@ -138,6 +142,7 @@ fn try_why(
         same_told(w, right) & same_bytes(out, q.size),
     );
     count_why(w, q.size, d);
+    add(d, WRITE_WHYS, 0, q.channel);
     if (right.number == 0) | (right.number == 7) {
         try_wrong_whys(said, d, past, q, out, right);
     }
@@ -173,16 +178,18 @@ fn size_lent(i: usize, count: usize) -> usize {
     }
 }
 
-fn question_of(a: u8, k: u32, size: usize) -> Question {
+fn question_of(channel: usize, a: u8, k: u32, size: usize) -> Question {
     Question {
+        channel: channel,
         accelerator: a,
         number: k,
         size: size,
     }
 }
 
-// One of the questions to accelerator a, with a buffer in its turn.
+// One of the questions to accelerator a, with a buffer in its turn; the past is the run on the channel.
 pub fn next_question(
+    channel: usize,
     d: &mut [usize; 16384],
     past: &[usize],
     a: u8,
@@ -191,14 +198,16 @@ pub fn next_question(
 ) -> Question {
     let k = number_asked(i % 6, services(past, a as usize));
     let said = Said { number: 0, line: 0 };
-    let w = second_why(said, d, past, question_of(a, k, 0), out, NO_WRONG_RULE);
+    let q = question_of(channel, a, k, 0);
+    let w = second_why(said, d, past, q, out, NO_WRONG_RULE);
     let turn = get(d, WHYS_ASKED, 0);
     add(d, WHYS_ASKED, 0, 1);
-    question_of(a, k, size_lent(turn % 7, w.count))
+    question_of(channel, a, k, size_lent(turn % 7, w.count))
 }
 
 fn try_number(
     t: Tree,
+    channel: usize,
     s: &[u8],
     d: &mut [usize; 16384],
     past: &[usize],
@@ -206,7 +215,7 @@ fn try_number(
     i: usize,
     out: &mut [u8; 131074],
 ) {
-    let q = next_question(d, past, a, i, out);
+    let q = next_question(channel, d, past, a, i, out);
     let said = Said { number: 0, line: 0 };
     try_why(t, s, said, d, past, q, out);
 }
@@ -214,6 +223,7 @@ fn try_number(
 // Every accelerator, one past the last, and 255: a question to each, another one in each turn.
 fn try_accelerators(
     t: Tree,
+    channel: usize,
     s: &[u8],
     d: &mut [usize; 16384],
     past: &[usize],
@@ -223,22 +233,30 @@ fn try_accelerators(
     for a in 0..33u8 {
         if a <= t.accs {
             let i = std::num::wrapping_add_usize(turn, a as usize);
-            try_number(t, s, d, past, a, i, out);
+            try_number(t, channel, s, d, past, a, i, out);
         }
     }
-    try_number(t, s, d, past, 255, turn, out);
+    try_number(t, channel, s, d, past, 255, turn, out);
 }
 
 // Every question.
-fn try_turns(t: Tree, s: &[u8], d: &mut [usize; 16384], past: &[usize], out: &mut [u8; 131074]) {
+fn try_turns(
+    t: Tree,
+    channel: usize,
+    s: &[u8],
+    d: &mut [usize; 16384],
+    past: &[usize],
+    out: &mut [u8; 131074],
+) {
     for turn in 0..6 {
-        try_accelerators(t, s, d, past, turn, out);
+        try_accelerators(t, channel, s, d, past, turn, out);
     }
 }
 
 // The first transaction of accelerator 0, over buffers at the size limit.
 fn try_largest(
     t: Tree,
+    channel: usize,
     s: &[u8],
     said: Said,
     d: &mut [usize; 16384],
@@ -246,27 +264,35 @@ fn try_largest(
     out: &mut [u8; 131074],
 ) {
     for size in 65536..65538 {
-        try_why(t, s, said, d, past, question_of(0, 1, size), out);
+        try_why(t, s, said, d, past, question_of(channel, 0, 1, size), out);
     }
 }
 
 // The run of a trace that goes on after the first slots takes long. It is asked of if the trace is run over many bytes, and else one
 // in 32 times: then every question.
-fn try_long_run(t: Tree, s: &[u8], d: &mut [usize; 16384], out: &mut [u8; 131074], n: usize) {
+fn try_long_run(
+    t: Tree,
+    channel: usize,
+    s: &[u8],
+    d: &mut [usize; 16384],
+    out: &mut [u8; 131074],
+    n: usize,
+) {
     add(d, LONG_RUNS, 0, 1);
     if (n < 500) & (get(d, LONG_RUNS, 0) % 32 != 0) {
         return;
     }
     let mut slots = [0usize; 65536];
-    let used = keep_run(d, &mut slots) % 65537;
+    let used = keep_run(d, channel, &mut slots) % 65537;
     let all = &slots[..];
-    try_turns(t, s, d, &all[0..used], out);
+    try_turns(t, channel, s, d, &all[0..used], out);
     add(d, RUNS_ASKED, 0, 1);
 }
 
 // An accepted trace on the tree that the rows have: the run is kept once, and questions are asked of it.
 fn try_accepted(
     t: Tree,
+    channel: usize,
     s: &[u8],
     said: Said,
     d: &mut [usize; 16384],
@@ -274,35 +300,44 @@ fn try_accepted(
     n: usize,
 ) {
     let mut slots = [0usize; 1000];
-    let used = keep_run(d, &mut slots) % 1001;
+    let used = keep_run(d, channel, &mut slots) % 1001;
     if used == 1000 {
-        try_long_run(t, s, d, out, n);
+        try_long_run(t, channel, s, d, out, n);
         return;
     }
     let all = &slots[..];
     let past = &all[0..used];
     let turn = get(d, RUNS_ASKED, 0);
-    try_accelerators(t, s, d, past, turn, out);
+    try_accelerators(t, channel, s, d, past, turn, out);
     add(d, RUNS_ASKED, 0, 1);
     if turn % 8 == 0 {
-        try_largest(t, s, said, d, past, out);
+        try_largest(t, channel, s, said, d, past, out);
     }
 }
 
 // A configuration that breaks its rules, or a trace that is refused: no run is kept.
-fn try_refused(t: Tree, s: &[u8], said: Said, d: &mut [usize; 16384], out: &mut [u8; 131074]) {
+fn try_refused(
+    t: Tree,
+    channel: usize,
+    s: &[u8],
+    said: Said,
+    d: &mut [usize; 16384],
+    out: &mut [u8; 131074],
+) {
     let none = [0usize; 1];
     let all = &none[..];
-    try_why(t, s, said, d, &all[0..0], question_of(0, 1, 8), out);
+    let q = question_of(channel, 0, 1, 8);
+    try_why(t, s, said, d, &all[0..0], q, out);
     add(d, WHYS_ASKED, 0, 1);
     if get(d, WHYS_ASKED, 0) % 16 == 0 {
-        try_largest(t, s, said, d, &all[0..0], out);
+        try_largest(t, channel, s, said, d, &all[0..0], out);
     }
 }
 
-// A trace of which the second reader says so, and which is run over n bytes; the log has its lines.
+// A trace of which the second reader says so, and which is run on a channel over n bytes; the log has its lines.
 pub fn try_whys(
     t: Tree,
+    channel: usize,
     s: &[u8],
     said: Said,
     d: &mut [usize; 16384],
@@ -310,8 +345,8 @@ pub fn try_whys(
     n: usize,
 ) {
     if said.number == 0 {
-        try_accepted(t, s, said, d, out, n);
+        try_accepted(t, channel, s, said, d, out, n);
     } else {
-        try_refused(t, s, said, d, out);
+        try_refused(t, channel, s, said, d, out);
     }
 }

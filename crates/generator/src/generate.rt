@@ -21,6 +21,9 @@ const LEVEL: usize = 4112;
 
 const TAKEN: usize = 4160;
 
+// For each channel which accelerators of the last tree have no transactions there: a bit for each.
+const IDLE: usize = 4368;
+
 // No port is free.
 const NONE: usize = 120;
 
@@ -218,6 +221,33 @@ fn int_line(w: &mut [u8; 16384], d: &mut [usize; 16384]) {
     put(d, INTS, 0, std::num::wrapping_add_usize(i, 1));
 }
 
+// The transactions of accelerator a's job on a channel, or none.
+fn put_transactions(
+    w: &mut [u8; 16384],
+    d: &mut [usize; 16384],
+    a: usize,
+    channel: usize,
+    none: bool,
+) {
+    let mut n = mixed(d, 20, 3, 65536);
+    if none {
+        n = 0;
+    }
+    if n == 0 {
+        let idle = get(d, IDLE, channel);
+        put(d, IDLE, channel, idle | (1 << (a % 32)));
+    }
+    put_field(w, d, n, 0, 65535);
+}
+
+// The reads and writes of accelerator a's job: about one job in five has no reads, one in five no writes, and a few have neither.
+fn put_job(w: &mut [u8; 16384], d: &mut [usize; 16384], a: usize) {
+    let kind = below(d, 25);
+    let neither = kind == 0;
+    put_transactions(w, d, a, 0, neither | (kind % 5 == 1));
+    put_transactions(w, d, a, 1, neither | (kind % 5 == 2));
+}
+
 fn acc_line(w: &mut [u8; 16384], d: &mut [usize; 16384], a: usize) {
     let ints = get(d, INTS, 0);
     let at = free_port(d, ints, 4);
@@ -226,8 +256,7 @@ fn acc_line(w: &mut [u8; 16384], d: &mut [usize; 16384], a: usize) {
     put_place(w, d, at);
     put_mostly(w, d, 4, 3, 16);
     put_mostly(w, d, 5, 4, 1024);
-    put_mixed(w, d, 20, 3, 65536);
-    put_mixed(w, d, 20, 3, 65536);
+    put_job(w, d, a);
     put_mixed(w, d, 5000, 3, 4294967296);
     put_mostly(w, d, 1000000, 3, 4294967295);
     put_byte(w, d, 10);
@@ -282,6 +311,7 @@ fn begin(d: &mut [usize; 16384]) {
 // A tree file, in the first half of w.
 pub fn make_tree(w: &mut [u8; 16384], d: &mut [usize; 16384]) {
     begin(d);
+    clear(d, IDLE, 2);
     bus_line(w, d);
     int_lines(w, d);
     acc_lines(w, d);
@@ -307,9 +337,31 @@ fn put_request(w: &mut [u8; 16384], d: &mut [usize; 16384], slot: usize, a: usiz
     put_byte(w, d, 10);
 }
 
-fn request_line(w: &mut [u8; 16384], d: &mut [usize; 16384], slot: usize, accs: usize) {
+// An accelerator below `accs`, at random: the first from there on, going round, that is not skipped.
+fn asked(d: &mut [usize; 16384], accs: usize, skipped: usize) -> usize {
+    let n = accs % 256;
+    if n == 0 {
+        return 0;
+    }
+    let first = below(d, n);
+    for i in 0..32 {
+        let a = std::num::wrapping_add_usize(first, i) % n;
+        if (skipped >> (a % 32)) % 2 == 0 {
+            return a;
+        }
+    }
+    first
+}
+
+fn request_line(
+    w: &mut [u8; 16384],
+    d: &mut [usize; 16384],
+    slot: usize,
+    accs: usize,
+    skipped: usize,
+) {
     let mut at = slot;
-    let mut a = below(d, accs);
+    let mut a = asked(d, accs, skipped);
     if once_in(d, 250) {
         a = std::num::wrapping_add_usize(accs, below(d, 3));
     }
@@ -320,15 +372,25 @@ fn request_line(w: &mut [u8; 16384], d: &mut [usize; 16384], slot: usize, accs: 
     put_request(w, d, at, a);
 }
 
-// A trace file, in the first half of w, for a tree with so many accelerators.
-pub fn make_trace(w: &mut [u8; 16384], d: &mut [usize; 16384], accs: usize) {
+// Those that a trace for a channel leaves out: mostly the accelerators of the last tree that have no transactions there.
+fn left_out(d: &mut [usize; 16384], channel: usize) -> usize {
+    if once_in(d, 4) {
+        return 0;
+    }
+    get(d, IDLE, channel % 2)
+}
+
+// A trace file for a channel, in the first half of w, for a tree with so many accelerators. What is held of one without transactions
+// there is never admitted, so one trace in four asks for any.
+pub fn make_trace(w: &mut [u8; 16384], d: &mut [usize; 16384], accs: usize, channel: usize) {
     begin(d);
+    let skipped = left_out(d, channel);
     let lines = below(d, 30);
     let mut slot = 0;
     for i in 0..30 {
         if i < lines {
             slot = std::num::wrapping_add_usize(slot, stride(d)) % 4294967295;
-            request_line(w, d, slot, accs);
+            request_line(w, d, slot, accs, skipped);
         }
     }
 }

@@ -29,9 +29,10 @@ pub fn tree_file(w: &mut [u8; 16384], d: &mut [usize; 16384]) {
     copy_or_damage(w, d);
 }
 
-// A trace file, in the second half of w, for a tree with so many accelerators; one in four is damaged.
-pub fn trace_file(w: &mut [u8; 16384], d: &mut [usize; 16384], accs: usize) {
-    make_trace(w, d, accs);
+// A trace file for a channel, 0 or 1, in the second half of w, for the last tree made, which has so many accelerators; one in four is
+// damaged.
+pub fn trace_file(w: &mut [u8; 16384], d: &mut [usize; 16384], accs: usize, channel: usize) {
+    make_trace(w, d, accs, channel);
     copy_or_damage(w, d);
 }
 

@@ -15,6 +15,7 @@ use Rattle.model.specs.declared.State.{State}
 use Rattle.model.specs.Tree.{windowOf, budgetOf, waitingOf, admittedOf}
 use Rattle.machine.specs.Machine.{Answer, admitted, served, idle}
 use Rattle.machine.specs.Calls.{Call, offer, slot, step, stateAfter}
+use Rattle.shares.specs.Shares.{shareOf}
 use Rattle.guarantee.specs.Guarantee.{Event, event, eventsOf, Ticket, admittedBy, withoutFirst, queueFrom, startingQueue, queueAfter, slotsIn, admissionsFrom, admissionsIn, upTo, Holds, StillWaits, Guarantee}
 use Rattle.guarantee.specs.Consequences.{WaitsUntilServed, Consequences}
 use Rattle.guarantee.proofs.Queue.{queue-append, absent-nil}
@@ -60,6 +61,7 @@ waits-until-served s = record {
 pub consequences : (t : Tree) (s : State) (cs : List Call) → Guarantee t s cs → Consequences t s cs
 consequences t s cs G = record {
   later-part = λ front back e. guarantee t (stateAfter t s front) back (G .every-state-keeps front back e);
+  same-share = λ front back e a. ap (λ c. shareOf t c a) (G .same-channel front back e);
   slot-not-by-11 = λ front back e. let z : _≡_ {A = ℕ} 11 10 = G .slot-refused-by-10 front back 11 e in omega arith;
   takes-one = λ front back a e.
       ap (λ q. suc (length q)) (served-queue s a front) ∙ one-less (queueAfter s a front) (G .first-is-there front back a e);

@@ -5,20 +5,20 @@ use mathlib.Core.Bool.{Bool, true, false}
 use mathlib.Core.List.{List, _++_}
 use mathlib.Core.Logic.{_↔_}
 use mathlib.Core.Path.{_≡_, refl, sym, _∙_, ap, subst}
-use native.Mathlib.Decide.{decLt}
+use native.Mathlib.Decide.{decLt, ℕ-discrete}
 use native.Mathlib.Nat.{mod-lt, one-le-pow, mod-eq-of-lt}
 use native.Mathlib.Omega.{arith}
 use lib.Count.{ones, ones-cat}
 use lib.Dec.{eqb, leb, ltb, lit<}
 use lib.Pow.{mod-pow-add, mod-mod-pow}
-use borrow.Author.Tests.{lt-ltb, le-ltb, le-leb, lt-leb}
+use borrow.Author.Tests.{lt-ltb, le-ltb, le-leb, lt-leb, eq-eqb, ne-eqb}
 use Rattle.model.specs.declared.Tree.{Tree}
 use Rattle.model.specs.declared.State.{State}
 use Rattle.folds.specs.Fold.{pick, sum}
 use Rattle.folds.proofs.Folds.{picked, passed, clash}
-use Rattle.model.specs.Tree.{limitOf, budgetOf, delayOf, bit, waitingOf, returnsOf, returningOf, outstandingOf, admittedOf}
+use Rattle.model.specs.Tree.{phiOf, jobOf, limitOf, budgetOf, delayOf, bit, waitingOf, returnsOf, returningOf, outstandingOf, admittedOf}
 use Rattle.rules.specs.Rules.{keeps}
-use Rattle.rules.proofs.Sound.{kept-of, way-of}
+use Rattle.rules.proofs.Sound.{limit-phi, kept-of, way-of}
 use Rattle.rules.proofs.Beneath.{only}
 use Rattle.machine.specs.Machine.{Answer, admitted, refused, limitsAnswer, offered, older}
 use Rattle.machine.specs.Calls.{Call, offer, stateAfter, step}
@@ -151,23 +151,69 @@ by-limit l o b n = (
     other true e = let z : _≡_ {A = ℕ} 9 8 = cc in omega arith
     other false e = clash cc
 
-at-limit : (t : Tree) (s : State) (a : ℕ) → keeps t s ≡ true → a < t .accs
-    → (offered t s a .answer ≡ refused 8) ↔ (limitOf t a ≤ outstandingOf s a)
-at-limit t s a k la =
-    subst (λ x. (x ≡ refused 8) ↔ (limitOf t a ≤ outstandingOf s a))
-    (sym (offer-verdict t s a k ∙ passed _ _ _ (lt-leb (t .accs) a la)))
-    (by-limit (limitOf t a) (outstandingOf s a) (budgetOf t a) (admittedOf s a))
+-- 14 is none of the limits' answers
+pub not-by-limits : (l o b n : ℕ) → limitsAnswer l o b n ≡ refused 14 → ⊥
+not-by-limits l o b n = go (leb l o) (leb b n)
+  where
+    go : (c d : Bool) → pick c (refused 8) (pick d (refused 9) admitted) ≡ refused 14 → ⊥
+    go true d e = let z : _≡_ {A = ℕ} 8 14 = cc in omega arith
+    go false true e = let z : _≡_ {A = ℕ} 9 14 = cc in omega arith
+    go false false e = clash cc
+
+module _ (t : Tree) (s : State) (a : ℕ) (k : keeps t s ≡ true) (la : a < t .accs) where
+  -- what an offer of an accelerator of the tree answers, with and without a job on the channel
+  without-job : jobOf t (s .channel) a ≡ 0 → offered t s a .answer ≡ refused 14
+  without-job j = offer-verdict t s a k ∙ passed _ _ _ (lt-leb (t .accs) a la) ∙ picked _ _ _ (eq-eqb _ _ j)
+
+  with-job : (jobOf t (s .channel) a ≡ 0 → ⊥)
+      → offered t s a .answer ≡ limitsAnswer (phiOf t a) (outstandingOf s a) (budgetOf t a) (admittedOf s a)
+  with-job d =
+      offer-verdict t s a k ∙ passed _ _ _ (lt-leb (t .accs) a la) ∙ passed _ _ _ (ne-eqb _ _ d)
+      ∙ ap (λ l. limitsAnswer l (outstandingOf s a) (budgetOf t a) (admittedOf s a)) (limit-phi t (s .channel) a d)
+
+  at-limit : (offered t s a .answer ≡ refused 8) ↔ ((0 < jobOf t (s .channel) a) × (phiOf t a ≤ outstandingOf s a))
+  at-limit = elim (ℕ-discrete (jobOf t (s .channel) a) 0) [
+    | yes z ↦ (
+      λ e. absurd (let f = sym (without-job z) ∙ e in let y : _≡_ {A = ℕ} 14 8 = cc in omega arith),
+      λ h. absurd (omega (arith, h)),
+    )
+    | no d ↦
+        let by = by-limit (phiOf t a) (outstandingOf s a) (budgetOf t a) (admittedOf s a) in
+        (λ e. (omega arith, by .0 (sym (with-job d) ∙ e)), λ h. with-job d ∙ by .1 (h .1))
+  ]
+
+  no-job : (offered t s a .answer ≡ refused 14) ↔ (jobOf t (s .channel) a ≡ 0)
+  no-job = (
+    λ e. elim (ℕ-discrete (jobOf t (s .channel) a) 0) [
+      | yes z ↦ z
+      | no d ↦ absurd (not-by-limits (phiOf t a) (outstandingOf s a) (budgetOf t a) (admittedOf s a) (sym (with-job d) ∙ e))
+    ],
+    without-job,
+  )
 
 pub homecoming : (t : Tree) (s : State) (cs : List Call) → keeps t s ≡ true → Homecoming t s cs
 homecoming t s cs k = record {
   outstanding = λ front back e a la. counted front a la;
   within-limit = λ front back e a la.
-      omega (arith, counted front a la, kept-of t (stateAfter t s front) (kept front back e) .outstanding a la);
+      omega (
+        arith,
+        counted front a la,
+        kept-of t (stateAfter t s front) (kept front back e) .outstanding a la,
+        ap (λ c. limitOf t c a) (channel front back e),
+      );
   refused-8 = λ front back e a la.
-      subst (λ n. (step t (stateAfter t s front) (offer a) .answer ≡ refused 8) ↔ (limitOf t a ≤ n)) (counted front a la)
-      (at-limit t (stateAfter t s front) a (kept front back e) la);
+      let x = stateAfter t s front in
+      subst (λ n. (step t x (offer a) .answer ≡ refused 8) ↔ ((0 < jobOf t (s .channel) a) × (phiOf t a ≤ n))) (counted front a la)
+      (subst (λ c. (step t x (offer a) .answer ≡ refused 8) ↔ ((0 < jobOf t c a) × (phiOf t a ≤ outstandingOf x a))) (channel front back e)
+      (at-limit t x a (kept front back e) la));
+  refused-14 = λ front back e a la.
+      subst (λ c. (step t (stateAfter t s front) (offer a) .answer ≡ refused 14) ↔ (jobOf t c a ≡ 0)) (channel front back e)
+      (no-job t (stateAfter t s front) a (kept front back e) la);
 }
   where
+    channel : (front back : List Call) → cs ≡ front ++ back → stateAfter t s front .channel ≡ s .channel
+    channel front back e = guarantee t s cs k .same-channel front back e
+
     kept : (front back : List Call) → cs ≡ front ++ back → keeps t (stateAfter t s front) ≡ true
     kept front back e = guarantee t s cs k .every-state-keeps front back e
 

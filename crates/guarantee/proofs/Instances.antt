@@ -6,9 +6,11 @@ use mathlib.Core.List.{List, [], _∷_, _++_}
 use mathlib.Core.Path.{_≡_, refl, sym, _∙_, ap, subst}
 use lib.ListN.{length}
 use lib.Count.{ones}
+use lib.Dec.{lit≤}
 use native.Mathlib.Omega.{arith}
 use Rattle.model.specs.declared.Tree.{Tree}
 use Rattle.model.specs.declared.State.{State}
+use Rattle.model.specs.declared.Channel.the-variants.{Read, Write}
 use Rattle.folds.specs.Fold.{sum, all}
 use Rattle.model.specs.Tree.{above, waitingOf, admittedOf}
 use Rattle.model.specs.Beneath.{inside}
@@ -21,8 +23,8 @@ use Rattle.shares.specs.Shares.{othersAt, shareAlong, shareOf}
 use Rattle.model.specs.Trees.{chain, chainOf, nested, returningPair}
 use Rattle.guarantee.specs.Guarantee.{Event, event, eventsOf, queueFrom, startingQueue, queueAfter, slotsIn, othersIn, admissionsFrom, ServedWithin, Holds, here, Guarantee}
 use Rattle.guarantee.specs.Homecoming.{recentIn}
-use Rattle.guarantee.specs.AtOnce.{sizedAtOnce, recordKeepsAtOnce, stateKeepsAtOnce, offeredAtOnce, slottedAtOnce, answersAtOnce}
-use Rattle.guarantee.specs.Instances.{MetExactly, backOf, Tight, several, caseTwo, keptFull, wideTurn, unreached, fromUnreached, late, untilLast, whileReturning, Sharp, AllTight}
+use Rattle.guarantee.specs.AtOnce.{sizedAtOnce, recordKeepsAtOnce, stateKeepsAtOnce, offeredAtOnce, slottedAtOnce, answersAtOnce, eventsAtOnce}
+use Rattle.guarantee.specs.Instances.{MetExactly, backOf, Tight, several, caseTwo, keptFull, wideTurn, unreached, fromUnreached, late, untilLast, whileReturning, mapped, mapCalls, Sharp, AllTight}
 use Rattle.guarantee.proofs.Events.{slots-append}
 use Rattle.guarantee.proofs.Once.{served-once}
 use Rattle.guarantee.proofs.Theorem.{guarantee}
@@ -64,10 +66,10 @@ fresh-leads : {t : Tree} {s r : State} {es : List Event} (a : ℕ) → Leads t s
 fresh-leads a (stay k) f = f
 fresh-leads {t} {s} a (go {m = m} {e = v} k d w) f = fresh-leads a w (fresh-step t s m (v .call) (v .answer) a d f)
 
-no-run : keeps chain (freshState chain) ≡ true → (cs : List Call)
-    → stateAfter chain (freshState chain) cs ≡ unreached → ⊥
+no-run : keeps chain (freshState chain Read) ≡ true → (cs : List Call)
+    → stateAfter chain (freshState chain Read) cs ≡ unreached → ⊥
 no-run k cs e =
-    let f = fresh-leads 0 (calls-lead chain (freshState chain) cs k) (λ _. refl) in
+    let f = fresh-leads 0 (calls-lead chain (freshState chain Read) cs k) (λ _. refl) in
     let z : _≡_ {A = ℕ} 4 0 = subst (λ s. Fresh s 0) e f refl in
     omega arith
 
@@ -78,12 +80,12 @@ tight {t} {s} {cs} {a} {k} {n} m G = record {
   granted = subst (ServedWithin s a (m .front) (backOf m)) share
       (G .in-time (m .front) (backOf m) a (m .events) (omega (arith, share, slots-append (m .mid) (event slot (served a) ∷ m .rest), m .slots)));
   no-sooner = λ v. omega (arith, v .within, m .slots, ap slotsIn (served-once s a (m .front) (backOf m) n (n - 1) met v));
-  few-others = subst (λ i. othersIn a (m .mid) ≤ suc i * (shareOf t a - 1)) (m .before)
+  few-others = subst (λ i. othersIn a (m .mid) ≤ suc i * (shareOf t (s .channel) a - 1)) (m .before)
       (G .few-others (m .front) (backOf m) a (m .events) (m .mid) _ refl (subst (Holds _) (sym (m .first)) here));
 }
   where
-    share : suc (length (queueAfter s a (m .front))) * shareOf t a ≡ n
-    share = ap (λ i. suc i * shareOf t a) (m .before) ∙ sym (m .granted)
+    share : suc (length (queueAfter s a (m .front))) * shareOf t (s .channel) a ≡ n
+    share = ap (λ i. suc i * shareOf t (s .channel) a) (m .before) ∙ sym (m .granted)
 
     met : ServedWithin s a (m .front) (backOf m) n
     met = record {
@@ -112,7 +114,7 @@ events-within t s (c ∷ cs) es e h =
     ∙ ap (eventOn (λ q. eventsWithin t q cs) c) (step-within t s c e) ∙ h
 
 pub sharp : Sharp
-unfolding eventsOf answersOf stateAfter queueFrom startingQueue slotsIn othersIn admissionsFrom offered slotted tick who after turnPort turnAllowance seek bitsBelow treeKeeps stateKeeps sized recordKeeps turnKeeps busKeeps carries rootPlaced childPlaced usedInterconnect unusedInterconnect usedAccelerator unusedAccelerator inside above sum all ones othersAt shareAlong recentIn sizedAtOnce recordKeepsAtOnce stateKeepsAtOnce offeredAtOnce slottedAtOnce answersAtOnce eventsWithin
+unfolding eventsOf answersOf stateAfter queueFrom startingQueue slotsIn othersIn admissionsFrom offered slotted tick who after turnPort turnAllowance seek bitsBelow treeKeeps stateKeeps sized recordKeeps turnKeeps busKeeps carries rootPlaced childPlaced usedInterconnect unusedInterconnect usedAccelerator unusedAccelerator inside above sum all ones othersAt shareAlong recentIn sizedAtOnce recordKeepsAtOnce stateKeepsAtOnce offeredAtOnce slottedAtOnce answersAtOnce eventsAtOnce eventsWithin
 sharp = record {
   none-before = record {
     front = taken (several 4 (offer 0 ∷ []) ++ several 2 (offer 1 ∷ []) ++ offer 2 ∷ []);
@@ -120,7 +122,7 @@ sharp = record {
     rest = [];
     others = [];
     start = refl;
-    events = events-within chain (freshState chain) caseTwo _ refl refl;
+    events = events-within chain (freshState chain Read) caseTwo _ refl refl;
     before = refl;
     first = refl;
     slots = refl;
@@ -134,7 +136,7 @@ sharp = record {
     rest = [];
     others = [];
     start = refl;
-    events = events-within (chainOf 64) (freshState (chainOf 64)) keptFull _ refl refl;
+    events = events-within (chainOf 64) (freshState (chainOf 64) Read) keptFull _ refl refl;
     before = refl;
     first = refl;
     slots = refl;
@@ -147,7 +149,7 @@ sharp = record {
     rest = [];
     others = [];
     start = refl;
-    events = events-within nested (freshState nested) wideTurn _ refl refl;
+    events = events-within nested (freshState nested Read) wideTurn _ refl refl;
     before = refl;
     first = refl;
     slots = refl;
@@ -193,7 +195,7 @@ sharp = record {
     rest = [];
     others = [];
     start = refl;
-    events = events-within (returningPair 2 1 4) (freshState (returningPair 2 1 4)) whileReturning _ refl refl;
+    events = events-within (returningPair 2 1 4) (freshState (returningPair 2 1 4) Read) whileReturning _ refl refl;
     before = refl;
     first = refl;
     slots = refl;
@@ -202,6 +204,38 @@ sharp = record {
   };
   one-by-one = refl;
   delay-tells = (refl, refl);
+  two-shares = (refl, refl);
+  map-reads = refl;
+  map-reads-at-once = refl;
+  bound-fails = record {
+    front = event (offer 0) admitted ∷ event slot (served 0) ∷ event (offer 1) admitted ∷ [];
+    back = served-in (1 ∷ 0 ∷ []);
+    events = refl;
+    before = refl;
+    granted = refl;
+    slots = lit≤ tt;
+    not-served = λ v. omega (
+      arith,
+      v .within,
+      ap slotsIn
+          (served-once (freshState mapped Read) 0 _ (served-in (1 ∷ 0 ∷ [])) 2 1
+          (record { mid = served-in (1 ∷ []); rest = []; ending = refl; others = []; first = refl; within = lit≤ tt }) v),
+    );
+  };
+  map-writes = refl;
+  by-write-share = record {
+    front = event (offer 0) admitted ∷ event slot (served 0) ∷ event (offer 1) admitted ∷ [];
+    mid = served-in (1 ∷ []);
+    rest = [];
+    others = [];
+    start = refl;
+    events = events-within mapped (freshState mapped Write) mapCalls _ refl refl;
+    before = refl;
+    first = refl;
+    slots = refl;
+    granted = refl;
+    others-served = refl;
+  };
 }
 
 pub all-tight : AllTight sharp
@@ -212,6 +246,7 @@ all-tight = record {
   from-unreached = by-demand-3 (sharp .from-unreached);
   with-refusals = by-demand-3 (sharp .with-refusals);
   while-returning = by-demand-3 (sharp .while-returning);
+  by-write-share = by-demand-3 (sharp .by-write-share);
 }
   where
     by-demand-3 : {t : Tree} {s : State} {cs : List Call} {a k n : ℕ} (m : MetExactly t s cs a k n) → Tight m

@@ -26,7 +26,7 @@ use Rattle.machine.proofs.Returns.{older-at}
 use Rattle.machine.proofs.Keeps.{take-returns}
 use Rattle.machine.proofs.Within.{step-keeps}
 use Rattle.machine.proofs.Cases.{Offered, offer-cases, Slotted, slot-cases}
-use Rattle.machine.proofs.Laws.{offer-admits, offer-others, Served, Ticked, slot-only-last, slot-serves, slot-on-path, slot-off-path, slot-idle-turns, slot-windows}
+use Rattle.machine.proofs.Laws.{offer-admits, offer-others, Served, Ticked, slot-only-last, slot-serves, slot-on-path, slot-off-path, slot-idle-turns, slot-windows, step-channel}
 use Rattle.guarantee.specs.Guarantee.{Event, eventsOf}
 
 -- a transaction of b is admitted
@@ -37,6 +37,7 @@ pub record Admission (t : Tree) (s : State) (b : ℕ) (r : State) : Type 0 where
   pub returns : (a : ℕ) → returnsOf r a ≡ returnsOf s a
   pub turns : (i : ℕ) → Unturned s r i
   pub slot : r .slot ≡ s .slot
+  pub channel : r .channel ≡ s .channel
 
 -- a transaction of b is served
 pub record Service (t : Tree) (s : State) (b : ℕ) (r : State) : Type 0 where
@@ -47,6 +48,7 @@ pub record Service (t : Tree) (s : State) (b : ℕ) (r : State) : Type 0 where
   pub on : (i p : ℕ) → On i p (path t b) → Turned t s r i p
   pub off : (i : ℕ) → ((p : ℕ) → On i p (path t b) → ⊥) → Unturned s r i
   pub ticked : Ticked t s r
+  pub channel : r .channel ≡ s .channel
 
 -- nothing waits
 pub record Idle (t : Tree) (s r : State) : Type 0 where
@@ -55,6 +57,7 @@ pub record Idle (t : Tree) (s r : State) : Type 0 where
   pub returns : (a : ℕ) → returnsOf r a ≡ older (delayOf t) (returnsOf s a)
   pub turns : (i : ℕ) → Unturned s r i
   pub ticked : Ticked t s r
+  pub channel : r .channel ≡ s .channel
 
 pub data Does (t : Tree) (s : State) : Call → Answer → State → Type 0 where
   admits : {b : ℕ} {r : State} → Admission t s b r → Does t s (offer b) admitted r
@@ -95,6 +98,7 @@ module _ (t : Tree) (s : State) (k : keeps t s ≡ true) where
       allowance = ap (λ l. getD l i 0) (offer-others t s b .allowance);
     };
     slot = offer-others t s b .slot;
+    channel = offer-others t s b .channel;
   }
 
   offer-does : (b : ℕ) → Does t s (offer b) (offered t s b .answer) (offered t s b .state)
@@ -135,6 +139,7 @@ module _ (t : Tree) (s : State) (k : keeps t s ≡ true) where
     on = slot-on-path t s k b e;
     off = slot-off-path t s k b e;
     ticked = slot-windows t s (λ n f. clash cc);
+    channel = step-channel t s slot;
   }
     where
       v : Served t s b (slotted t s .state)
@@ -150,6 +155,7 @@ module _ (t : Tree) (s : State) (k : keeps t s ≡ true) where
         returns = g;
         turns = λ i. record { last = ap (λ l. getD l i 0) (h .1); allowance = ap (λ l. getD l i 0) (h .2) };
         ticked = slot-windows t s (λ n f. clash cc);
+        channel = step-channel t s slot;
       }
 
   slot-does : Does t s slot (slotted t s .answer) (slotted t s .state)
@@ -168,6 +174,14 @@ module _ (t : Tree) (s : State) (k : keeps t s ≡ true) where
   does (offer b) = offer-does b
   does slot = slot-does
 
+-- no call changes the channel
+pub does-channel : {t : Tree} {s m : State} {c : Call} {x : Answer} → Does t s c x m → m .channel ≡ s .channel
+does-channel (admits A) = A .channel
+does-channel declines = refl
+does-channel (serves v) = v .channel
+does-channel (idles i) = i .channel
+does-channel (halts e) = refl
+
 pub data Leads (t : Tree) : State → List Event → State → Type 0 where
   stay : {s : State} → keeps t s ≡ true → Leads t s [] s
   go : {s m r : State} {e : Event} {es : List Event} → keeps t s ≡ true → Does t s (e .call) (e .answer) m → Leads t m es r
@@ -182,6 +196,10 @@ calls-lead t s (c ∷ cs) k = go k (does t s k c) (calls-lead t (step t s c .sta
 pub leads-start : {t : Tree} {s r : State} {es : List Event} → Leads t s es r → keeps t s ≡ true
 leads-start (stay k) = k
 leads-start (go k d w) = k
+
+pub leads-channel : {t : Tree} {s r : State} {es : List Event} → Leads t s es r → r .channel ≡ s .channel
+leads-channel (stay k) = refl
+leads-channel (go k d w) = leads-channel w ∙ does-channel d
 
 -- two lists of events lead there, one after the other
 pub record Parts (t : Tree) (s : State) (front back : List Event) (r : State) : Type 0 where

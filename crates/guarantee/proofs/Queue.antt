@@ -15,6 +15,7 @@ use lib.Dec.{eqb}
 use borrow.Author.Tests.{eq-eqb, ne-eqb}
 use Rattle.model.specs.declared.Tree.{Tree}
 use Rattle.model.specs.declared.State.{State}
+use Rattle.model.specs.declared.Channel.{Channel}
 use Rattle.folds.specs.Fold.{pick}
 use Rattle.model.specs.Tree.{path, limitOf, waitingOf}
 use Rattle.rules.specs.Rules.{keeps}
@@ -25,7 +26,7 @@ use Rattle.machine.specs.Calls.{Call, offer, slot}
 use Rattle.guarantee.specs.Guarantee.{Event, event, Ticket, waitedAtStart, admittedBy, withoutFirst, callMoves, moved, queueFrom, startingQueue, queueAfter, upTo, slotCounts, slotsIn, servesOther, othersIn, Holds, here, there}
 use Rattle.guarantee.proofs.Ahead.{WaitsWithin}
 use Rattle.guarantee.proofs.Path.{waitOf, wait-least, wait-same, wait-other, wait-own}
-use Rattle.guarantee.proofs.Leads.{Admission, Service, Does, admits, declines, serves, idles, halts, Leads, stay, go, leads-start}
+use Rattle.guarantee.proofs.Leads.{Admission, Service, Does, admits, declines, serves, idles, halts, does-channel, Leads, stay, go, leads-start}
 
 pub start-length : (n : ℕ) → length (startingQueue n) ≡ n
 unfolding startingQueue
@@ -176,10 +177,14 @@ within-start : {t : Tree} {s r : State} {es : List Event} (φ : ℕ → ℕ) (w 
 within-start φ (stay K) F = F
 within-start φ (go K d w) F = F .0
 
--- a state that keeps its rules has no more waiting than the outstanding limits allow
-pub limits-hold : {t : Tree} {s r : State} {es : List Event} (w : Leads t s es r) → AllWithin (limitOf t) w
-limits-hold {t} {s} (stay K) = kept-of t s K .waiting
-limits-hold {t} {s} (go K d w) = (kept-of t s K .waiting, limits-hold w)
+-- a state that keeps its rules has no more waiting than the outstanding limits of its channel allow
+pub waits-within : (t : Tree) (c : Channel) (s : State) → keeps t s ≡ true → s .channel ≡ c → WaitsWithin t (limitOf t c) s
+waits-within t c s K e = subst (λ k. WaitsWithin t (limitOf t k) s) e (kept-of t s K .waiting)
+
+pub limits-hold : {t : Tree} (c : Channel) {s r : State} {es : List Event} (w : Leads t s es r) → s .channel ≡ c
+    → AllWithin (limitOf t c) w
+limits-hold {t} c {s} (stay K) e = waits-within t c s K e
+limits-hold {t} c {s} (go K d w) e = (waits-within t c s K e, limits-hold c w (does-channel d ∙ e))
 
 -- the call c, which answers x, goes from state s and queue q to state m and queue r
 data Goes (t : Tree) (φ : ℕ → ℕ) (s m : State) (a j k : ℕ) (q : List Ticket) (c : Call) (x : Answer) (r : List Ticket) : Type 0 where

@@ -21,8 +21,8 @@ use Rattle.machine.proofs.Within.{step-keeps}
 use Rattle.shares.specs.Shares.{shareOf}
 use Rattle.guarantee.specs.Guarantee.{Event, event, eventsOf, Ticket, admittedBy, startingQueue, queueAfter, slotsIn, othersIn, upTo, Holds, StillWaits, Guarantee}
 use Rattle.guarantee.proofs.Path.{waitOf, wait-most}
-use Rattle.guarantee.proofs.Leads.{Does, admits, serves, idles, halts, Leads, go, calls-lead, leads-start, Parts, parts}
-use Rattle.guarantee.proofs.Queue.{start-length, queue-length, queue-up-to, stands-last, limits-hold, Timely, timely, few}
+use Rattle.guarantee.proofs.Leads.{Does, admits, serves, idles, halts, does-channel, Leads, go, calls-lead, leads-start, leads-channel, Parts, parts}
+use Rattle.guarantee.proofs.Queue.{start-length, queue-length, queue-up-to, stands-last, waits-within, limits-hold, Timely, timely, few}
 use Rattle.guarantee.proofs.Budget.{within}
 
 keeps-after : (t : Tree) (s : State) (cs : List Call) → keeps t s ≡ true → keeps t (stateAfter t s cs) ≡ true
@@ -86,33 +86,41 @@ module _ (t : Tree) (s : State) (cs : List Call) (k : keeps t s ≡ true) where
     with-length : length with-ticket ≡ waitingOf (at .next) a
     with-length = length-append (queueAfter s a front) _ ∙ omega (arith, queue-waits front a (at .before), one)
 
+    -- the limits of the list's channel
+    abbrev limits : ℕ → ℕ
+    limits = limitOf t (s .channel)
+
+    on-channel : at .next .channel ≡ s .channel
+    on-channel = does-channel (at .does) ∙ leads-channel (at .before)
+
     -- how long the ticket waits at most, and that this is at most (k + 1) times the share
     abbrev ticket-wait : ℕ
-    ticket-wait = waitOf t (limitOf t) (at .next) a (suc (length (queueAfter s a front)))
+    ticket-wait = waitOf t limits (at .next) a (suc (length (queueAfter s a front)))
 
-    ticket-share : ticket-wait ≤ suc (length (queueAfter s a front)) * shareOf t a
+    ticket-share : ticket-wait ≤ suc (length (queueAfter s a front)) * shareOf t (s .channel) a
     ticket-share =
         let l = leads-start (at .after) in
         let K = kept-of t (at .next) l in
-        wait-most t (limitOf t) (sound-of t (at .next) l) (at .next) K (K .waiting) a _ (one .0)
+        wait-most t limits (sound-of t (at .next) l) (at .next) K (waits-within t (s .channel) (at .next) l on-channel) a _ (one .0)
 
     ticket-timely : ticket-wait ≤ slotsIn back
         → Timely a (length front) (suc (length front)) with-ticket back ticket-wait
     ticket-timely h =
-        timely (limitOf t) a (length front) (suc (length front)) (length (queueAfter s a front)) (one .0) (omega arith) with-ticket
-        (at .after) (limits-hold (at .after)) (stands-last _ (queueAfter s a front)) with-length h
+        timely limits a (length front) (suc (length front)) (length (queueAfter s a front)) (one .0) (omega arith) with-ticket
+        (at .after) (limits-hold (s .channel) (at .after) on-channel) (stands-last _ (queueAfter s a front)) with-length h
 
     ticket-few : (mid rest : List Event) → back ≡ mid ++ rest → StillWaits s a front mid
         → othersIn a mid + suc (length (queueAfter s a front)) ≤ ticket-wait
     ticket-few mid rest f h =
         let p = parts mid rest (subst (λ es. Leads t (at .next) es (stateAfter t s cs)) f (at .after)) in
-        few (limitOf t) a (length front) (suc (length front)) (length (queueAfter s a front)) (one .0) (omega arith) with-ticket
-        (p .before) (limits-hold (p .before)) (stands-last _ (queueAfter s a front)) with-length
+        few limits a (length front) (suc (length front)) (length (queueAfter s a front)) (one .0) (omega arith) with-ticket
+        (p .before) (limits-hold (s .channel) (p .before) on-channel) (stands-last _ (queueAfter s a front)) with-length
         (subst (Holds (admittedBy (length front))) (queue-up-to s a front mid) h)
 
 pub guarantee : (t : Tree) (s : State) (cs : List Call) → keeps t s ≡ true → Guarantee t s cs
 guarantee t s cs k = record {
   every-state-keeps = λ front back e. keeps-after t s front k;
+  same-channel = λ front back e. leads-channel (calls-lead t s front k);
   slot-refused-by-10 = λ front back n e. omega (arith, refused-by-10 (comes t s cs k front back _ e .does));
   first-is-there = λ front back a e.
       let p = comes t s cs k front back _ e in
@@ -137,7 +145,7 @@ guarantee t s cs k = record {
         arith,
         ticket-few t s cs k front back a e mid rest f h,
         ticket-share t s cs k front back a e,
-        mul-sub n (shareOf t a) 1,
+        mul-sub n (shareOf t (s .channel) a) 1,
         mul-one n,
       );
   within-budget = λ a w la. omega (arith, within a w la (calls-lead t s cs k));

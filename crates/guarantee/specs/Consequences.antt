@@ -25,6 +25,9 @@ pub record WaitsUntilServed (s : State) : Type 0 where
 pub record Consequences (t : Tree) (s : State) (cs : List Call) : Type 0 where
   -- every-state-keeps: what follows any first part of the list is such a list itself, from the state handed on to it
   pub later-part : (front back : List Call) → cs ≡ front ++ back → Guarantee t (stateAfter t s front) back
+  -- same-channel: the shares of that list are those of the whole
+  pub same-share : (front back : List Call) → cs ≡ front ++ back → (a : ℕ)
+      → shareOf t (stateAfter t s front .channel) a ≡ shareOf t (s .channel) a
   -- slot-refused-by-10: no slot is refused by 11
   pub slot-not-by-11 : (front back : List Event) → eventsOf t s cs ≡ front ++ event slot (refused 11) ∷ back → ⊥
   -- first-is-there: a slot that answers an accelerator takes one transaction from its queue
@@ -33,8 +36,8 @@ pub record Consequences (t : Tree) (s : State) (cs : List Call) : Type 0 where
   -- idle-finds-none: no slot is idle while a transaction admitted in the list waits
   pub never-idle : (front mid back : List Event) (a : ℕ) → a < t .accs
       → eventsOf t s cs ≡ upTo a front (mid ++ event slot idle ∷ back) → StillWaits s a front mid → ⊥
-  -- few-others: with share 1 no other accelerator is served while a transaction admitted in the list waits
-  pub undisturbed : (front mid rest : List Event) (a : ℕ) → shareOf t a ≡ 1 → eventsOf t s cs ≡ upTo a front (mid ++ rest)
+  -- few-others: with share 1 on the list's channel no other accelerator is served while a transaction admitted in the list waits
+  pub undisturbed : (front mid rest : List Event) (a : ℕ) → shareOf t (s .channel) a ≡ 1 → eventsOf t s cs ≡ upTo a front (mid ++ rest)
       → StillWaits s a front mid → othersIn a mid ≡ 0
   -- within-budget: once an accelerator's budget is spent in a window, an offer of it there is not admitted
   pub budget-spent : (front : List Call) (a w : ℕ) → a < t .accs → cs ≡ front ++ offer a ∷ []

@@ -1,5 +1,6 @@
 -- Demand 3: one statement about a whole list of calls on one channel's state (document 01, "What contracts have to carry",
--- e). "Besides the starting state only calls and answers are read."
+-- e). "Besides the starting state only calls and answers are read." The share is that on the state's channel (document 02, item 5:
+-- "Capacity, D and share are thus given for each channel").
 --
 -- Event                 a call and its answer
 -- eventsOf t s cs       the calls cs with their answers, "The first gets any state that keeps its rules .., each later one
@@ -158,6 +159,8 @@ StillWaits s a front mid = Holds (admittedBy (length front)) (queueAfter s a (up
 pub record Guarantee (t : Tree) (s : State) (cs : List Call) : Type 0 where
   -- "Each returned state keeps its rules too"
   pub every-state-keeps : (front back : List Call) → cs ≡ front ++ back → keeps t (stateAfter t s front) ≡ true
+  -- the list is "on one channel's state": no call changes the channel
+  pub same-channel : (front back : List Call) → cs ≡ front ++ back → stateAfter t s front .channel ≡ s .channel
   -- "in the list a slot is refused only by 10"
   pub slot-refused-by-10 : (front back : List Event) (n : ℕ) → eventsOf t s cs ≡ front ++ event slot (refused n) ∷ back → n ≡ 10
   -- "a slot that answers the accelerator serves the first, which is always there"
@@ -168,12 +171,12 @@ pub record Guarantee (t : Tree) (s : State) (cs : List Call) : Type 0 where
   -- times its share slots, counted from the slot of its admission, if from there the list has that many slots that are not
   -- refused"
   pub in-time : (front back : List Event) (a : ℕ) → eventsOf t s cs ≡ upTo a front back
-      → suc (length (queueAfter s a front)) * shareOf t a ≤ slotsIn back
-      → ServedWithin s a front back (suc (length (queueAfter s a front)) * shareOf t a)
+      → suc (length (queueAfter s a front)) * shareOf t (s .channel) a ≤ slotsIn back
+      → ServedWithin s a front back (suc (length (queueAfter s a front)) * shareOf t (s .channel) a)
   -- "from its admission up to its service, or to the list's end where that comes first, at most (k + 1) times (share less 1)
   -- transactions of others are served"
   pub few-others : (front back : List Event) (a : ℕ) → eventsOf t s cs ≡ upTo a front back
       → (mid rest : List Event) → back ≡ mid ++ rest → StillWaits s a front mid
-      → othersIn a mid ≤ suc (length (queueAfter s a front)) * (shareOf t a - 1)
+      → othersIn a mid ≤ suc (length (queueAfter s a front)) * (shareOf t (s .channel) a - 1)
   -- "in no window of the list is any accelerator admitted beyond its budget"
   pub within-budget : (a w : ℕ) → a < t .accs → admissionsIn t s a w (eventsOf t s cs) ≤ budgetOf t a

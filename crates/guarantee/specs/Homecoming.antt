@@ -1,5 +1,5 @@
 -- How many of each accelerator are outstanding after any part of a list of calls: from calls, answers and the starting state
--- alone (document 02, item 2).
+-- alone (document 02, item 2); and by which number an offer is refused for that (item 5).
 --
 -- servesOwn a x         1 if the answer x is the service of accelerator a, which only a slot answers
 -- recentIn r a es       the services of accelerator a among the events es whose answer is not home at their end: fewer than r
@@ -19,7 +19,7 @@ use lib.Dec.{eqb, ltb}
 use Rattle.model.specs.declared.Tree.{Tree}
 use Rattle.model.specs.declared.State.{State}
 use Rattle.folds.specs.Fold.{pick, sum}
-use Rattle.model.specs.Tree.{limitOf, delayOf, bit, returnsOf, outstandingOf}
+use Rattle.model.specs.Tree.{phiOf, jobOf, limitOf, delayOf, bit, returnsOf, outstandingOf}
 use Rattle.machine.specs.Machine.{Answer, admitted, served, idle, refused}
 use Rattle.machine.specs.Calls.{Call, offer, step, stateAfter}
 use Rattle.guarantee.specs.Guarantee.{Event, eventsOf, queueAfter, slotsIn}
@@ -46,9 +46,13 @@ pub record Homecoming (t : Tree) (s : State) (cs : List Call) : Type 0 where
   -- each part of the list
   pub outstanding : (front back : List Call) → cs ≡ front ++ back → (a : ℕ) → a < t .accs
       → outstandingOf (stateAfter t s front) a ≡ outstandingAfter t s a (eventsOf t s front)
-  -- "and their sum is at most phi"
+  -- "and their sum is at most phi"; on a channel where a job has 0 transactions it is 0
   pub within-limit : (front back : List Call) → cs ≡ front ++ back → (a : ℕ) → a < t .accs
-      → outstandingAfter t s a (eventsOf t s front) ≤ limitOf t a
-  -- 8 tests that sum: there an offer is refused by 8 exactly if phi are outstanding
+      → outstandingAfter t s a (eventsOf t s front) ≤ limitOf t (s .channel) a
+  -- 8 tests that sum: there an offer is refused by 8 exactly if the accelerator has a job on the channel and phi are outstanding
   pub refused-8 : (front back : List Call) → cs ≡ front ++ back → (a : ℕ) → a < t .accs
-      → (step t (stateAfter t s front) (offer a) .answer ≡ refused 8) ↔ (limitOf t a ≤ outstandingAfter t s a (eventsOf t s front))
+      → (step t (stateAfter t s front) (offer a) .answer ≡ refused 8)
+      ↔ ((0 < jobOf t (s .channel) a) × (phiOf t a ≤ outstandingAfter t s a (eventsOf t s front)))
+  -- "14 for an offer on a channel where the accelerator has 0 transactions", and on no other
+  pub refused-14 : (front back : List Call) → cs ≡ front ++ back → (a : ℕ) → a < t .accs
+      → (step t (stateAfter t s front) (offer a) .answer ≡ refused 14) ↔ (jobOf t (s .channel) a ≡ 0)

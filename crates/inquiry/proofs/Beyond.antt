@@ -12,6 +12,7 @@ use borrow.Author.Tests.{lt-ltb, lt-leb, le-leb}
 use Rattle.folds.specs.Fold.{pick}
 use Rattle.folds.proofs.Folds.{picked, passed}
 use Rattle.model.specs.declared.Tree.{Tree}
+use Rattle.model.specs.declared.Channel.{Channel}
 use Rattle.text.specs.Text.{lines}
 use Rattle.rules.specs.Rules.{treeKeeps}
 use Rattle.rules.proofs.Sound.{sound}
@@ -31,23 +32,23 @@ use Rattle.inquiry.specs.declared.Reply.the-variants.{Refused}
 use Rattle.razhikum.specs.Exports.{listFrom}
 use Rattle.inquiry.specs.Inquiry.{mostAcc, mostNumber, replyOf, replyFrom}
 
-module _ (t : Tree) (rs : List Request) where
-  served-most : (a : ℕ) → countIn a (bytesBefore (usedBy t rs 65536) t (start t rs)) ≤ 65536
+module _ (t : Tree) (c : Channel) (rs : List Request) where
+  served-most : (a : ℕ) → countIn a (bytesBefore (usedBy t c rs 65536) t (start t c rs)) ≤ 65536
   served-most a =
-      let m = usedBy t rs 65536 in
-      omega (arith, count-few a (bytesBefore m t (start t rs)), bytes-length m t (start t rs), ran 65536 t (start t rs) .slots)
+      let m = usedBy t c rs 65536 in
+      omega (arith, count-few a (bytesBefore m t (start t c rs)), bytes-length m t (start t c rs), ran 65536 t (start t c rs) .slots)
 
-  few-beyond : (a k : ℕ) → 65536 < k → fewer t rs a k ≡ true
+  few-beyond : (a k : ℕ) → 65536 < k → fewer t c rs a k ≡ true
   few-beyond a k h =
-      ap (λ (b : Bool). eqb k 0 || b) (lt-ltb (countIn a (bytesBefore (usedBy t rs 65536) t (start t rs))) k (omega (arith, served-most a)))
+      ap (λ (b : Bool). eqb k 0 || b) (lt-ltb (countIn a (bytesBefore (usedBy t c rs 65536) t (start t c rs))) k (omega (arith, served-most a)))
       ∙ or-true (eqb k 0)
 
   module _ (a k : ℕ) (d : List ℕ) where
-    no-such : t .accs ≤ a → (whyFrom t rs a k ≡ denied 7) × (bufferFrom t rs a k d ≡ d)
+    no-such : t .accs ≤ a → (whyFrom t c rs a k ≡ denied 7) × (bufferFrom t c rs a k d ≡ d)
     unfolding whyFrom bufferFrom
     no-such l = (picked _ _ _ (le-leb _ _ l), picked _ _ _ (le-leb _ _ l))
 
-    none-beyond : a < t .accs → 65536 < k → (whyFrom t rs a k ≡ denied 12) × (bufferFrom t rs a k d ≡ d)
+    none-beyond : a < t .accs → 65536 < k → (whyFrom t c rs a k ≡ denied 12) × (bufferFrom t c rs a k d ≡ d)
     unfolding whyFrom bufferFrom
     none-beyond l h = (
       passed _ _ _ (lt-leb _ _ l) ∙ picked _ _ _ (few-beyond a k h),
@@ -55,7 +56,7 @@ module _ (t : Tree) (rs : List Request) where
     )
 
   abbrev Same : ℕ → ℕ → ℕ → ℕ → List ℕ → Type 0
-  Same a k b j d = (whyFrom t rs a k ≡ whyFrom t rs b j) × (bufferFrom t rs a k d ≡ bufferFrom t rs b j d)
+  Same a k b j d = (whyFrom t c rs a k ≡ whyFrom t c rs b j) × (bufferFrom t c rs a k d ≡ bufferFrom t c rs b j d)
 
   from-beyond : t .accs ≤ 32 → (a k : ℕ) (d : List ℕ) → Same (min a mostAcc) (min k mostNumber) a k d
   from-beyond few a k d = elim (decLe (t .accs) a) [ yes l ↦ unknown l | no l ↦ known l ] where
@@ -73,7 +74,7 @@ module _ (t : Tree) (rs : List Request) where
       within : k ≤ mostNumber → Same (min a mostAcc) (min k mostNumber) a k d
       within h =
           let num : min k mostNumber ≡ k = omega arith in
-          (ap₂ (whyFrom t rs) acc num, ap₂ (λ (b j : ℕ). bufferFrom t rs b j d) acc num)
+          (ap₂ (whyFrom t c rs) acc num, ap₂ (λ (b j : ℕ). bufferFrom t c rs b j d) acc num)
 
       above : (k ≤ mostNumber → ⊥) → Same (min a mostAcc) (min k mostNumber) a k d
       above h =
@@ -81,38 +82,38 @@ module _ (t : Tree) (rs : List Request) where
           let q = none-beyond a k d (omega arith) (omega arith) in
           (p .0 ∙ sym (q .0), p .1 ∙ sym (q .1))
 
-module _ (t : Tree) (s : List ℕ) (a k : ℕ) where
-  pub why-beyond : (n : ℕ) → whyOf t s (min a mostAcc) (min k mostNumber) n ≡ whyOf t s a k n
+module _ (t : Tree) (c : Channel) (s : List ℕ) (a k : ℕ) where
+  pub why-beyond : (n : ℕ) → whyOf t c s (min a mostAcc) (min k mostNumber) n ≡ whyOf t c s a k n
   unfolding whyOf
   why-beyond n = by (treeKeeps t) refl where
     after : Why → Why
     after w = pick (ltb 65536 n) (refusedAt 2 0) (whyRead (readTrace t s) w)
 
     by : (b : Bool) → treeKeeps t ≡ b
-        → pick (not b) (denied 11) (after (whyFrom t (requests (lines s)) (min a mostAcc) (min k mostNumber)))
-        ≡ pick (not b) (denied 11) (after (whyFrom t (requests (lines s)) a k))
-    by true e = ap after (from-beyond t (requests (lines s)) (sound t e .most-accs) a k [] .0)
+        → pick (not b) (denied 11) (after (whyFrom t c (requests (lines s)) (min a mostAcc) (min k mostNumber)))
+        ≡ pick (not b) (denied 11) (after (whyFrom t c (requests (lines s)) a k))
+    by true e = ap after (from-beyond t c (requests (lines s)) (sound t e .most-accs) a k [] .0)
     by false e = refl
 
-  pub buffer-beyond : (d : List ℕ) → whyBuffer t s (min a mostAcc) (min k mostNumber) d ≡ whyBuffer t s a k d
+  pub buffer-beyond : (d : List ℕ) → whyBuffer t c s (min a mostAcc) (min k mostNumber) d ≡ whyBuffer t c s a k d
   unfolding whyBuffer
   buffer-beyond d = by (treeKeeps t) refl where
     after : List ℕ → List ℕ
     after l = pick (ltb 65536 (length d)) d (bufferRead (readTrace t s) l d)
 
     by : (b : Bool) → treeKeeps t ≡ b
-        → pick (not b) d (after (bufferFrom t (requests (lines s)) (min a mostAcc) (min k mostNumber) d))
-        ≡ pick (not b) d (after (bufferFrom t (requests (lines s)) a k d))
-    by true e = ap after (from-beyond t (requests (lines s)) (sound t e .most-accs) a k d .1)
+        → pick (not b) d (after (bufferFrom t c (requests (lines s)) (min a mostAcc) (min k mostNumber) d))
+        ≡ pick (not b) d (after (bufferFrom t c (requests (lines s)) a k d))
+    by true e = ap after (from-beyond t c (requests (lines s)) (sound t e .most-accs) a k d .1)
     by false e = refl
 
 -- what is answered for the words' numbers is what is answered for what stands for them
-module _ (q : TreeRead) (s : List ℕ) (a k : ℕ) where
-  pub reply-beyond : replyFrom q s (min a mostAcc) (min k mostNumber) ≡ replyFrom q s a k
+module _ (q : TreeRead) (c : Channel) (s : List ℕ) (a k : ℕ) where
+  pub reply-beyond : replyFrom q c s (min a mostAcc) (min k mostNumber) ≡ replyFrom q c s a k
   unfolding replyFrom
   reply-beyond =
       ap (λ (w : Why). pick (isAccepted (q .answer)) (replyOf w) (Refused OfTree (answerNumber (q .answer)) (answerLine (q .answer))))
-      (why-beyond (q .tree) s a k 65536)
+      (why-beyond (q .tree) c s a k 65536)
 
-  pub list-beyond : (d : List ℕ) → listFrom q s (min a mostAcc) (min k mostNumber) d ≡ listFrom q s a k d
-  list-beyond d = ap (λ (l : List ℕ). pick (isAccepted (q .answer)) l d) (buffer-beyond (q .tree) s a k d)
+  pub list-beyond : (d : List ℕ) → listFrom q c s (min a mostAcc) (min k mostNumber) d ≡ listFrom q c s a k d
+  list-beyond d = ap (λ (l : List ℕ). pick (isAccepted (q .answer)) l d) (buffer-beyond (q .tree) c s a k d)

@@ -4,12 +4,15 @@ use answers::is_accepted;
 use lines::answer_line;
 use lines::answer_number;
 use listing::refusal_text;
+use model::Channel;
 use model::number;
 use put::put_bytes;
 use put::put_field;
 use reader::read_tree;
+use usage::ChannelWord;
 use usage::NumberWord;
 use usage::asks_help;
+use usage::channel_asked;
 use usage::help_asked;
 use usage::number_asked;
 use usage::two_files;
@@ -21,17 +24,18 @@ ghost use lib.ListN.{length, take};
 ghost use Rattle.put.specs.Page.{Written};
 ghost use Rattle.put.specs.Put.{Put};
 ghost use Rattle.reader.specs.TreeFile.{readTree};
+ghost use Rattle.usage.specs.Usage.{channelAsked};
 ghost use Rattle.waits.specs.Answers.{whyMeans};
 ghost use Rattle.razhikum.specs.Exports.{listFrom};
 ghost use Rattle.inquiry.specs.Inquiry.{waitAsked, whyAsked, replyOf, replyFrom};
 ghost use Rattle.inquiry.specs.Lines.{lineText, linesText, countText, waitPage, pagesOf, replyPage};
 
-// What `why` does by its words: it asks for the wait of a transaction of an accelerator, or says its usage or its help. 255 stands
-// for every accelerator above 255, and 4,294,967,295 for every number above it: neither is in any run.
+// What `why` does by its words: it asks for the wait, on a channel, of a transaction of an accelerator, or says its usage or its help.
+// 255 stands for every accelerator above 255, and 4,294,967,295 for every number above it: neither is in any run.
 pub enum Asked {
     Usage,
     Help,
-    Wait(u8, u32),
+    Wait(Channel, u8, u32),
 }
 
 // What a refusal is of: a file, or one of the words ACC and NUMBER.
@@ -49,30 +53,41 @@ pub enum Reply {
     Waited(u32, u32),
 }
 
-// The transaction that the words ACC and NUMBER name; usage where one of them is no number.
-fn wait_asked(acc: &[u8], number: &[u8]) -> Asked
-    ensures { λ r. ⌜ r ≡ waitAsked (now (acc .entry)) (now (number .entry)) ⌝ }
+// The transaction that the words CHANNEL, ACC and NUMBER name; usage where the first is no channel or another no number.
+fn wait_asked(channel: &[u8], acc: &[u8], number: &[u8]) -> Asked
+    ensures { λ r. ⌜ r ≡ waitAsked (channelAsked (now (channel .entry))) (now (acc .entry)) (now (number .entry)) ⌝ }
 {
+    let c = channel_asked(channel);
     let a = number_asked(acc, 255);
     let k = number_asked(number, 4294967295);
-    let NumberWord::Number(x) = a else {
+    let ChannelWord::Known(x) = c else {
         return Asked::Usage;
     };
-    let NumberWord::Number(y) = k else {
+    let NumberWord::Number(y) = a else {
         return Asked::Usage;
     };
-    Asked::Wait(x as u8, y)
+    let NumberWord::Number(z) = k else {
+        return Asked::Usage;
+    };
+    Asked::Wait(x, y as u8, z)
 }
 
-// What `why` does, started with `count` words, of which these are the first four.
-pub fn why_asked(count: usize, tree: &[u8], trace: &[u8], acc: &[u8], number: &[u8]) -> Asked
-    ensures { λ r. ⌜ r ≡ whyAsked count (now (tree .entry)) (now (trace .entry)) (now (acc .entry)) (now (number .entry)) ⌝ }
+// What `why` does, started with `count` words, of which these are the first five.
+pub fn why_asked(
+    count: usize,
+    channel: &[u8],
+    tree: &[u8],
+    trace: &[u8],
+    acc: &[u8],
+    number: &[u8],
+) -> Asked
+    ensures { λ r. ⌜ r ≡ whyAsked count (now (channel .entry)) (now (tree .entry)) (now (trace .entry)) (now (acc .entry)) (now (number .entry)) ⌝ }
 {
-    if help_asked(tree, trace, acc) | asks_help(number) {
+    if help_asked(channel, tree, trace) | asks_help(acc) | asks_help(number) {
         return Asked::Help;
     }
-    if (count == 4) & two_files(tree, trace) {
-        return wait_asked(acc, number);
+    if (count == 5) & two_files(tree, trace) {
+        return wait_asked(channel, acc, number);
     }
     Asked::Usage
 }
@@ -90,18 +105,25 @@ fn reply_of(answer: WhyAnswer) -> Reply
     }
 }
 
-// Why transaction k of accelerator a waited: the tree and the trace are read, and the list of its slots is put into `out`, as far as
-// it has room; a refusal leaves `out` as it was.
-pub fn inquire(tree: &[u8], trace: &[u8], a: u8, k: u32, out: &mut [u8; 65536]) -> Reply
-    ensures answer { λ r. ⌜ r ≡ replyFrom (readTree (now (tree .entry))) (now (trace .entry)) a k ⌝ }
-    ensures list { λ r. ⌜ now (out .exit) ≡ listFrom (readTree (now (tree .entry))) (now (trace .entry)) a k (now (out .entry)) ⌝ }
+// Why transaction k of accelerator a waited on a channel: the tree and the trace are read, and the list of its slots is put into `out`,
+// as far as it has room; a refusal leaves `out` as it was.
+pub fn inquire(
+    tree: &[u8],
+    channel: Channel,
+    trace: &[u8],
+    a: u8,
+    k: u32,
+    out: &mut [u8; 65536],
+) -> Reply
+    ensures answer { λ r. ⌜ r ≡ replyFrom (readTree (now (tree .entry))) channel (now (trace .entry)) a k ⌝ }
+    ensures list { λ r. ⌜ now (out .exit) ≡ listFrom (readTree (now (tree .entry))) channel (now (trace .entry)) a k (now (out .entry)) ⌝ }
 {
     let x = read_tree(tree);
     let answer = x.answer;
     if !is_accepted(answer) {
         return Reply::Refused(Part::Tree, answer_number(answer), answer_line(answer));
     }
-    reply_of(why(x.tree, trace, a, k, out))
+    reply_of(why(x.tree, channel, trace, a, k, out))
 }
 
 // The line of a slot: its number, the accelerator served, and where the paths meet, 255 for own.

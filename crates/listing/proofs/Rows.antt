@@ -36,8 +36,8 @@ module _ (t : Tree) (a : ℕ) (r : BoundAnswer) (k : treeKeeps t ≡ true) (l : 
 
 pub report-end : {d e : List ℕ} {first : ℕ} (t : Tree) (a : ℕ) (b : Bool) {f : List ℕ} {next : ℕ} {g : List ℕ} {last : ℕ}
     → treeKeeps t ≡ true → a ≤ t .accs → t .accs ≤ a → b ≡ all a (λ i. analysisOf t i .meets)
-    → Put 42 d 0 headLine e first → Put (0 + 153 * a) e first (joined a (λ i. rowText i (analysisOf t i))) f next → Put 10 f next (allLine b) g last
-    → Put 4948 d 0 (reportText t) g last
+    → Put 42 d 0 headLine e first → Put (0 + 174 * a) e first (joined a (λ i. rowText i (analysisOf t i))) f next → Put 10 f next (allLine b) g last
+    → Put 5620 d 0 (reportText t) g last
 unfolding reportText
 report-end t a b k h l m p q r =
     let f = le-antisymm h l in

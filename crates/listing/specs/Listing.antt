@@ -1,8 +1,9 @@
 -- The report and the refusal of document 01 (the end of "Figures to check by").
 --
--- headLine             "acc level share yr yw resp period verdict"
+-- headLine             "acc level share yr yw resp period verdict", with sr and sw in the place of share
 -- verdictOf b          `meets` or `late`
--- rowText a r          "The columns are accelerator, L, share, both interferences, response, T and verdict"
+-- rowText a r          "The columns are accelerator, L, share, both interferences, response, T and verdict", where "the report's
+--                      share column becomes two, reads first, named sr and sw" (document 02, item 5)
 -- allLine b            "the last line": `all` and the verdict
 -- allMeet t            whether all accelerators meet their periods
 -- refusalText n l      "A refusal prints one line only: "refused", number and line, parted by tabs"
@@ -19,7 +20,7 @@ use Rattle.text.specs.Write.{decimalText}
 use Rattle.put.specs.Page.{bytes, field, ended, joined}
 
 abbrev pub headLine : List ℕ
-headLine = bytes "acc\tlevel\tshare\tyr\tyw\tresp\tperiod\tverdict\n"
+headLine = bytes "acc\tlevel\tsr\tsw\tyr\tyw\tresp\tperiod\tverdict\n"
 
 abbrev pub verdictOf : Bool → List ℕ
 verdictOf b = pick b (bytes "meets") (bytes "late")
@@ -28,9 +29,10 @@ unfoldable pub rowText : ℕ → Analysis → List ℕ
 rowText a r =
     field (decimalText a)
     ++ field (decimalText (r .level))
-    ++ field (decimalText (r .share))
-    ++ field (decimalText (r .reads))
-    ++ field (decimalText (r .writes))
+    ++ field (decimalText (r .reads .share))
+    ++ field (decimalText (r .writes .share))
+    ++ field (decimalText (r .reads .interference))
+    ++ field (decimalText (r .writes .interference))
     ++ field (decimalText (r .response))
     ++ field (decimalText (r .period))
     ++ ended (verdictOf (r .meets))

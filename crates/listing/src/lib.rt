@@ -35,17 +35,20 @@ fn put_verdict(out: &mut [u8], at: usize, meets: bool) -> usize
 
 // The line of accelerator a.
 fn put_row(out: &mut [u8], at: usize, a: u8, f: Figures) -> usize
-    ensures { λ r. ⌜ Put 153 (now (out .entry)) at (rowText a (figuresMean f)) (now (out .exit)) r ⌝ }
+    ensures { λ r. ⌜ Put 174 (now (out .entry)) at (rowText a (figuresMean f)) (now (out .exit)) r ⌝ }
 {
     let reads = f.reads;
     let writes = f.writes;
+    let yr = reads.interference;
+    let yw = writes.interference;
     let response = f.response;
     let period = f.period;
     let next = put_field(out, at, a as u64, b'\t');
     let next = put_field(out, next, f.level as u64, b'\t');
-    let next = put_field(out, next, f.share, b'\t');
-    let next = put_field(out, next, reads.0, b'\t');
-    let next = put_field(out, next, writes.0, b'\t');
+    let next = put_field(out, next, reads.share, b'\t');
+    let next = put_field(out, next, writes.share, b'\t');
+    let next = put_field(out, next, yr.0, b'\t');
+    let next = put_field(out, next, yw.0, b'\t');
     let next = put_field(out, next, response.0, b'\t');
     let next = put_field(out, next, period.0, b'\t');
     put_verdict(out, next, f.meets)
@@ -57,7 +60,7 @@ fn put_head(out: &mut [u8]) -> usize
     put_bytes(
         out,
         0,
-        b"acc\tlevel\tshare\tyr\tyw\tresp\tperiod\tverdict\n",
+        b"acc\tlevel\tsr\tsw\tyr\tyw\tresp\tperiod\tverdict\n",
     )
 }
 
@@ -71,7 +74,7 @@ fn put_all(out: &mut [u8], at: usize, meets: bool) -> usize
 // The report of a configuration that keeps its rules: no bound of its accelerators is refused.
 fn put_report(t: Tree, out: &mut [u8]) -> usize
     requires { ⌜ treeKeeps t ≡ true ⌝ }
-    ensures { λ r. ⌜ Put 4948 (now (out .entry)) 0 (reportText t) (now (out .exit)) r ⌝ }
+    ensures { λ r. ⌜ Put 5620 (now (out .entry)) 0 (reportText t) (now (out .exit)) r ⌝ }
 {
     let mut next = put_head(out);
     let mut all_meet = true;

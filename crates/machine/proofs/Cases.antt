@@ -10,7 +10,7 @@ use borrow.Author.Tests.{leb-true, leb-false, eqb-true, eqb-false, eq-eqb, not-t
 use Rattle.model.specs.declared.Tree.{Tree}
 use Rattle.model.specs.declared.State.{State}
 use Rattle.folds.specs.Fold.{pick}
-use Rattle.model.specs.Tree.{limitOf, budgetOf, delayOf, waitingOf, returnsOf, outstandingOf, admittedOf}
+use Rattle.model.specs.Tree.{jobOf, limitOf, budgetOf, delayOf, waitingOf, returnsOf, outstandingOf, admittedOf}
 use Rattle.model.specs.Beneath.{inside}
 use Rattle.rules.specs.Rules.{keeps}
 use Rattle.folds.proofs.Folds.{all-at, at-all, clash}
@@ -28,12 +28,13 @@ cases P false x y f g = g refl
 pub data Refuses (t : Tree) (s : State) (a : ℕ) : ℕ → Type 0 where
   broken : keeps t s ≡ false → Refuses t s a 11
   unknown : t .accs ≤ a → Refuses t s a 7
-  outstanding : a < t .accs → limitOf t a ≤ outstandingOf s a → Refuses t s a 8
+  no-job : a < t .accs → jobOf t (s .channel) a ≡ 0 → Refuses t s a 14
+  outstanding : a < t .accs → limitOf t (s .channel) a ≤ outstandingOf s a → Refuses t s a 8
   spent : a < t .accs → budgetOf t a ≤ admittedOf s a → Refuses t s a 9
 
 pub data Offered (t : Tree) (s : State) (a : ℕ) : Outcome → Type 0 where
   refuses : {n : ℕ} → Refuses t s a n → Offered t s a (outcome (refused n) s)
-  admits : a < t .accs → outstandingOf s a < limitOf t a → admittedOf s a < budgetOf t a
+  admits : a < t .accs → outstandingOf s a < limitOf t (s .channel) a → admittedOf s a < budgetOf t a
       → Offered t s a (outcome admitted (admit s a))
 
 pub offer-cases : (t : Tree) (s : State) (a : ℕ) → Offered t s a (offered t s a)
@@ -44,9 +45,10 @@ offer-cases t s a =
     cases P (not (keeps t s)) _ _ (λ e. refuses (Refuses.broken (not-true (keeps t s) e))) (λ _.
     cases Q (leb (t .accs) a) _ _ (λ e. refuses (unknown (leb-true _ _ e))) (λ e.
     let la = leb-false (t .accs) a e in
-    cases Q (leb (limitOf t a) (outstandingOf s a)) _ _ (λ f. refuses (outstanding la (leb-true _ _ f))) (λ f.
+    cases Q (eqb (jobOf t (s .channel) a) 0) _ _ (λ j. refuses (no-job la (eqb-true _ _ j))) (λ _.
+    cases Q (leb (limitOf t (s .channel) a) (outstandingOf s a)) _ _ (λ f. refuses (outstanding la (leb-true _ _ f))) (λ f.
     cases Q (leb (budgetOf t a) (admittedOf s a)) _ _ (λ g. refuses (spent la (leb-true _ _ g))) (λ g.
-    admits la (leb-false _ _ f) (leb-false _ _ g)))))
+    admits la (leb-false _ _ f) (leb-false _ _ g))))))
 
 -- a set of returns is a small number
 pub few-returns : (t : Tree) (s : State) → keeps t s ≡ true → (a : ℕ) → returnsOf s a < 65536

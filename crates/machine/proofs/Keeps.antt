@@ -13,6 +13,7 @@ use lib.ListN.{getD, length, set, replicate, length-set, length-append, length-r
 use lib.Seq.{getD-set-same, getD-set-other, getD-append-add}
 use Rattle.model.specs.declared.Tree.{Tree}
 use Rattle.model.specs.declared.State.{State}
+use Rattle.model.specs.declared.Channel.{Channel}
 use Rattle.folds.specs.Fold.{pick}
 use Rattle.model.specs.Tree.{granularityOf, limitOf, budgetOf, path, delayOf, waitingOf, returnsOf, returningOf, outstandingOf, admittedOf, lastOf, allowanceOf, portOf}
 use Rattle.model.specs.Builders.{atSlot}
@@ -46,20 +47,20 @@ bump f g a b h l = elim (ℕ-discrete a b) [
   | no d ↦ omega (arith, only-other a b d)
 ]
 
-module _ (t : Tree) (S : Sound t) where
-  fresh-last : (j : ℕ) → j < t .ints → lastOf (freshState t) j ≡ 7
+module _ (t : Tree) (S : Sound t) (c : Channel) where
+  fresh-last : (j : ℕ) → j < t .ints → lastOf (freshState t c) j ≡ 7
   fresh-last j l = List·getD-append (replicate (t .ints) 7) _ 0 j (omega (arith, length-replicate {A = ℕ} (t .ints) 7))
       ∙ getD-replicate (t .ints) j 7 0 l
 
-  fresh-unused : (j : ℕ) → t .ints ≤ j → lastOf (freshState t) j ≡ 0
-  fresh-unused j l = ap (lastOf (freshState t)) past
+  fresh-unused : (j : ℕ) → t .ints ≤ j → lastOf (freshState t c) j ≡ 0
+  fresh-unused j l = ap (lastOf (freshState t c)) past
       ∙ getD-append-add (replicate (t .ints) 7) (replicate (15 - t .ints) 0) (j - t .ints) 0
       ∙ zeros (15 - t .ints) (j - t .ints)
     where
       past : j ≡ length (replicate {A = ℕ} (t .ints) 7) + (j - t .ints)
       past = omega (arith, length-replicate {A = ℕ} (t .ints) 7)
 
-  pub fresh-kept : Kept t (freshState t)
+  pub fresh-kept : Kept t (freshState t c)
   fresh-kept = record {
     waiting-size = refl;
     admitted-size = refl;
@@ -79,12 +80,13 @@ module _ (t : Tree) (S : Sound t) where
     no-allowance = λ j l. zeros 15 j;
   }
 
-  pub fresh-way : OnWay t (freshState t)
+  pub fresh-way : OnWay t (freshState t c)
   fresh-way = record {
     even = λ a l. ap (λ x. x % 2) (zeros 32 a);
     recent = λ a l. omega (arith, zeros 32 a, one-le-pow (delayOf t + 1) 2 (lit< tt));
   }
 
+module _ (t : Tree) (S : Sound t) where
   -- what is one slot older was served 1 to r slots ago, whatever it was before
   pub tick-way : (s : State) → OnWay t (tick t s)
   unfolding tick
@@ -153,15 +155,15 @@ module _ (t : Tree) (S : Sound t) where
       pub admit-way : OnWay t s → OnWay t (admit s a)
       admit-way w = record { even = w .even; recent = w .recent }
 
-      pub admit-kept : outstandingOf s a < limitOf t a → admittedOf s a < budgetOf t a → Kept t (admit s a)
+      pub admit-kept : outstandingOf s a < limitOf t (s .channel) a → admittedOf s a < budgetOf t a → Kept t (admit s a)
       admit-kept h m = record {
         waiting-size = length-set (s .waiting) _ _ ∙ K .waiting-size;
         admitted-size = length-set (s .admitted) _ _ ∙ K .admitted-size;
         last-size = K .last-size;
         allowance-size = K .allowance-size;
         returning-size = K .returning-size;
-        outstanding = λ b l. omega (arith, admit-waiting b, bump (outstandingOf s) (limitOf t) a b h (K .outstanding b l));
-        waiting = λ b l. omega (arith, admit-waiting b, bump (outstandingOf s) (limitOf t) a b h (K .outstanding b l));
+        outstanding = λ b l. omega (arith, admit-waiting b, bump (outstandingOf s) (limitOf t (s .channel)) a b h (K .outstanding b l));
+        waiting = λ b l. omega (arith, admit-waiting b, bump (outstandingOf s) (limitOf t (s .channel)) a b h (K .outstanding b l));
         admitted = λ b l. omega (arith, admit-admitted b, bump (admittedOf s) (budgetOf t) a b m (K .admitted b l));
         no-waiting = λ b l. omega (arith, admit-waiting b, K .no-waiting b l, only-other a b (omega arith));
         no-admitted = λ b l. omega (arith, admit-admitted b, K .no-admitted b l, only-other a b (omega arith));
@@ -182,6 +184,9 @@ module _ (t : Tree) (S : Sound t) where
 
       same-admitted : (b : ℕ) → admittedOf r b ≡ admittedOf s b
       same-admitted b = ap (λ l. getD l b 0) (C .frame .admitted)
+
+      same-limit : (b : ℕ) → limitOf t (r .channel) b ≡ limitOf t (s .channel) b
+      same-limit b = ap (λ k. limitOf t k b) (C .frame .channel)
 
       pub take-waiting : (b : ℕ) → waitingOf s b ≡ waitingOf (takeOne r a) b + only a b
       take-waiting b = sym (same-waiting b)
@@ -240,8 +245,8 @@ module _ (t : Tree) (S : Sound t) where
         last-size = C .frame .last-size ∙ K .last-size;
         allowance-size = C .frame .allowance-size ∙ K .allowance-size;
         returning-size = length-set (r .returning) _ _ ∙ ap length (C .frame .returning) ∙ K .returning-size;
-        outstanding = λ b l. omega (arith, take-waiting b, take-returning W b, K .outstanding b l);
-        waiting = λ b l. omega (arith, take-waiting b, K .waiting b l);
+        outstanding = λ b l. omega (arith, take-waiting b, take-returning W b, K .outstanding b l, same-limit b);
+        waiting = λ b l. omega (arith, take-waiting b, K .waiting b l, same-limit b);
         admitted = λ b l. omega (arith, same-admitted b, K .admitted b l);
         no-waiting = λ b l. omega (arith, take-waiting b, K .no-waiting b l);
         no-admitted = λ b l. omega (arith, same-admitted b, K .no-admitted b l);

@@ -7,27 +7,29 @@ use native.Mathlib.Decide.{decLt}
 use native.Mathlib.Omega.{arith}
 use lib.ListN.{getD}
 use lib.Seq.{getD-set-other}
-use lib.Dec.{leb}
+use lib.Dec.{leb, eqb}
 use borrow.Author.Tests.{eq-eqb, ne-eqb, le-leb, lt-leb}
 use Rattle.model.specs.declared.Tree.{Tree}
 use Rattle.model.specs.declared.State.{State}
+use Rattle.model.specs.declared.Channel.{Channel}
 use Rattle.folds.specs.Fold.{pick}
-use Rattle.model.specs.Tree.{granularityOf, limitOf, budgetOf, windowOf, path, delayOf, waitingOf, returnsOf, outstandingOf, admittedOf, lastOf, allowanceOf}
+use Rattle.model.specs.Tree.{granularityOf, jobOf, phiOf, limitOf, budgetOf, windowOf, path, delayOf, waitingOf, returnsOf, outstandingOf, admittedOf, lastOf, allowanceOf}
 use Rattle.model.specs.Beneath.{waitsUnder}
 use Rattle.rules.specs.Rules.{treeKeeps, keeps}
 use Rattle.folds.proofs.Folds.{joined, picked, passed, clash}
 use Rattle.rules.proofs.Sound.{Sound, sound, Kept, keeping, sound-of, kept-of, way-of, keeps-of}
 use Rattle.rules.proofs.Beneath.{On, only, only-same, only-other, root-zero}
 use Rattle.turns.specs.Turns.{turnPort, after}
-use Rattle.machine.specs.Machine.{admitted, served, idle, refused, Outcome, freshState, admit, limitsAnswer, verdictOf, offered, opens, lastSlot, tick, chosen, takeOne, slotted}
+use Rattle.machine.specs.Machine.{Answer, admitted, served, idle, refused, Outcome, freshState, admit, limitsAnswer, verdictOf, offered, opens, lastSlot, tick, chosen, takeOne, slotted}
+use Rattle.machine.specs.Calls.{Call, offer, slot, step}
 use Rattle.turns.proofs.Descent.{Turned, Unturned, Choice, choice}
 use Rattle.machine.proofs.Cases.{Offered, refuses, admits, offer-cases, Stops, stopped, Slotted, stops, idles, serves, slot-cases}
 use Rattle.machine.proofs.Keeps.{zeros, fresh-kept, fresh-way, tick-kept, tick-way, admit-waiting, admit-admitted, admit-kept, admit-way, take-waiting, take-returns, take-kept}
 use Rattle.machine.proofs.Returns.{older-at}
 use Rattle.machine.proofs.Windows.{window-opens}
 
-pub fresh-keeps : (t : Tree) → treeKeeps t ≡ true → keeps t (freshState t) ≡ true
-fresh-keeps t e = joined (treeKeeps t) _ e (keeping t (freshState t) (fresh-kept t (sound t e)) (fresh-way t (sound t e)))
+pub fresh-keeps : (t : Tree) (c : Channel) → treeKeeps t ≡ true → keeps t (freshState t c) ≡ true
+fresh-keeps t c e = joined (treeKeeps t) _ e (keeping t (freshState t c) (fresh-kept t (sound t e) c) (fresh-way t (sound t e) c))
 
 pub allowance-bounded : (t : Tree) (s : State) → keeps t s ≡ true → (j : ℕ) → j < t .ints
     → allowanceOf s j ≤ min (granularityOf t j) (waitsUnder t s j (lastOf s j))
@@ -75,6 +77,7 @@ pub record Others (s r : State) (a : ℕ) : Type 0 where
   pub last : r .last ≡ s .last
   pub allowance : r .allowance ≡ s .allowance
   pub slot : r .slot ≡ s .slot
+  pub channel : r .channel ≡ s .channel
 
 pub offer-others : (t : Tree) (s : State) (a : ℕ) → Others s (offered t s a .state) a
 offer-others t s a = go (offered t s a) (offer-cases t s a)
@@ -87,6 +90,7 @@ offer-others t s a = go (offered t s a) (offer-cases t s a)
       last = refl;
       allowance = refl;
       slot = refl;
+      channel = refl;
     }
     go o (admits l h m) = record {
       waiting = λ b d. getD-set-other (s .waiting) a b _ 0 d;
@@ -95,6 +99,7 @@ offer-others t s a = go (offered t s a) (offer-cases t s a)
       last = refl;
       allowance = refl;
       slot = refl;
+      channel = refl;
     }
 
 -- an offer's answer, once the state passes
@@ -102,27 +107,39 @@ pub offer-verdict : (t : Tree) (s : State) (a : ℕ) → keeps t s ≡ true → 
 unfolding offered
 offer-verdict t s a k = ap (λ (o : Outcome). o .answer) (passed _ _ _ (ap not k))
 
--- an accelerator is in the tree exactly if it may have one outstanding
-known : (t : Tree) → Sound t → (a : ℕ) → leb (t .accs) a ≡ leb (limitOf t a) 0
+-- an accelerator is in the tree exactly if its phi is above 0
+known : (t : Tree) → Sound t → (a : ℕ) → leb (t .accs) a ≡ leb (phiOf t a) 0
 known t S a = elim (decLt a (t .accs)) [
-  | yes l ↦ lt-leb (t .accs) a l ∙ sym (lt-leb (limitOf t a) 0 (S .limit a l .0))
+  | yes l ↦ lt-leb (t .accs) a l ∙ sym (lt-leb (phiOf t a) 0 (S .phi a l .0))
   | no d ↦
       let e : t .accs ≤ a = omega arith in
-      le-leb (t .accs) a e ∙ sym (le-leb (limitOf t a) 0 (omega (arith, S .no-limit a e)))
+      le-leb (t .accs) a e ∙ sym (le-leb (phiOf t a) 0 (omega (arith, S .no-phi a e)))
 ]
 
--- the answer depends on the accelerator's own limits and record alone, in any two configurations
+-- by its tests
+abbrev verdict : ℕ → ℕ → ℕ → ℕ → ℕ → Answer
+verdict phi job outstanding budget count =
+    pick (leb phi 0) (refused 7)
+    (pick (eqb job 0) (refused 14) (limitsAnswer (pick (eqb job 0) 0 phi) outstanding budget count))
+
+-- the answer depends on the accelerator's own limits and record alone, in any two configurations and on any two channels
 pub offer-own : (t u : Tree) (s r : State) (a : ℕ) → keeps t s ≡ true → keeps u r ≡ true
-    → limitOf t a ≡ limitOf u a → budgetOf t a ≡ budgetOf u a
+    → phiOf t a ≡ phiOf u a → jobOf t (s .channel) a ≡ jobOf u (r .channel) a → budgetOf t a ≡ budgetOf u a
     → outstandingOf s a ≡ outstandingOf r a → admittedOf s a ≡ admittedOf r a
     → offered t s a .answer ≡ offered u r a .answer
-offer-own t u s r a k l e f o n =
-    offer-verdict t s a k
-    ∙ ap₂ (λ c v. pick c (refused 7) v)
-    (known t (sound-of t s k) a ∙ ap (λ m. leb m 0) e ∙ sym (known u (sound-of u r l) a))
-    (ap₂ (λ m b. limitsAnswer m (outstandingOf s a) b (admittedOf s a)) e f
-    ∙ ap₂ (λ w m. limitsAnswer (limitOf u a) w (budgetOf u a) m) o n)
-    ∙ sym (offer-verdict u r a l)
+offer-own t u s r a k l e j f o n =
+    tests t s k
+    ∙ ap₂ (λ p q. verdict p q (outstandingOf s a) (budgetOf t a) (admittedOf s a)) e j
+    ∙ ap₂ (λ p q. verdict (phiOf u a) (jobOf u (r .channel) a) p q (admittedOf s a)) o f
+    ∙ ap (verdict (phiOf u a) (jobOf u (r .channel) a) (outstandingOf r a) (budgetOf u a)) n
+    ∙ sym (tests u r l)
+  where
+    tests : (t : Tree) (s : State) → keeps t s ≡ true
+        → offered t s a .answer ≡ verdict (phiOf t a) (jobOf t (s .channel) a) (outstandingOf s a) (budgetOf t a) (admittedOf s a)
+    tests t s k =
+        offer-verdict t s a k
+        ∙ ap (λ c. pick c (refused 7) (pick (eqb (jobOf t (s .channel) a) 0) (refused 14) (limitsAnswer (limitOf t (s .channel) a) (outstandingOf s a) (budgetOf t a) (admittedOf s a))))
+        (known t (sound-of t s k) a)
 
 -- a slot that served a: one of a's that waited waits no more, and nobody else's
 pub record Served (t : Tree) (s : State) (a : ℕ) (r : State) : Type 0 where
@@ -279,6 +296,17 @@ module _ (t : Tree) (s : State) where
       go o (serves k d w) f =
           let c = choice t (sound-of t s k) s (kept-of t s k) w in
           ticked t s _ (c .frame .slot) (c .frame .admitted)
+
+-- no call changes the channel
+pub step-channel : (t : Tree) (s : State) (c : Call) → step t s c .state .channel ≡ s .channel
+unfolding tick
+step-channel t s (offer a) = offer-others t s a .channel
+step-channel t s slot = go (slotted t s) (slot-cases t s)
+  where
+    go : (o : Outcome) → Slotted t s o → o .state .channel ≡ s .channel
+    go o (stops w) = refl
+    go o (idles k d z) = refl
+    go o (serves k d w) = choice t (sound-of t s k) s (kept-of t s k) w .frame .channel
 
 -- the next slot opens a window exactly if its number is a multiple of the window
 pub slot-opens : (t : Tree) → treeKeeps t ≡ true → (n : ℕ)

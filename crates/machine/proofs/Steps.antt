@@ -12,9 +12,11 @@ use lib.Dec.{leb}
 use borrow.Author.Tests.{eq-eqb, ne-eqb, le-leb, lt-leb, leb-false}
 use Rattle.model.specs.declared.Tree.{Tree}
 use Rattle.model.specs.declared.State.{State}
-use Rattle.model.specs.Tree.{windowOf, delayOf, waitingOf, returnsOf, outstandingOf, admittedOf, limitOf, budgetOf}
+use Rattle.model.specs.declared.Channel.{Channel}
+use Rattle.model.specs.Tree.{windowOf, delayOf, waitingOf, returnsOf, outstandingOf, admittedOf, jobOf, phiOf, limitOf, budgetOf}
 use Rattle.model.specs.Builders.{zeroState, withCounts, withService, atSlot}
 use Rattle.rules.specs.Rules.{treeKeeps, keeps}
+use Rattle.rules.proofs.Sound.{limit-phi}
 use Rattle.folds.specs.Fold.{pick}
 use Rattle.folds.proofs.Folds.{picked, passed, clash}
 use Rattle.machine.specs.Machine.{Answer, outcome, admitted, served, idle, refused, started, notStarted, beginning, freshState, freshened}
@@ -89,10 +91,16 @@ module _ (t : Tree) (s : State) (a : ℕ) where
   pub verdict-7 : t .accs ≤ a → refused 7 ≡ verdictOf t s a
   verdict-7 h = sym (picked _ _ _ (le-leb _ _ h))
 
-  -- the answer to an accelerator in the tree is that of its limits
-  pub verdict-known : a < t .accs
-      → limitsAnswer (limitOf t a) (outstandingOf s a) (budgetOf t a) (admittedOf s a) ≡ verdictOf t s a
-  verdict-known h = sym (passed _ _ _ (lt-leb _ _ h))
+  module _ (h : a < t .accs) where
+    pub verdict-14 : jobOf t (s .channel) a ≡ 0 → refused 14 ≡ verdictOf t s a
+    verdict-14 e = sym (passed _ _ _ (lt-leb _ _ h) ∙ picked _ _ _ (eq-eqb _ _ e))
+
+    -- the answer to an accelerator that has a job on the channel is that of its limits
+    pub verdict-known : (jobOf t (s .channel) a ≡ 0 → ⊥)
+        → limitsAnswer (phiOf t a) (outstandingOf s a) (budgetOf t a) (admittedOf s a) ≡ verdictOf t s a
+    verdict-known d =
+        ap (λ (n : ℕ). limitsAnswer n (outstandingOf s a) (budgetOf t a) (admittedOf s a)) (sym (limit-phi t (s .channel) a d))
+        ∙ sym (passed _ _ _ (lt-leb _ _ h) ∙ passed _ _ _ (ne-eqb _ _ d))
 
   pub offer-answered : (v : Answer) → v ≡ verdictOf t s a → outcome v (onAdmitted v (admit s a) s) ≡ offeredWithin t s a
   offer-answered v e = ap (λ (x : Answer). outcome x (onAdmitted x (admit s a) s)) e
@@ -118,12 +126,12 @@ module _ (t : Tree) (s : State) where
     serves-within w = sym (passed _ _ _ (ne-eqb _ _ h) ∙ passed _ _ _ w)
 
 -- the start
-module _ (t : Tree) where
-  pub fresh-11 : treeKeeps t ≡ false → beginning (notStarted 11) zeroState ≡ freshened t
+module _ (t : Tree) (c : Channel) where
+  pub fresh-11 : treeKeeps t ≡ false → beginning (notStarted 11) (zeroState c) ≡ freshened t c
   unfolding freshened
   fresh-11 k = sym (passed _ _ _ k)
 
-  pub fresh-started : treeKeeps t ≡ true → beginning started (freshState t) ≡ freshened t
+  pub fresh-started : treeKeeps t ≡ true → beginning started (freshState t c) ≡ freshened t c
   unfolding freshened
   fresh-started k = sym (picked _ _ _ k)
 
@@ -132,7 +140,8 @@ drop-zeros m zero = rw sub-zero
 drop-zeros zero (suc k) = rw zero-sub
 drop-zeros (suc m) (suc k) = drop-zeros m k ∙ ap (λ (n : ℕ). replicate n 0) (sym (suc-sub-suc m k))
 
-pub last-ports : (t : Tree) (l : List ℕ) (j : ℕ) → l ≡ replicate j 7 ++ drop j (replicate 15 0) → j ≤ t .ints → t .ints ≤ j → l ≡ freshState t .last
-last-ports t l j e h k =
+pub last-ports : (t : Tree) (c : Channel) (l : List ℕ) (j : ℕ) → l ≡ replicate j 7 ++ drop j (replicate 15 0) → j ≤ t .ints → t .ints ≤ j
+    → l ≡ freshState t c .last
+last-ports t c l j e h k =
     e ∙ ap (λ (x : List ℕ). replicate j 7 ++ x) (drop-zeros 15 j)
     ∙ ap (λ (n : ℕ). replicate n 7 ++ replicate (15 - n) 0) (le-antisymm h k)

@@ -1,22 +1,24 @@
--- Fresh state, offer and slot (document 01, "What is refused" and "Turns").
+-- Fresh state, offer and slot of one channel (document 01, "What is refused" and "Turns"; document 02, items 2 and 5). Reads and writes
+-- share nothing: each channel has a state of its own, which says of which it is.
 --
 -- Answer               what an offer or a slot answers: an offer is admitted, a slot serves an accelerator or is idle, and
 --                      either is refused by a number of document 01's table
 -- Outcome              a call's answer and the state that it returns; outcome a s: the answer a with the state s
--- freshState t         "At the start nothing waits, all admitted counts and the slot are 0, every allowance is 0 and the
+-- freshState t c       of channel c: "At the start nothing waits, all admitted counts and the slot are 0, every allowance is 0 and the
 --                      last port of every interconnect in the tree is 7"
 -- Start                what the start answers: started, or refused by a number
 -- Beginning            the start's answer and the state that it returns; beginning a s: the answer a with the state s
--- freshened t          the starting state, or 11, and then no state but zeros
+-- freshened t c        the starting state of channel c, or 11, and then no state but zeros
 -- admit s a            "waiting and admitted rise by one"
 -- limitsAnswer l o b n what an offer answers to an accelerator with outstanding limit l and budget b, of which o are
 --                      outstanding and n were admitted in this window: 8, 9, or admitted
--- verdictOf t s a      what the offer of one transaction answers once configuration and state have passed: 7, 8, 9, or
---                      admitted
+-- verdictOf t s a      what the offer of one transaction answers once configuration and state have passed: 7, 14, 8, 9, or admitted
+--                      (document 02, item 5: "14 for an offer on a channel where the accelerator has 0 transactions, after 7 and
+--                      before 8")
 -- onAdmitted v x y     x where the answer v is admitted, else y
 -- offeredWithin t s a  that answer, and the state: "An offer admits one transaction unless refused above", and a refusal
 --                      leaves the state as it was
--- offered t s a        the offer of one transaction: 11, 7, 8, 9 in this order, or admitted
+-- offered t s a        the offer of one transaction: 11, 7, 14, 8, 9 in this order, or admitted
 -- noneWaits s          nothing waits
 -- opens t n            slot n + 1 is in another window than slot n
 -- lastSlot             the slot count at which a slot is refused
@@ -37,8 +39,9 @@ use lib.ListN.{set, replicate}
 use lib.Dec.{leb, eqb}
 use Rattle.model.specs.declared.Tree.{Tree}
 use Rattle.model.specs.declared.State.{State}
+use Rattle.model.specs.declared.Channel.{Channel}
 use Rattle.folds.specs.Fold.{pick, all}
-use Rattle.model.specs.Tree.{limitOf, budgetOf, windowOf, delayOf, waitingOf, returnsOf, outstandingOf, admittedOf}
+use Rattle.model.specs.Tree.{jobOf, limitOf, budgetOf, windowOf, delayOf, waitingOf, returnsOf, outstandingOf, admittedOf}
 use Rattle.model.specs.Builders.{zeroState, withCounts, withService, withTurns, atSlot}
 use Rattle.rules.specs.Rules.{treeKeeps, keeps}
 use Rattle.turns.specs.Turns.{who, after}
@@ -56,8 +59,8 @@ pub record Outcome : Type 0 where
 abbrev pub outcome : Answer → State → Outcome
 outcome a s = record { answer = a; state = s }
 
-abbrev pub freshState : Tree → State
-freshState t = withTurns zeroState (replicate (t .ints) 7 ++ replicate (15 - t .ints) 0) (replicate 15 0)
+abbrev pub freshState : Tree → Channel → State
+freshState t c = withTurns (zeroState c) (replicate (t .ints) 7 ++ replicate (15 - t .ints) 0) (replicate 15 0)
 
 pub data Start : Type 0 where
   started : Start
@@ -70,8 +73,8 @@ pub record Beginning : Type 0 where
 abbrev pub beginning : Start → State → Beginning
 beginning a s = record { answer = a; state = s }
 
-unfoldable pub freshened : Tree → Beginning
-freshened t = pick (treeKeeps t) (beginning started (freshState t)) (beginning (notStarted 11) zeroState)
+unfoldable pub freshened : Tree → Channel → Beginning
+freshened t c = pick (treeKeeps t) (beginning started (freshState t c)) (beginning (notStarted 11) (zeroState c))
 
 abbrev pub admit : State → ℕ → State
 admit s a = withCounts s (set (s .waiting) a (waitingOf s a + 1)) (set (s .admitted) a (admittedOf s a + 1))
@@ -82,7 +85,9 @@ limitsAnswer limit outstanding budget count =
 
 abbrev pub verdictOf : Tree → State → ℕ → Answer
 verdictOf t s a =
-    pick (leb (t .accs) a) (refused 7) (limitsAnswer (limitOf t a) (outstandingOf s a) (budgetOf t a) (admittedOf s a))
+    pick (leb (t .accs) a) (refused 7)
+    (pick (eqb (jobOf t (s .channel) a) 0) (refused 14)
+    (limitsAnswer (limitOf t (s .channel) a) (outstandingOf s a) (budgetOf t a) (admittedOf s a)))
 
 abbrev pub onAdmitted : {A : Type 0} → Answer → A → A → A
 onAdmitted admitted x y = x

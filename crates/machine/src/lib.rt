@@ -1,11 +1,14 @@
-// The machine of document 01: the fresh state, the offer of one transaction, and one slot of service. Each call takes the
-// configuration and a state by value and returns its answer with the next state; a refusal returns the state it was handed.
+// The machine of document 01 for one channel, reads or writes: the fresh state, the offer of one transaction, and one slot of service.
+// Each call takes the configuration and a state by value and returns its answer with the next state, which is of the same channel; a
+// refusal returns the state it was handed.
+use model::Channel;
 use model::Port;
 use model::Refusal;
 use model::State;
 use model::Tree;
 use model::access::accelerator_at;
 use model::access::admitted_of;
+use model::access::job_of;
 use model::access::outstanding_of;
 use model::access::waiting_of;
 use rules::both_keep;
@@ -59,8 +62,8 @@ pub struct SlotReply {
     pub state: State,
 }
 
-fn zero_state() -> State
-    ensures { λ r. ⌜ r ≡ zeroState ⌝ }
+fn zero_state(channel: Channel) -> State
+    ensures { λ r. ⌜ r ≡ zeroState channel ⌝ }
 {
     State {
         waiting: [0u8; 32],
@@ -69,12 +72,13 @@ fn zero_state() -> State
         last: [0u8; 15],
         allowance: [0u8; 15],
         slot: 0,
+        channel: channel,
     }
 }
 
-fn fresh_state(t: Tree) -> State
+fn fresh_state(t: Tree, channel: Channel) -> State
     requires { ⌜ t .ints ≤ 15 ⌝ }
-    ensures { λ r. ⌜ r ≡ freshState t ⌝ }
+    ensures { λ r. ⌜ r ≡ freshState t channel ⌝ }
 {
     let n = t.ints as usize;
     let mut last = [0u8; 15];
@@ -83,23 +87,23 @@ fn fresh_state(t: Tree) -> State
         last[j] = 7;
         j += 1;
     }
-    let mut state = zero_state();
+    let mut state = zero_state(channel);
     state.last = last;
     state
 }
 
-// The starting state of a configuration that keeps its rules; else refusal 11, with a state of zeros.
-pub fn fresh(t: Tree) -> FreshReply
-    ensures { λ r. ⌜ freshOutcome r ≡ freshened t ⌝ }
+// The starting state of a channel, of a configuration that keeps its rules; else refusal 11, with a state of zeros.
+pub fn fresh(t: Tree, channel: Channel) -> FreshReply
+    ensures { λ r. ⌜ freshOutcome r ≡ freshened t channel ⌝ }
 {
     if !tree_keeps(t) {
-        let zeros = zero_state();
+        let zeros = zero_state(channel);
         return FreshReply {
             answer: FreshAnswer::Refused(Refusal::Rules),
             state: zeros,
         };
     }
-    let state = fresh_state(t);
+    let state = fresh_state(t, channel);
     FreshReply {
         answer: FreshAnswer::Started,
         state: state,
@@ -141,6 +145,10 @@ fn offer_answer(t: Tree, s: State, a: u8) -> OfferAnswer
 {
     if t.accs <= a {
         return OfferAnswer::Refused(Refusal::Unknown);
+    }
+    let channel = s.channel;
+    if job_of(t, channel, a) == 0 {
+        return OfferAnswer::Refused(Refusal::NoJob);
     }
     let x = accelerator_at(t, a);
     limits_answer(

@@ -1,7 +1,9 @@
 -- A state, a configuration and its parts with some fields changed and the others as they were. Who changes a part names what
 -- it changes, so that a new field of a record is an edit of this file and of the values that are written out whole.
 --
--- zeroState              the state with nothing in it
+-- stateWith c w x m l o n  the state of channel c with the waiting counts w, the returns x, the admitted counts m, the last ports l, the
+--                        allowances o and the slot count n
+-- zeroState c            the state of channel c with nothing in it
 -- withCounts s w m       state s with the waiting counts w and the admitted counts m
 -- withService s w x      state s with the waiting counts w and the returns x
 -- withTurns s l o        state s with the last ports l and the allowances o
@@ -16,65 +18,29 @@ use mathlib.Core.List.{List}
 use lib.ListN.{set, replicate}
 use Rattle.model.specs.declared.Tree.{Tree}
 use Rattle.model.specs.declared.State.{State}
+use Rattle.model.specs.declared.Channel.{Channel}
 use Rattle.model.specs.declared.Bus.{Bus}
 use Rattle.model.specs.declared.Interconnect.{Interconnect}
 use Rattle.model.specs.declared.Accelerator.{Accelerator}
 use Rattle.model.specs.declared.Port.{Port}
 
-abbrev pub zeroState : State
-zeroState =
-    record {
-      waiting = replicate 32 0;
-      returning = replicate 32 0;
-      admitted = replicate 32 0;
-      last = replicate 15 0;
-      allowance = replicate 15 0;
-      slot = 0;
-    }
+abbrev pub stateWith : Channel → (w x m l o : List ℕ) → ℕ → State
+stateWith c w x m l o n = record { waiting = w; returning = x; admitted = m; last = l; allowance = o; slot = n; channel = c }
+
+abbrev pub zeroState : Channel → State
+zeroState c = stateWith c (replicate 32 0) (replicate 32 0) (replicate 32 0) (replicate 15 0) (replicate 15 0) 0
 
 abbrev pub withCounts : State → List ℕ → List ℕ → State
-withCounts s waiting admitted =
-    record {
-      waiting = waiting;
-      returning = s .returning;
-      admitted = admitted;
-      last = s .last;
-      allowance = s .allowance;
-      slot = s .slot;
-    }
+withCounts s w m = stateWith (s .channel) w (s .returning) m (s .last) (s .allowance) (s .slot)
 
 abbrev pub withService : State → List ℕ → List ℕ → State
-withService s waiting returning =
-    record {
-      waiting = waiting;
-      returning = returning;
-      admitted = s .admitted;
-      last = s .last;
-      allowance = s .allowance;
-      slot = s .slot;
-    }
+withService s w x = stateWith (s .channel) w x (s .admitted) (s .last) (s .allowance) (s .slot)
 
 abbrev pub withTurns : State → List ℕ → List ℕ → State
-withTurns s last allowance =
-    record {
-      waiting = s .waiting;
-      returning = s .returning;
-      admitted = s .admitted;
-      last = last;
-      allowance = allowance;
-      slot = s .slot;
-    }
+withTurns s l o = stateWith (s .channel) (s .waiting) (s .returning) (s .admitted) l o (s .slot)
 
 abbrev pub atSlot : State → List ℕ → List ℕ → ℕ → State
-atSlot s returning admitted slot =
-    record {
-      waiting = s .waiting;
-      returning = returning;
-      admitted = admitted;
-      last = s .last;
-      allowance = s .allowance;
-      slot = slot;
-    }
+atSlot s x m n = stateWith (s .channel) (s .waiting) x m (s .last) (s .allowance) n
 
 abbrev pub withBus : Tree → Bus → Tree
 withBus t bus =

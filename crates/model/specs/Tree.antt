@@ -10,7 +10,10 @@
 -- parentPortOf t j      the port on the parent that carries interconnect j
 -- homeOf t a            the interconnect that accelerator a is on
 -- homePortOf t a        the port there that carries accelerator a
--- limitOf t a           how many transactions of accelerator a may be outstanding: phi
+-- phiOf t a             the outstanding limit phi of accelerator a
+-- jobOf t c a           the transactions that a job of accelerator a has on channel c: Nr or Nw
+-- limitOf t c a         how many transactions of accelerator a may be outstanding on channel c: phi, but "On a channel where a job
+--                       has 0 transactions, the capacity of that accelerator now counts 0" (document 02, item 5)
 -- budgetOf t a          the budget of accelerator a, in transactions a window
 -- windowOf t n          the window of slot n ("slot s is in window floor(s / P), slots counted from 0")
 -- Crossing              an interconnect on a path, and the port of it by which the path comes in
@@ -39,6 +42,8 @@ use Rattle.model.specs.declared.State.{State}
 use Rattle.model.specs.declared.Interconnect.{Interconnect}
 use Rattle.model.specs.declared.Accelerator.{Accelerator}
 use Rattle.model.specs.declared.PortCell.{PortCell}
+use Rattle.model.specs.declared.Channel.{Channel}
+use Rattle.model.specs.declared.Channel.the-variants.{Read, Write}
 use Rattle.model.specs.declared.Port.{Port}
 use Rattle.model.specs.declared.Port.the-variants.{Empty}
 use Rattle.folds.specs.Fold.{pick}
@@ -76,8 +81,15 @@ homeOf t a = acceleratorOf t a .interconnect
 abbrev pub homePortOf : Tree → ℕ → ℕ
 homePortOf t a = acceleratorOf t a .port
 
-abbrev pub limitOf : Tree → ℕ → ℕ
-limitOf t a = acceleratorOf t a .phi
+abbrev pub phiOf : Tree → ℕ → ℕ
+phiOf t a = acceleratorOf t a .phi
+
+abbrev pub jobOf : Tree → Channel → ℕ → ℕ
+jobOf t Read a = acceleratorOf t a .reads
+jobOf t Write a = acceleratorOf t a .writes
+
+abbrev pub limitOf : Tree → Channel → ℕ → ℕ
+limitOf t c a = pick (eqb (jobOf t c a) 0) 0 (phiOf t a)
 
 abbrev pub budgetOf : Tree → ℕ → ℕ
 budgetOf t a = acceleratorOf t a .budget

@@ -16,6 +16,9 @@
 --                      budget b
 -- returningPair r f h  one interconnect of granularity 1, window 16 and return delay r with two accelerators, of phi f and h, at ports 0
 --                      and 1, each of budget 8
+-- mapTree r f h        one interconnect of granularity 1, window 16 and return delay r: accelerator 0 with phi f, one read and one write;
+--                      accelerator 1, at the other port, with phi h, no read and one write (document 02, item 5: "Our map block never
+--                      reads"); each of budget 8
 -- worked               the tree of the report's worked listing
 -- nested               a tree whose shares tell the plain sum of capacities from nested minima
 use Prim.Native.Nat.{ℕ, _-_}
@@ -86,6 +89,10 @@ pair g P f h b =
 abbrev pub returningPair : ℕ → ℕ → ℕ → Tree
 returningPair r f h =
     treeWith 16 r (interconnect 0 0 1 (ports (Acc 0) (Acc 1)) ∷ []) (block 0 0 f 8 ∷ block 0 1 h 8 ∷ [])
+
+abbrev pub mapTree : ℕ → ℕ → ℕ → Tree
+mapTree r f h =
+    treeWith 16 r (interconnect 0 0 1 (ports (Acc 0) (Acc 1)) ∷ []) (block 0 0 f 8 ∷ withJob 0 1 0 1 (block 0 1 h 8) ∷ [])
 
 abbrev pub nested : Tree
 nested =

@@ -1,5 +1,6 @@
 // Reading a configuration and a state: total, by value.
 use crate::Accelerator;
+use crate::Channel;
 use crate::Interconnect;
 use crate::Port;
 use crate::PortCell;
@@ -8,7 +9,7 @@ use crate::Tree;
 ghost use mathlib.Core.Path.{_≡_};
 ghost use Prim.Native.Nat.{_≤_, _*_, _^_};
 ghost use lib.ListN.{length};
-ghost use Rattle.model.specs.Tree.{interconnectOf, acceleratorOf, portOf, levelOf, above, waitingOf, returnsOf, outstandingOf, admittedOf, lastOf, allowanceOf};
+ghost use Rattle.model.specs.Tree.{interconnectOf, acceleratorOf, jobOf, limitOf, portOf, levelOf, above, waitingOf, returnsOf, outstandingOf, admittedOf, lastOf, allowanceOf};
 ghost use Rattle.model.specs.Beneath.{weightIn, under, inside, weightUnder, waitsUnder};
 
 pub fn interconnect_at(t: Tree, j: u8) -> Interconnect
@@ -44,6 +45,28 @@ pub fn accelerator_at(t: Tree, a: u8) -> Accelerator
         computing: 0,
         period: 0,
     }
+}
+
+// The transactions that a job of accelerator a has on a channel.
+pub fn job_of(t: Tree, channel: Channel, a: u8) -> u16
+    ensures { λ r. ⌜ r ≡ jobOf t channel a ⌝ }
+{
+    let x = accelerator_at(t, a);
+    match channel {
+        Channel::Read => x.reads,
+        Channel::Write => x.writes,
+    }
+}
+
+// How many transactions of accelerator a may be outstanding on a channel: none where its job has none there.
+pub fn limit_of(t: Tree, channel: Channel, a: u8) -> u8
+    ensures { λ r. ⌜ r ≡ limitOf t channel a ⌝ }
+{
+    if job_of(t, channel, a) == 0 {
+        return 0;
+    }
+    let x = accelerator_at(t, a);
+    x.phi
 }
 
 pub fn port_at(t: Tree, j: u8, p: u8) -> Port

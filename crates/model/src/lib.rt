@@ -66,9 +66,15 @@ pub struct Tree {
     pub accs: u8,
 }
 
+// Reads and writes share nothing: each channel has a state of its own.
+pub enum Channel {
+    Read,
+    Write,
+}
+
 // The state of one channel: for each accelerator the transactions that wait, those that return and those admitted in this
-// window; for each interconnect its last port and its allowance; and the slot count. The returning ones are the bits of a
-// number: bit d for one that was served d slots ago, and so is due r + 1 - d slots ahead.
+// window; for each interconnect its last port and its allowance; the slot count; and which channel it is of. The returning
+// ones are the bits of a number: bit d for one that was served d slots ago, and so is due r + 1 - d slots ahead.
 pub struct State {
     pub waiting: [u8; 32],
     pub returning: [u32; 32],
@@ -76,6 +82,7 @@ pub struct State {
     pub last: [u8; 15],
     pub allowance: [u8; 15],
     pub slot: u32,
+    pub channel: Channel,
 }
 
 // Why a file, a call or a state is refused.
@@ -91,9 +98,10 @@ pub enum Refusal {
     Budget,
     LastSlot,
     Rules,
+    NoJob,
 }
 
-// The number of a refusal in document 01's table.
+// The number of a refusal in the papers' tables.
 pub fn number(r: Refusal) -> u8
     ensures { λ n. ⌜ n ≡ numberOf r ⌝ }
 {
@@ -109,5 +117,6 @@ pub fn number(r: Refusal) -> u8
         Refusal::Budget => 9,
         Refusal::LastSlot => 10,
         Refusal::Rules => 11,
+        Refusal::NoJob => 14,
     }
 }

@@ -8,7 +8,7 @@ use lib.ListN.{getD}
 use borrow.Author.Tests.{lt-ltb, le-ltb, le-leb, lt-leb, eq-eqb, ne-eqb, eqb-true}
 use Rattle.model.specs.declared.Tree.{Tree}
 use Rattle.model.specs.declared.Refusal.the-variants.{Shape, Limit, Order, Taken, Level}
-use Rattle.model.specs.Tree.{portOf, limitOf, levelOf}
+use Rattle.model.specs.Tree.{portOf, phiOf, levelOf}
 use Rattle.rules.specs.Rules.{isEmpty}
 use Rattle.folds.proofs.Folds.{picked, passed, both}
 use Rattle.lines.specs.declared.Kind.{Kind}
@@ -35,15 +35,15 @@ module _ (n : ℕ) (t : Tree) (v : List ℕ) where
   unfolding accLine
   acc-unknown h = picked _ _ _ (le-leb _ _ h)
 
-  pub acc-twice : getD v 1 0 < t .ints → 0 < limitOf t (getD v 0 0) → accLine n t v ≡ refusedAt Order n
+  pub acc-twice : getD v 1 0 < t .ints → 0 < phiOf t (getD v 0 0) → accLine n t v ≡ refusedAt Order n
   unfolding accLine
   acc-twice h k = passed _ _ _ (lt-leb _ _ h) ∙ picked _ _ _ (lt-ltb _ _ k)
 
-  pub acc-taken : getD v 1 0 < t .ints → limitOf t (getD v 0 0) ≤ 0 → isEmpty (portOf t (getD v 1 0) (getD v 2 0)) ≡ false → accLine n t v ≡ refusedAt Taken n
+  pub acc-taken : getD v 1 0 < t .ints → phiOf t (getD v 0 0) ≤ 0 → isEmpty (portOf t (getD v 1 0) (getD v 2 0)) ≡ false → accLine n t v ≡ refusedAt Taken n
   unfolding accLine
   acc-taken h k f = passed _ _ _ (lt-leb _ _ h) ∙ passed _ _ _ (le-ltb _ _ k) ∙ picked _ _ _ (yes-not _ f)
 
-  pub acc-given : getD v 1 0 < t .ints → limitOf t (getD v 0 0) ≤ 0 → isEmpty (portOf t (getD v 1 0) (getD v 2 0)) ≡ true → accLine n t v ≡ given (withAcc t v)
+  pub acc-given : getD v 1 0 < t .ints → phiOf t (getD v 0 0) ≤ 0 → isEmpty (portOf t (getD v 1 0) (getD v 2 0)) ≡ true → accLine n t v ≡ given (withAcc t v)
   unfolding accLine
   acc-given h k f = passed _ _ _ (lt-leb _ _ h) ∙ passed _ _ _ (le-ltb _ _ k) ∙ passed _ _ _ (no-not _ f)
 

@@ -24,7 +24,7 @@ use Rattle.model.specs.declared.Tree.{Tree}
 use Rattle.model.specs.declared.Refusal.{Refusal}
 use Rattle.model.specs.declared.Refusal.the-variants.{Shape, Limit, Order, Taken, Level}
 use Rattle.folds.specs.Fold.{pick, all}
-use Rattle.model.specs.Tree.{portOf, limitOf, levelOf}
+use Rattle.model.specs.Tree.{portOf, phiOf, levelOf}
 use Rattle.rules.specs.Rules.{isEmpty}
 use Rattle.lines.specs.declared.Kind.{Kind}
 use Rattle.lines.specs.declared.Kind.the-variants.{NoRecord, BusLine, IntLine, AccLine, OfferLine}
@@ -70,12 +70,12 @@ intLine n t l =
 unfoldable pub accLine : ℕ → Tree → List ℕ → TreeRead
 accLine n t v =
     pick (leb (t .ints) (getD v 1 0)) (refusedAt Order n)
-    (pick (ltb 0 (limitOf t (getD v 0 0))) (refusedAt Order n)
+    (pick (ltb 0 (phiOf t (getD v 0 0))) (refusedAt Order n)
     (pick (not (isEmpty (portOf t (getD v 1 0) (getD v 2 0)))) (refusedAt Taken n)
     (given (withAcc t v))))
 
 abbrev pub complete : Tree → Bool
-complete t = ltb 0 (t .bus .window) && ltb 0 (t .ints) && ltb 0 (t .accs) && all (t .accs) (λ a. ltb 0 (limitOf t a))
+complete t = ltb 0 (t .bus .window) && ltb 0 (t .ints) && ltb 0 (t .accs) && all (t .accs) (λ a. ltb 0 (phiOf t a))
 
 unfoldable pub finish : ℕ → Tree → TreeRead
 finish n t = pick (complete t) (given t) (refusedAt Order n)

@@ -21,7 +21,7 @@ ghost use mathlib.Core.Bool.{true};
 ghost use lib.Dec.{ltb};
 ghost use Rattle.folds.specs.Fold.{all};
 ghost use Rattle.rules.specs.Rules.{isEmpty};
-ghost use Rattle.model.specs.Tree.{portOf, limitOf};
+ghost use Rattle.model.specs.Tree.{portOf, phiOf};
 ghost use Rattle.lines.specs.Lines.{limitsKept, inTree};
 ghost use Rattle.records.specs.Records.{hasRoom};
 ghost use Rattle.placing.specs.Placing.{refusedAt, given, busLine, intInOrder, rootRule, childLine, intLine, accLine, finish, treeLine};
@@ -140,7 +140,7 @@ fn acc_line(n: u32, t: Tree, v: [u64; 11]) -> TreeRead
 
 // Each accelerator number below the highest was read.
 fn no_gap(t: Tree) -> bool
-    ensures { λ r. ⌜ r ≡ all (t .accs) (λ a. ltb 0 (limitOf t a)) ⌝ }
+    ensures { λ r. ⌜ r ≡ all (t .accs) (λ a. ltb 0 (phiOf t a)) ⌝ }
 {
     let mut ok = true;
     let mut a: u8 = 0;

@@ -6,11 +6,13 @@ use answers::Outcome;
 use answers::Reading;
 use answers::Row;
 use answers::Wait;
+use answers::channel_of;
 use answers::count_of;
 use answers::is_accepted;
 use answers::no_wait;
 use answers::outcome_of;
 use answers::reading_of;
+use answers::refused_by;
 use answers::row_of;
 use answers::tree_refused;
 use answers::unbounded;
@@ -18,6 +20,7 @@ use answers::wait_of;
 use bounds::bound;
 use lines::answer_line;
 use lines::answer_number;
+use model::Channel;
 use plan::Printed;
 use reader::read_tree;
 use runner::run;
@@ -28,7 +31,7 @@ ghost use Rattle.reader.specs.TreeFile.{readTree};
 ghost use lib.ListN.{length};
 ghost use Rattle.plan.specs.Plan.{Printing};
 ghost use Rattle.plan.specs.Rewrite.{rewriteOf, rewriteBuffer};
-ghost use Rattle.razhikum.specs.Exports.{version, pageOf, treeReading, traceReading, countFrom, outcomeFrom, bufferFrom, waitFrom, listFrom, rowFrom};
+ghost use Rattle.razhikum.specs.Exports.{version, pageOf, treeReading, traceReading, countFrom, outcomeFrom, bufferFrom, outcomeOn, bufferOn, waitFrom, listFrom, waitOn, listOn, rowFrom};
 
 // A report or a tree as text: how many bytes of the buffer it has; or the refusal, which puts none.
 #[repr(C)]
@@ -53,7 +56,7 @@ fn page_of(x: Printed) -> Page
 pub extern "C" fn razhikum_version() -> u32
     ensures { λ r. ⌜ r ≡ version ⌝ }
 {
-    10300
+    20000
 }
 
 // Whether the tree file is accepted, or why and at which line it is refused.
@@ -107,40 +110,71 @@ pub extern "C" fn razhikum_rewrite(tree: &[u8], out: &mut [u8]) -> Page
     page_of(plan::rewrite(tree, out))
 }
 
-// Runs the trace on the tree and writes one byte a slot into `out`: the accelerator's number, or 255 for idle.
-#[no_mangle]
-pub extern "C" fn razhikum_run(tree: &[u8], trace: &[u8], out: &mut [u8]) -> Outcome
-    ensures answer { λ r. ⌜ r ≡ outcomeFrom (readTree (now (tree .entry))) (now (trace .entry)) (now (out .entry)) ⌝ }
-    ensures bytes { λ r. ⌜ now (out .exit) ≡ bufferFrom (readTree (now (tree .entry))) (now (trace .entry)) (now (out .entry)) ⌝ }
+// The run of a trace on a channel of the tree.
+fn run_on(tree: &[u8], channel: Channel, trace: &[u8], out: &mut [u8]) -> Outcome
+    ensures answer { λ r. ⌜ r ≡ outcomeFrom (readTree (now (tree .entry))) channel (now (trace .entry)) (now (out .entry)) ⌝ }
+    ensures bytes { λ r. ⌜ now (out .exit) ≡ bufferFrom (readTree (now (tree .entry))) channel (now (trace .entry)) (now (out .entry)) ⌝ }
 {
     let x = read_tree(tree);
     let answer = x.answer;
     if !is_accepted(answer) {
         return tree_refused(answer);
     }
-    outcome_of(run(x.tree, trace, out))
+    outcome_of(run(x.tree, channel, trace, out))
 }
 
-// Lists the slots in which a transaction of the accelerator waited, oldest first, two bytes a slot into `out`: the accelerator that
-// was served, then the deepest interconnect that both paths cross, or 255 where it is the same accelerator. Its served transactions
-// are numbered from 1.
+// Runs the trace on a channel of the tree, 0 for reads and 1 for writes, and writes one byte a slot into `out`: the accelerator's
+// number, or 255 for idle. Any other number of a channel is refused by 2, before the files are read.
 #[no_mangle]
-pub extern "C" fn razhikum_why(
+pub extern "C" fn razhikum_run(tree: &[u8], channel: u8, trace: &[u8], out: &mut [u8]) -> Outcome
+    ensures answer { λ r. ⌜ r ≡ outcomeOn channel (readTree (now (tree .entry))) (now (trace .entry)) (now (out .entry)) ⌝ }
+    ensures bytes { λ r. ⌜ now (out .exit) ≡ bufferOn channel (readTree (now (tree .entry))) (now (trace .entry)) (now (out .entry)) ⌝ }
+{
+    if 1 < channel {
+        return refused_by(4, 2, 0);
+    }
+    run_on(tree, channel_of(channel), trace, out)
+}
+
+// Why transaction `number` of the accelerator waited on a channel of the tree.
+fn why_on(
     tree: &[u8],
+    channel: Channel,
     trace: &[u8],
     accelerator: u8,
     number: u32,
     out: &mut [u8],
 ) -> Wait
-    ensures answer { λ r. ⌜ r ≡ waitFrom (readTree (now (tree .entry))) (now (trace .entry)) accelerator number (now (out .entry)) ⌝ }
-    ensures bytes { λ r. ⌜ now (out .exit) ≡ listFrom (readTree (now (tree .entry))) (now (trace .entry)) accelerator number (now (out .entry)) ⌝ }
+    ensures answer { λ r. ⌜ r ≡ waitFrom (readTree (now (tree .entry))) channel (now (trace .entry)) accelerator number (now (out .entry)) ⌝ }
+    ensures bytes { λ r. ⌜ now (out .exit) ≡ listFrom (readTree (now (tree .entry))) channel (now (trace .entry)) accelerator number (now (out .entry)) ⌝ }
 {
     let x = read_tree(tree);
     let answer = x.answer;
     if !is_accepted(answer) {
         return no_wait(2, answer_number(answer), answer_line(answer));
     }
-    wait_of(why(x.tree, trace, accelerator, number, out))
+    wait_of(why(x.tree, channel, trace, accelerator, number, out))
+}
+
+// Lists the slots in which a transaction of the accelerator waited on a channel, oldest first, two bytes a slot into `out`: the
+// accelerator that was served, then the deepest interconnect that both paths cross, or 255 where it is the same accelerator. Its served
+// transactions are numbered from 1. The channel is a number, as for a run.
+#[no_mangle]
+pub extern "C" fn razhikum_why(
+    tree: &[u8],
+    channel: u8,
+    trace: &[u8],
+    accelerator: u8,
+    number: u32,
+    out: &mut [u8],
+) -> Wait
+    ensures answer { λ r. ⌜ r ≡ waitOn channel (readTree (now (tree .entry))) (now (trace .entry)) accelerator number (now (out .entry)) ⌝ }
+    ensures bytes { λ r. ⌜ now (out .exit) ≡ listOn channel (readTree (now (tree .entry))) (now (trace .entry)) accelerator number (now (out .entry)) ⌝ }
+{
+    if 1 < channel {
+        return no_wait(4, 2, 0);
+    }
+    why_on(tree, channel_of(channel), trace, accelerator, number, out)
 }
 
 // The bounds of an accelerator of the tree file.

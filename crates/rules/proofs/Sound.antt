@@ -10,10 +10,11 @@ use lib.Dec.{eqb}
 use borrow.Author.Tests.{eqb-true, lt-ltb, le-ltb, eq-eqb, ne-eqb}
 use Rattle.model.specs.declared.Tree.{Tree}
 use Rattle.model.specs.declared.State.{State}
+use Rattle.model.specs.declared.Channel.{Channel}
 use Rattle.model.specs.declared.Port.{Port}
 use Rattle.model.specs.declared.Port.the-variants.{Empty, Acc, Int}
 use Rattle.folds.specs.Fold.{pick}
-use Rattle.model.specs.Tree.{noInterconnect, noAccelerator, interconnectOf, portOf, granularityOf, parentOf, parentPortOf, homeOf, homePortOf, limitOf, budgetOf, levelOf, above, delayOf, waitingOf, returnsOf, outstandingOf, admittedOf, lastOf, allowanceOf}
+use Rattle.model.specs.Tree.{noInterconnect, noAccelerator, interconnectOf, portOf, granularityOf, parentOf, parentPortOf, homeOf, homePortOf, jobOf, phiOf, limitOf, budgetOf, levelOf, above, delayOf, waitingOf, returnsOf, outstandingOf, admittedOf, lastOf, allowanceOf}
 use Rattle.model.specs.Beneath.{waitsUnder}
 use Rattle.rules.specs.Rules.{busKeeps, carries, isAcc, isInt, childPlaced, usedInterconnect, usedAccelerator, unusedAccelerator, treeKeeps, sized, recordKeeps, turnKeeps, stateKeeps, keeps}
 use Rattle.folds.proofs.Folds.{both, joined, tests, picked, passed, clash}
@@ -37,13 +38,26 @@ pub record Sound (t : Tree) : Type 0 where
   pub home : (a : ℕ) → a < t .accs → homeOf t a < t .ints
   pub home-port : (a : ℕ) → a < t .accs → homePortOf t a < 8
   pub home-carries : (a : ℕ) → a < t .accs → portOf t (homeOf t a) (homePortOf t a) ≡ Acc a
-  pub limit : (a : ℕ) → a < t .accs → (1 ≤ limitOf t a) × (limitOf t a ≤ 16)
-  pub no-limit : (a : ℕ) → t .accs ≤ a → limitOf t a ≡ 0
+  pub phi : (a : ℕ) → a < t .accs → (1 ≤ phiOf t a) × (phiOf t a ≤ 16)
+  pub no-phi : (a : ℕ) → t .accs ≤ a → phiOf t a ≡ 0
   pub budget : (a : ℕ) → a < t .accs → (1 ≤ budgetOf t a) × (budgetOf t a ≤ 1024)
   pub acc-place : (j p a : ℕ) → j < t .ints → p < 8 → portOf t j p ≡ Acc a
       → (a < t .accs) × (homeOf t a ≡ j) × (homePortOf t a ≡ p)
   pub int-place : (j p k : ℕ) → j < t .ints → p < 8 → portOf t j p ≡ Int k
       → (0 < k) × (k < t .ints) × (parentOf t k ≡ j) × (parentPortOf t k ≡ p)
+
+-- the outstanding limit on a channel: none where the job has no transactions there, else phi
+pub limit-none : (t : Tree) (c : Channel) (a : ℕ) → jobOf t c a ≡ 0 → limitOf t c a ≡ 0
+limit-none t c a e = picked _ _ _ (eq-eqb _ _ e)
+
+pub limit-phi : (t : Tree) (c : Channel) (a : ℕ) → (jobOf t c a ≡ 0 → ⊥) → limitOf t c a ≡ phiOf t a
+limit-phi t c a d = passed _ _ _ (ne-eqb _ _ d)
+
+pub limit-most : (t : Tree) (c : Channel) (a : ℕ) → limitOf t c a ≤ phiOf t a
+limit-most t c a = elim (ℕ-discrete (jobOf t c a) 0) [
+  | yes e ↦ omega (arith, limit-none t c a e)
+  | no d ↦ omega (arith, limit-phi t c a d)
+]
 
 acc-carried : (a : ℕ) (x : Port) → isAcc a x ≡ true → x ≡ Acc a
 acc-carried a Empty e = clash cc
@@ -79,9 +93,9 @@ module _ (t : Tree) (e : treeKeeps t ≡ true) where
   unfolding treeKeeps
   used-acc a l = let h = simp tests at e in sym (picked _ _ _ (lt-ltb _ _ l)) ∙ h .1 a (omega (arith, counts))
 
-  unused-limit : (a : ℕ) → t .accs ≤ a → limitOf t a ≡ 0
+  unused-phi : (a : ℕ) → t .accs ≤ a → phiOf t a ≡ 0
   unfolding treeKeeps unusedAccelerator
-  unused-limit a l = elim (decLt a 32) [
+  unused-phi a l = elim (decLt a 32) [
     | yes b ↦
         let h = simp tests at e in
         simp tests at (sym (passed _ _ _ (le-ltb a (t .accs) l)) ∙ h .1 a b) .0 .0 .0 .0 .0 .1
@@ -97,7 +111,7 @@ module _ (t : Tree) (e : treeKeeps t ≡ true) where
   carried j p l b = let h = simp tests at (used-int j l) in h .1 p b
 
   bounds-of : (a : ℕ) → a < t .accs
-      → (homeOf t a < t .ints) × (homePortOf t a < 8) × (1 ≤ limitOf t a) × (limitOf t a ≤ 16) × (1 ≤ budgetOf t a)
+      → (homeOf t a < t .ints) × (homePortOf t a < 8) × (1 ≤ phiOf t a) × (phiOf t a ≤ 16) × (1 ≤ budgetOf t a)
       × (budgetOf t a ≤ 1024)
   unfolding usedAccelerator
   bounds-of a l = let h = simp tests at (used-acc a l) in omega arith
@@ -123,8 +137,8 @@ module _ (t : Tree) (e : treeKeeps t ≡ true) where
         home = λ a l. bounds-of a l .0;
         home-port = λ a l. bounds-of a l .1;
         home-carries = λ a l. acc-carried a _ (simp tests at (used-acc a l) .0 .0 .0 .0 .0 .0 .1);
-        limit = λ a l. omega (arith, bounds-of a l);
-        no-limit = unused-limit;
+        phi = λ a l. omega (arith, bounds-of a l);
+        no-phi = unused-phi;
         budget = λ a l. omega (arith, bounds-of a l);
         acc-place = λ j p a l b q. let h = simp tests at (subst (λ x. carries t j p x ≡ true) q (carried j p l b)) in
             (h .0 .0, h .0 .1, h .1);
@@ -138,8 +152,8 @@ pub record Kept (t : Tree) (s : State) : Type 0 where
   pub last-size : length (s .last) ≡ 15
   pub allowance-size : length (s .allowance) ≡ 15
   pub returning-size : length (s .returning) ≡ 32
-  pub outstanding : (a : ℕ) → a < t .accs → outstandingOf s a ≤ limitOf t a
-  pub waiting : (a : ℕ) → a < t .accs → waitingOf s a ≤ limitOf t a
+  pub outstanding : (a : ℕ) → a < t .accs → outstandingOf s a ≤ limitOf t (s .channel) a
+  pub waiting : (a : ℕ) → a < t .accs → waitingOf s a ≤ limitOf t (s .channel) a
   pub admitted : (a : ℕ) → a < t .accs → admittedOf s a ≤ budgetOf t a
   pub no-waiting : (a : ℕ) → t .accs ≤ a → waitingOf s a ≡ 0
   pub no-admitted : (a : ℕ) → t .accs ≤ a → admittedOf s a ≡ 0
@@ -162,7 +176,7 @@ unused l m n e h i b = elim (decLt i n) [ yes c ↦ h i b c | no d ↦ sym (beyo
 
 module _ (t : Tree) (s : State) where
   record-used : (a : ℕ) → recordKeeps t s a ≡ true → a < t .accs
-      → (outstandingOf s a ≤ limitOf t a) × (admittedOf s a ≤ budgetOf t a) × (returnsOf s a % 2 ≡ 0)
+      → (outstandingOf s a ≤ limitOf t (s .channel) a) × (admittedOf s a ≤ budgetOf t a) × (returnsOf s a % 2 ≡ 0)
       × (returnsOf s a < 2 ^ (delayOf t + 1))
   unfolding recordKeeps
   record-used a e l =

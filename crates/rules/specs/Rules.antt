@@ -18,8 +18,9 @@
 -- onTheWay r x           each return of x is due 1 to r slots ahead (document 02, item 2: "a return due now, earlier or more than r
 --                        slots ahead, breaks its rules"). Bit d is due r + 1 - d slots ahead: bit r + 1 now, one above it earlier, bit 0
 --                        more than r ahead. So x is even, and below 2 to the power r + 1
--- recordKeeps t s a      at most phi outstanding ("each waiting count is at most phi", "their sum is at most phi"), its returns on
---                        the way, "each admitted count at most the budget", "unused records are zero"
+-- recordKeeps t s a      at most phi outstanding ("each waiting count is at most phi", "their sum is at most phi"), and none on a channel
+--                        where a job has 0 transactions (document 02, item 5: "A state where it has waiting or returning ones breaks
+--                        its rules"); its returns on the way, "each admitted count at most the budget", "unused records are zero"
 -- turnKeeps t s j        "each last port is 0 to 7, each allowance is at most the smaller of g and what waits under the
 --                        last port", "unused records are zero"
 -- stateKeeps t s         "A state keeps its rules if .."
@@ -34,7 +35,7 @@ use Rattle.model.specs.declared.State.{State}
 use Rattle.model.specs.declared.Port.{Port}
 use Rattle.model.specs.declared.Port.the-variants.{Empty, Acc, Int}
 use Rattle.folds.specs.Fold.{pick, all, within}
-use Rattle.model.specs.Tree.{interconnectOf, portOf, granularityOf, parentOf, parentPortOf, homeOf, homePortOf, limitOf, budgetOf, levelOf, acceleratorOf, delayOf, waitingOf, returnsOf, outstandingOf, admittedOf, lastOf, allowanceOf}
+use Rattle.model.specs.Tree.{interconnectOf, portOf, granularityOf, parentOf, parentPortOf, homeOf, homePortOf, phiOf, limitOf, budgetOf, levelOf, acceleratorOf, delayOf, waitingOf, returnsOf, outstandingOf, admittedOf, lastOf, allowanceOf}
 use Rattle.model.specs.Beneath.{waitsUnder}
 
 unfoldable pub busKeeps : Bus → Bool
@@ -105,7 +106,7 @@ usedAccelerator t a =
     ltb (homeOf t a) (t .ints)
     && leb (homePortOf t a) 7
     && isAcc a (portOf t (homeOf t a) (homePortOf t a))
-    && within 1 (limitOf t a) 16
+    && within 1 (phiOf t a) 16
     && within 1 (budgetOf t a) 1024
     && within 0 (acceleratorOf t a .reads) 65535
     && within 0 (acceleratorOf t a .writes) 65535
@@ -116,7 +117,7 @@ unfoldable pub unusedAccelerator : Tree → ℕ → Bool
 unusedAccelerator t a =
     eqb (homeOf t a) 0
     && eqb (homePortOf t a) 0
-    && eqb (limitOf t a) 0
+    && eqb (phiOf t a) 0
     && eqb (budgetOf t a) 0
     && eqb (acceleratorOf t a .reads) 0
     && eqb (acceleratorOf t a .writes) 0
@@ -155,7 +156,7 @@ onTheWay r x = eqb (x % 2) 0 && ltb x (2 ^ (r + 1))
 unfoldable pub recordKeeps : Tree → State → ℕ → Bool
 recordKeeps t s a =
     pick (ltb a (t .accs))
-    (leb (outstandingOf s a) (limitOf t a) && leb (admittedOf s a) (budgetOf t a) && onTheWay (delayOf t) (returnsOf s a))
+    (leb (outstandingOf s a) (limitOf t (s .channel) a) && leb (admittedOf s a) (budgetOf t a) && onTheWay (delayOf t) (returnsOf s a))
     (eqb (waitingOf s a) 0 && eqb (admittedOf s a) 0 && eqb (returnsOf s a) 0)
 
 unfoldable pub turnKeeps : Tree → State → ℕ → Bool

@@ -10,6 +10,7 @@ use model::access::allowance_of;
 use model::access::interconnect_at;
 use model::access::last_of;
 use model::access::level_of;
+use model::access::limit_of;
 use model::access::outstanding_of;
 use model::access::port_at;
 use model::access::returns_of;
@@ -252,7 +253,8 @@ fn record_keeps(t: Tree, s: State, a: u8) -> bool
     let returns = returns_of(s, a);
     if a < t.accs {
         let x = accelerator_at(t, a);
-        return (outstanding_of(s, a) <= x.phi as u32)
+        let channel = s.channel;
+        return (outstanding_of(s, a) <= limit_of(t, channel, a) as u32)
             & (admitted <= x.budget)
             & on_the_way(t.bus.delay, returns);
     }

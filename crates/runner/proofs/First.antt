@@ -12,6 +12,7 @@ use lib.Seq.{getD-set-other, set-comm}
 use Rattle.folds.proofs.Folds.{clash}
 use Rattle.model.specs.declared.Tree.{Tree}
 use Rattle.model.specs.declared.State.{State}
+use Rattle.model.specs.Tree.{jobOf}
 use Rattle.model.specs.Builders.{withCounts}
 use Rattle.rules.specs.Rules.{keeps}
 use Rattle.machine.specs.Machine.{Outcome, admitted, admit, offered}
@@ -51,12 +52,13 @@ module _ (t : Tree) where
         outstanding = ap₂ (λ w (x : List ℕ). w + ones (getD x b 0)) (N .waiting b d) (N .returning);
         admitted = N .admitted b d;
         held = getD-set-other (o .held) a b _ 0 d;
+        channel = N .channel;
       }
 
   -- an accelerator whose record is left is answered the same
   same-answer : (o p : Offering) (a : ℕ) → keeps t (o .state) ≡ true → keeps t (p .state) ≡ true → Leaves o p a
       → offered t (p .state) a .answer ≡ offered t (o .state) a .answer
-  same-answer o p a k l L = offer-own t t (p .state) (o .state) a l k refl refl (L .outstanding) (L .admitted)
+  same-answer o p a k l L = offer-own t t (p .state) (o .state) a l k refl (ap (λ c. jobOf t c a) (L .channel)) refl (L .outstanding) (L .admitted)
 
   module _ (a b : ℕ) (d : a ≡ b → ⊥) where
     other : b ≡ a → ⊥

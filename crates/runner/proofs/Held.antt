@@ -3,7 +3,7 @@
 use Prim.Native.Nat.{ℕ, zero, suc, _-_, _≤_, _<_}
 use mathlib.Core.Bool.{true}
 use mathlib.Core.List.{List}
-use mathlib.Core.Path.{_≡_, refl, sym, _∙_, ap, subst}
+use mathlib.Core.Path.{_≡_, refl, sym, _∙_, ap, subst, subst₂}
 use native.Mathlib.Decide.{decLt, ℕ-discrete}
 use native.Mathlib.Omega.{arith}
 use lib.ListN.{length}
@@ -37,6 +37,11 @@ alike Q admitted y p o q d e f g = subst (λ (z : Answer). Q p (onAdmitted z q d
 alike Q (served a) y p o q d e f g = subst (λ (z : Answer). Q o (onAdmitted z q d)) (sym e) g
 alike Q idle y p o q d e f g = subst (λ (z : Answer). Q o (onAdmitted z q d)) (sym e) g
 alike Q (refused n) y p o q d e f g = subst (λ (z : Answer). Q o (onAdmitted z q d)) (sym e) g
+
+-- and after two that are refused
+pub unlike : {A B : Type 0} (Q : A → B → Type 0) (x y : Answer) (p o : A) (q d : B) (n m : ℕ) → x ≡ refused n → y ≡ refused m → Q o d
+    → Q (onAdmitted x p o) (onAdmitted y q d)
+unlike Q x y p o q d n m e f g = subst₂ (λ (u v : Answer). Q (onAdmitted u p o) (onAdmitted v q d)) (sym e) (sym f) g
 
 -- offers leave what they do not name
 held-same : {A : Type 0} (f : State → A) (t : Tree) → ((s : State) (a : ℕ) → f (offered t s a .state) ≡ f s) → (k : ℕ) (o : Offering) (a : ℕ)

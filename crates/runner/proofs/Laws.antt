@@ -11,6 +11,7 @@ use lib.Dec.{ltb}
 use lib.ListN.{length, length-set}
 use borrow.Author.Tests.{lt-ltb, le-ltb, le-leb, lt-leb}
 use Rattle.model.specs.declared.Tree.{Tree}
+use Rattle.model.specs.declared.Channel.{Channel}
 use Rattle.model.specs.declared.State.{State}
 use Rattle.folds.specs.Fold.{pick}
 use Rattle.rules.specs.Rules.{treeKeeps, keeps}
@@ -223,7 +224,8 @@ module _ (t : Tree) (rs : List Request) (n : ℕ) (r : Run) (S : Stood t rs n r)
     left = ap₂ leftAfter (S .slot) (S .left) ∙ left-more n rs;
   }
 
-pub stood : (t : Tree) (rs : List Request) → treeKeeps t ≡ true → (n : ℕ) → n ≤ lastSlot → Stood t rs n (standing n t (start t rs))
+pub stood : (t : Tree) (c : Channel) (rs : List Request) → treeKeeps t ≡ true → (n : ℕ) → n ≤ lastSlot
+    → Stood t rs n (standing n t (start t c rs))
 unfolding standing
-stood t rs k zero l = record { keeps-rules = fresh-keeps t k; slot = refl; long = refl; left = sym (left-start rs) }
-stood t rs k (suc n) l = stood-next t rs n (standing n t (start t rs)) (stood t rs k n (omega arith)) (omega arith)
+stood t c rs k zero l = record { keeps-rules = fresh-keeps t c k; slot = refl; long = refl; left = sym (left-start rs) }
+stood t c rs k (suc n) l = stood-next t rs n (standing n t (start t c rs)) (stood t c rs k n (omega arith)) (omega arith)

@@ -3,7 +3,7 @@
 use Prim.Native.Nat.{ℕ, zero, suc, _+_, _-_, _≤_, _<_}
 use mathlib.Core.Bool.{true}
 use mathlib.Core.List.{List}
-use mathlib.Core.Path.{_≡_, refl, sym, _∙_, ap₂, subst}
+use mathlib.Core.Path.{_≡_, refl, sym, _∙_, ap, ap₂, subst}
 use native.Mathlib.Decide.{decLt, ℕ-discrete}
 use native.Mathlib.Omega.{arith}
 use lib.ListN.{getD, length, List·getD-eq-default}
@@ -11,7 +11,7 @@ use lib.Seq.{getD-set-other}
 use Rattle.model.specs.declared.Tree.{Tree}
 use Rattle.model.specs.declared.State.{State}
 use lib.Count.{ones}
-use Rattle.model.specs.Tree.{outstandingOf, admittedOf}
+use Rattle.model.specs.Tree.{jobOf, outstandingOf, admittedOf}
 use Rattle.rules.specs.Rules.{keeps}
 use Rattle.machine.specs.Machine.{admitted, offered}
 use Rattle.machine.proofs.Laws.{offer-own, offer-others}
@@ -35,17 +35,18 @@ pub record Leaves (o p : Offering) (a : ℕ) : Type 0 where
   pub outstanding : outstandingOf (p .state) a ≡ outstandingOf (o .state) a
   pub admitted : admittedOf (p .state) a ≡ admittedOf (o .state) a
   pub held : heldOf (p .held) a ≡ heldOf (o .held) a
+  pub channel : p .state .channel ≡ o .state .channel
 
 module _ (t : Tree) where
   pub idles-still : (o p : Offering) (a : ℕ) → keeps t (o .state) ≡ true → keeps t (p .state) ≡ true → Leaves o p a
       → Idles t (o .state) (o .held) a → Idles t (p .state) (p .held) a
   idles-still o p a k l L e h f =
-      e (omega (arith, L .held)) (offer-own t t (o .state) (p .state) a k l refl refl (sym (L .outstanding)) (sym (L .admitted)) ∙ f)
+      e (omega (arith, L .held)) (offer-own t t (o .state) (p .state) a k l refl (ap (λ c. jobOf t c a) (sym (L .channel))) refl (sym (L .outstanding)) (sym (L .admitted)) ∙ f)
 
   -- the offers of a leave the record of any other
   pub for-others : (k : ℕ) (o : Offering) (a b : ℕ) → (b ≡ a → ⊥) → Leaves o (offerHeld k t o a) b
   unfolding offerHeld
-  for-others zero o a b d = record { outstanding = refl; admitted = refl; held = refl }
+  for-others zero o a b d = record { outstanding = refl; admitted = refl; held = refl; channel = refl }
   for-others (suc k) o a b d =
       let x = offered t (o .state) a in
       let L = for-others k (offering (x .state) (release (o .held) a)) a b d in
@@ -55,8 +56,9 @@ module _ (t : Tree) where
         outstanding = L .outstanding ∙ ap₂ (λ w (x : List ℕ). w + ones (getD x b 0)) (N .waiting b d) (N .returning);
         admitted = L .admitted ∙ N .admitted b d;
         held = L .held ∙ getD-set-other (o .held) a b _ 0 d;
+        channel = L .channel ∙ N .channel;
       })
-      (record { outstanding = refl; admitted = refl; held = refl })
+      (record { outstanding = refl; admitted = refl; held = refl; channel = refl })
 
   -- and after all of them it idles
   pub for-idles : (k : ℕ) (o : Offering) (a : ℕ) → heldOf (o .held) a ≡ k → Idles t (offerHeld k t o a .state) (offerHeld k t o a .held) a
@@ -94,12 +96,17 @@ module _ (t : Tree) where
     -- the offers of those below leave the record of the next
     each-leaves : (n a : ℕ) → n ≤ a → Leaves (offering s h) (offerEach n t (offering s h)) a
     unfolding offerEach
-    each-leaves zero a l = record { outstanding = refl; admitted = refl; held = refl }
+    each-leaves zero a l = record { outstanding = refl; admitted = refl; held = refl; channel = refl }
     each-leaves (suc n) a l =
         let o = offerEach n t (offering s h) in
         let L = each-leaves n a (omega arith) in
         let M = for-others (heldOf (o .held) n) o n a (λ e. omega arith) in
-        record { outstanding = M .outstanding ∙ L .outstanding; admitted = M .admitted ∙ L .admitted; held = M .held ∙ L .held }
+        record {
+          outstanding = M .outstanding ∙ L .outstanding;
+          admitted = M .admitted ∙ L .admitted;
+          held = M .held ∙ L .held;
+          channel = M .channel ∙ L .channel;
+        }
 
     -- so one that idles offers nothing in its turn
     pub each-none : (n : ℕ) → Idles t s h n → offerAll t (offerEach n t (offering s h)) n ≡ offerEach n t (offering s h)
@@ -117,6 +124,6 @@ settled-each t s h k = each-idles t s h k (t .accs) (omega arith)
 pub settled-home : (t : Tree) (s r : State) (h : List ℕ) (x : ℕ) → keeps t s ≡ true → keeps t r ≡ true
     → ((a : ℕ) → a < t .accs → Idles t s h a)
     → ((a : ℕ) → a < t .accs → (a ≡ x → ⊥) → outstandingOf r a ≡ outstandingOf s a) → ((a : ℕ) → admittedOf r a ≡ admittedOf s a)
-    → Settled t r h x
-settled-home t s r h x k kr I w m a l d =
-    idles-still t (offering s h) (offering r h) a k kr (record { outstanding = w a l d; admitted = m a; held = refl }) (I a l)
+    → r .channel ≡ s .channel → Settled t r h x
+settled-home t s r h x k kr I w m c a l d =
+    idles-still t (offering s h) (offering r h) a k kr (record { outstanding = w a l d; admitted = m a; held = refl; channel = c }) (I a l)

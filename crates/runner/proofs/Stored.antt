@@ -11,22 +11,24 @@ use lib.ListN.{getD, length, set, length-set}
 use borrow.Author.Tests.{eq-eqb, ne-eqb, eqb-true}
 use Rattle.model.specs.declared.Tree.{Tree}
 use Rattle.model.specs.declared.State.{State}
+use Rattle.model.specs.declared.Channel.{Channel}
 use Rattle.folds.specs.Fold.{pick}
-use Rattle.model.specs.Tree.{limitOf, budgetOf, waitingOf, outstandingOf, admittedOf}
+use Rattle.model.specs.Tree.{jobOf, phiOf, budgetOf, waitingOf, outstandingOf, admittedOf}
 use Rattle.model.specs.Beneath.{inside}
 use Rattle.rules.specs.Rules.{keeps}
 use Rattle.folds.proofs.Folds.{picked, passed, at-all, all-at}
-use Rattle.rules.proofs.Sound.{Sound, Kept, sound-of, kept-of}
+use Rattle.rules.proofs.Sound.{Sound, Kept, sound-of, kept-of, limit-none, limit-phi, limit-most}
 use Rattle.rules.proofs.Beneath.{root-zero}
 use Rattle.turns.specs.Turns.{who, after}
-use Rattle.machine.specs.Machine.{admitted, served, idle, admit, limitsAnswer, offered, noneWaits, serve}
+use Rattle.machine.specs.Machine.{admitted, served, idle, refused, admit, limitsAnswer, offered, noneWaits, serve}
 use Rattle.machine.proofs.Cases.{zero-all}
 use Rattle.machine.proofs.Laws.{offer-keeps, offer-verdict}
-use Rattle.machine.proofs.Steps.{verdict-known}
+use Rattle.machine.proofs.Steps.{limits-8, verdict-14, verdict-known}
 use Rattle.turns.proofs.Descent.{Choice as Choice-of, choice}
 use Rattle.machine.proofs.Keeps.{stored, admit-waiting, take-waiting}
 use Rattle.counts.specs.Choice.{ports, Choice}
-use Rattle.counts.proofs.Table.{TableOf}
+use Rattle.counts.specs.Table.{limits, budgets}
+use Rattle.counts.proofs.Table.{TableOf, LimitsOf}
 use Rattle.counts.proofs.Choosing.{Matches, Chosen, chooses, passes}
 use Rattle.counts.proofs.Counted.{Counted, counted-more, none-live, weight-small}
 use Rattle.runner.specs.Offers.{Offering, heldOf, release, offering, offerHeld, offerAll, offerEach}
@@ -35,12 +37,13 @@ use Rattle.admit.proofs.Offers.{on-admitted, offers-known, offers-unknown, in-p
 use Rattle.runner.specs.Arrays.{Slot, slotOn, chosenOn, withPorts, serveOn}
 use Rattle.runner.proofs.Settled.{Idles, each-none}
 use Rattle.runner.proofs.First.{admits-one, idles-then, first-past}
-use Rattle.runner.proofs.Held.{alike}
+use Rattle.runner.proofs.Held.{alike, unlike}
 use Rattle.runner.proofs.Service.{servedFrom, byteFrom}
 
--- d are the arrays of state s, which keeps its rules, and has what waits under each port there and the live ports
-pub record Stored (t : Tree) (s : State) (d : Arrays) : Type 0 where
+-- d are the arrays of state s of channel c, which keeps its rules, and has what waits under each port there and the live ports
+pub record Stored (t : Tree) (c : Channel) (s : State) (d : Arrays) : Type 0 where
   pub rules : keeps t s ≡ true
+  pub channel : s .channel ≡ c
   pub size : length (d .outstanding) ≡ 32
   pub outstanding : (a : ℕ) → a < t .accs → getD (d .outstanding) a 0 ≡ outstandingOf s a
   pub admitted : d .admitted ≡ s .admitted
@@ -49,14 +52,14 @@ pub record Stored (t : Tree) (s : State) (d : Arrays) : Type 0 where
   pub counts : Counted t (waitingOf s) (d .under) (d .live)
 
 -- d are the arrays of the state and the held counts of x
-pub record StoredOffering (t : Tree) (x : Offering) (d : Arrays) : Type 0 where
-  pub stored : Stored t (x .state) d
+pub record StoredOffering (t : Tree) (c : Channel) (x : Offering) (d : Arrays) : Type 0 where
+  pub stored : Stored t c (x .state) d
   pub held : d .held ≡ x .held
 
 -- the arrays' offers are those of the machine
-module _ (t : Tree) (g : List ℕ) (W : TableOf t g) where
+module _ (t : Tree) (c : Channel) (g : List ℕ) (W : TableOf t g) (L : LimitsOf t c g) where
   module _ (a : ℕ) (la : a < t .accs) where
-    module _ (x : Offering) (d : Arrays) (O : StoredOffering t x d) where
+    module _ (x : Offering) (d : Arrays) (O : StoredOffering t c x d) where
       S : Sound t
       S = sound-of t (x .state) (O .stored .rules)
 
@@ -69,20 +72,33 @@ module _ (t : Tree) (g : List ℕ) (W : TableOf t g) where
       counts : getD (d .admitted) a 0 ≡ admittedOf (x .state) a
       counts = ap (λ (l : List ℕ). getD l a 0) (O .stored .admitted)
 
-      same-answer : answerOn g a d ≡ offered t (x .state) a .answer
-      same-answer =
-          ap₂ (λ (l m : ℕ). limitsAnswer l (getD (d .outstanding) a 0) m (getD (d .admitted) a 0)) (W .limit a known) (W .budget a known)
-          ∙ ap₂ (λ (o m : ℕ). limitsAnswer (limitOf t a) o (budgetOf t a) m) (O .stored .outstanding a la) counts
-          ∙ verdict-known t (x .state) a la ∙ sym (offer-verdict t (x .state) a (O .stored .rules))
+      job : jobOf t (x .state .channel) a ≡ jobOf t c a
+      job = ap (λ (k : Channel). jobOf t k a) (O .stored .channel)
 
-      next-offered : answerOn g a d ≡ admitted → StoredOffering t (offering (offered t (x .state) a .state) (release (x .held) a)) (offeredOn g a d)
-      next-offered e =
-          let f = admits-one t (x .state) a (sym same-answer ∙ e) in
+      -- without a job on the channel both refuse, the arrays since they allow none outstanding
+      none-answer : jobOf t c a ≡ 0 → (offered t (x .state) a .answer ≡ refused 14) × (answerOn g a d ≡ refused 8)
+      none-answer z = (
+        offer-verdict t (x .state) a (O .stored .rules) ∙ sym (verdict-14 t (x .state) a la (job ∙ z)),
+        sym (limits-8 (getD (limits g) a 0) (getD (d .outstanding) a 0) (getD (budgets g) a 0) (getD (d .admitted) a 0) (omega (arith, L a known, limit-none t c a z))),
+      )
+
+      -- else they answer the same
+      same-answer : (jobOf t c a ≡ 0 → ⊥) → answerOn g a d ≡ offered t (x .state) a .answer
+      same-answer z =
+          ap₂ (λ (l m : ℕ). limitsAnswer l (getD (d .outstanding) a 0) m (getD (d .admitted) a 0)) (L a known ∙ limit-phi t c a z) (W .budget a known)
+          ∙ ap₂ (λ (o m : ℕ). limitsAnswer (phiOf t a) o (budgetOf t a) m) (O .stored .outstanding a la) counts
+          ∙ verdict-known t (x .state) a la (λ e. z (sym job ∙ e)) ∙ sym (offer-verdict t (x .state) a (O .stored .rules))
+
+      next-offered : (jobOf t c a ≡ 0 → ⊥) → answerOn g a d ≡ admitted
+          → StoredOffering t c (offering (offered t (x .state) a .state) (release (x .held) a)) (offeredOn g a d)
+      next-offered z e =
+          let f = admits-one t (x .state) a (sym (same-answer z) ∙ e) in
           let k : keeps t (admit (x .state) a) ≡ true = subst (λ (s : State). keeps t s ≡ true) f (offer-keeps t (x .state) a (O .stored .rules)) in
-          subst₂ (λ (s : State) (b : Arrays). StoredOffering t (offering s (release (x .held) a)) b) (sym f) (sym (on-admitted g a d e))
+          subst₂ (λ (s : State) (b : Arrays). StoredOffering t c (offering s (release (x .held) a)) b) (sym f) (sym (on-admitted g a d e))
           (record {
             stored = record {
               rules = k;
+              channel = O .stored .channel;
               size = length-set (d .outstanding) a _ ∙ O .stored .size;
               outstanding = λ b lb. omega (
                 arith,
@@ -96,57 +112,61 @@ module _ (t : Tree) (g : List ℕ) (W : TableOf t g) where
               allowance = O .stored .allowance;
               counts = counted-more t S g W a la (waitingOf (x .state)) (waitingOf (admit (x .state) a))
                   (admit-waiting t S (x .state) K a la)
-                  (weight-small t S (waitingOf (admit (x .state) a)) (λ i li. omega (arith, kept-of t (admit (x .state) a) k .waiting i li, S .limit i li)))
+                  (weight-small t S (waitingOf (admit (x .state) a)) (λ i li. omega (arith, kept-of t (admit (x .state) a) k .waiting i li, limit-most t (x .state .channel) i, S .phi i li)))
                   (d .under) (d .live) (O .stored .counts);
             };
             held = ap (λ (l : List ℕ). set l a (getD l a 0 - 1)) (O .held);
           })
 
-    for-offered : (k : ℕ) (x : Offering) (d : Arrays) → StoredOffering t x d → StoredOffering t (offerHeld k t x a) (offersFor k g a d)
+    for-offered : (k : ℕ) (x : Offering) (d : Arrays) → StoredOffering t c x d → StoredOffering t c (offerHeld k t x a) (offersFor k g a d)
     unfolding offerHeld offersFor
     for-offered zero x d O = O
     for-offered (suc k) x d O =
-        alike (StoredOffering t) (offered t (x .state) a .answer) (answerOn g a d) _ x _ d (same-answer x d O)
-        (λ e. for-offered k (offering (offered t (x .state) a .state) (release (x .held) a)) (offeredOn g a d) (next-offered x d O e)) O
+        let x₂ = offering (offered t (x .state) a .state) (release (x .held) a) in
+        elim (ℕ-discrete (jobOf t c a) 0) [
+          | yes z ↦ unlike (StoredOffering t c) _ _ _ x _ d 14 8 (none-answer x d O z .0) (none-answer x d O z .1) O
+          | no z ↦ alike (StoredOffering t c) (offered t (x .state) a .answer) (answerOn g a d) _ x _ d (same-answer x d O z)
+              (λ e. for-offered k x₂ (offeredOn g a d) (next-offered x d O z e)) O
+        ]
 
     -- accelerator a has offered
-    one-offered : (x : Offering) (d : Arrays) → StoredOffering t x d → StoredOffering t (offerAll t x a) (offersOf g a d)
+    one-offered : (x : Offering) (d : Arrays) → StoredOffering t c x d → StoredOffering t c (offerAll t x a) (offersOf g a d)
     one-offered x d O =
-        subst (StoredOffering t (offerAll t x a)) (sym (offers-known g a d (known x d O)))
-        (subst (λ (h : List ℕ). StoredOffering t (offerAll t x a) (offersFor (getD h a 0) g a d)) (sym (O .held)) (for-offered (heldOf (x .held) a) x d O))
+        subst (StoredOffering t c (offerAll t x a)) (sym (offers-known g a d (known x d O)))
+        (subst (λ (h : List ℕ). StoredOffering t c (offerAll t x a) (offersFor (getD h a 0) g a d)) (sym (O .held)) (for-offered (heldOf (x .held) a) x d O))
 
   -- the accelerators below n have offered: those of which f does not hold would have none admitted
-  module _ (x : Offering) (d : Arrays) (O : StoredOffering t x d) (f : ℕ → Bool)
+  module _ (x : Offering) (d : Arrays) (O : StoredOffering t c x d) (f : ℕ → Bool)
       (idle : (a : ℕ) → a < t .accs → f a ≡ false → Idles t (x .state) (x .held) a) where
-    next-below : (n : ℕ) → n < t .accs → (b : Bool) → f n ≡ b → StoredOffering t (offerEach n t x) (offersIn g f n d)
-        → StoredOffering t (offerAll t (offerEach n t x) n) (pick b (offersOf g n (offersIn g f n d)) (offersIn g f n d))
+    next-below : (n : ℕ) → n < t .accs → (b : Bool) → f n ≡ b → StoredOffering t c (offerEach n t x) (offersIn g f n d)
+        → StoredOffering t c (offerAll t (offerEach n t x) n) (pick b (offersOf g n (offersIn g f n d)) (offersIn g f n d))
     next-below n l true e B = one-offered n l (offerEach n t x) (offersIn g f n d) B
     next-below n l false e B =
-        subst (λ (o : Offering). StoredOffering t o (offersIn g f n d))
+        subst (λ (o : Offering). StoredOffering t c o (offersIn g f n d))
         (sym (each-none t (x .state) (x .held) (O .stored .rules) n (idle n l e))) B
 
-    below-offered : (n : ℕ) → n ≤ t .accs → StoredOffering t (offerEach n t x) (offersIn g f n d)
+    below-offered : (n : ℕ) → n ≤ t .accs → StoredOffering t c (offerEach n t x) (offersIn g f n d)
     unfolding offerEach offersIn
     below-offered zero z = O
     below-offered (suc n) z = next-below n (omega arith) (f n) refl (below-offered n (omega arith))
 
-    all-offered : ((a : ℕ) → t .accs ≤ a → f a ≡ false) → StoredOffering t (offerEach (t .accs) t x) (offersIn g f 32 d)
+    all-offered : ((a : ℕ) → t .accs ≤ a → f a ≡ false) → StoredOffering t c (offerEach (t .accs) t x) (offersIn g f 32 d)
     all-offered past =
-        subst (StoredOffering t (offerEach (t .accs) t x))
+        subst (StoredOffering t c (offerEach (t .accs) t x))
         (sym (in-passes g f d (t .accs) 32 (sound-of t (x .state) (O .stored .rules) .most-accs) (λ a l _. past a l)))
         (below-offered (t .accs) (omega arith))
 
   -- the offers before a slot: accelerator y first, or nobody where it is 255, and then those of which f holds
-  module _ (x : Offering) (d : Arrays) (O : StoredOffering t x d) (y : ℕ) (k : (y ≡ 255 → ⊥) → y < t .accs) (f : ℕ → Bool)
+  module _ (x : Offering) (d : Arrays) (O : StoredOffering t c x d) (y : ℕ) (k : (y ≡ 255 → ⊥) → y < t .accs) (f : ℕ → Bool)
       (idle : (a : ℕ) → a < t .accs → f a ≡ false → (a ≡ y → ⊥) → Idles t (x .state) (x .held) a)
       (past : (a : ℕ) → t .accs ≤ a → f a ≡ false) where
-    pub before-offered : StoredOffering t (offerEach (t .accs) t x) (offersBefore g y f d)
+    pub before-offered : StoredOffering t c (offerEach (t .accs) t x) (offersBefore g y f d)
     before-offered = elim (ℕ-discrete y 255) [
       | yes e ↦
-          subst (λ (b : Arrays). StoredOffering t (offerEach (t .accs) t x) (offersIn g f 32 b)) (sym (offers-unknown g y d (omega arith)))
+          subst (λ (b : Arrays). StoredOffering t c (offerEach (t .accs) t x) (offersIn g f 32 b)) (sym (offers-unknown g y d (omega arith)))
           (all-offered x d O f (λ a l q. idle a l q (λ i. omega (arith, sound-of t (x .state) (O .stored .rules) .most-accs))) past)
       | no n ↦
-          subst (λ (o : Offering). StoredOffering t o (offersBefore g y f d)) (first-past t x y (O .stored .rules) (t .accs) (k n))
+          subst (λ (o : Offering). StoredOffering t c o (offersBefore g y f d)) (first-past t x y (O .stored .rules) (t .accs) (k n))
           (all-offered (offerAll t x y) (offersOf g y d) (one-offered y (k n) x d O) f
           (λ a l q. idles-then t x y (O .stored .rules) a (idle a l q)) past)
     ]
@@ -203,7 +223,7 @@ pub record StoredSlot (t : Tree) (s : State) (d : Arrays) (x : Slot) : Type 0 wh
   pub allowance : x .arrays .allowance ≡ servedFrom t s .allowance
   pub counts : Counted t (waitingOf (servedFrom t s)) (x .arrays .under) (x .arrays .live)
 
-module _ (t : Tree) (g : List ℕ) (W : TableOf t g) (s : State) (d : Arrays) (R : Stored t s d) where
+module _ (t : Tree) (c : Channel) (g : List ℕ) (W : TableOf t g) (s : State) (d : Arrays) (R : Stored t c s d) where
   served-none : getD (d .live) 0 0 ≡ 0 → StoredSlot t s d (slotOn 255 d)
   served-none e =
       let z = live-root t s (R .rules) (d .under) (d .live) (R .counts) .0 e in

@@ -13,6 +13,7 @@ use lib.Seq.{set-out, getD-set-same, getD-set-other}
 use borrow.Author.Tests.{lt-ltb, le-ltb}
 use Rattle.model.specs.declared.Tree.{Tree}
 use Rattle.model.specs.declared.State.{State}
+use Rattle.model.specs.declared.Channel.{Channel}
 use Rattle.folds.specs.Fold.{pick}
 use Rattle.model.specs.Tree.{delayOf, bit, waitingOf, outstandingOf, homeOf, homePortOf}
 use Rattle.rules.specs.Rules.{treeKeeps, keeps}
@@ -23,10 +24,11 @@ use Rattle.model.specs.Beneath.{under, inside}
 use Rattle.machine.specs.Machine.{Outcome, outcome, freshState, opens, tick, lastSlot, slotted}
 use Rattle.machine.proofs.Keeps.{zeros}
 use Rattle.machine.proofs.Returns.{no-ones}
-use Rattle.machine.proofs.Laws.{offer-others, slot-keeps, fresh-keeps}
+use Rattle.machine.specs.Calls.{slot}
+use Rattle.machine.proofs.Laws.{offer-others, slot-keeps, fresh-keeps, step-channel}
 use Rattle.machine.proofs.Steps.{slot-passed}
 use Rattle.counts.specs.Table.{portNumber, ownPorts}
-use Rattle.counts.proofs.Table.{TableOf}
+use Rattle.counts.proofs.Table.{TableOf, LimitsOf}
 use Rattle.counts.proofs.Counted.{Counted, counted-none}
 use Rattle.trace.specs.declared.Request.{Request}
 use Rattle.admit.specs.Admitting.{Arrays, arrays, isIn}
@@ -70,37 +72,38 @@ own-waiting t w k T s c v C a l =
     ∙ C .count (homeOf t a) (homePortOf t a) (S .home a l) (S .home-port a l)
     ∙ ap (under (waitingOf s) (inside 3 t (waitingOf s))) (S .home-carries a l)
 
--- the arrays d, the next line x and the end e of the slot before are those of a run of trace s on t that stands at state z and has
+-- the arrays d, the next line x and the end e of the slot before are those of a run of trace s on channel c of t that stands at state z and has
 -- written the bytes bs; in the arrays the answer that comes home before the next slot is still outstanding
-pub record Shows (t : Tree) (s : List ℕ) (z : State) (bs : List ℕ) (d : Arrays) (x : NextLine) (e : SlotEnd) : Type 0 where
-  pub stored : Stored t z (homeOn (homeIn (delayOf t) bs) d)
+pub record Shows (t : Tree) (c : Channel) (s : List ℕ) (z : State) (bs : List ℕ) (d : Arrays) (x : NextLine) (e : SlotEnd) : Type 0 where
+  pub stored : Stored t c z (homeOn (homeIn (delayOf t) bs) d)
   pub line : AtLine s (d .held) x
   pub past : Past t z bs
   pub settled : e .opened ≡ false → Settled t z (d .held) (homeIn (delayOf t) bs)
 
--- what a run does not change: w is the table of t, and k the set of its accelerators
+-- what a run does not change: w is a table of t, and k the set of its accelerators
 pub record Fixed (t : Tree) (w : List ℕ) (k : ℕ) : Type 0 where
   pub rules : treeKeeps t ≡ true
   pub table : TableOf t w
   pub accelerators : (a : ℕ) → isIn k a ≡ ltb a (t .accs)
 
 -- after n slots, whose bytes are bs, the arrays d, the next line x and the end e of the slot before are those of a run of which Q holds
-pub record Walk (t : Tree) (s : List ℕ) (Q : Run → Type 0) (bs : List ℕ) (d : Arrays) (x : NextLine) (e : SlotEnd) (n : ℕ) : Type 0 where
+pub record Walk (t : Tree) (c : Channel) (s : List ℕ) (Q : Run → Type 0) (bs : List ℕ) (d : Arrays) (x : NextLine) (e : SlotEnd) (n : ℕ) : Type 0 where
   pub state : State
-  pub shows : Shows t s state bs d x e
+  pub shows : Shows t c s state bs d x e
   pub slot : state .slot ≡ n
   pub left : e .left ≡ leftIn (t .bus .window) n
   pub holds : Q (runOf s state d x)
 
 -- a run begins with nothing waiting, admitted or held, the first line next, as if a window had just opened
-pub walk-start : (t : Tree) (s l o v : List ℕ) (f : State) (Q : Run → Type 0) → treeKeeps t ≡ true → f ≡ freshState t → Accepts s 0
-    → l ≡ f .last → o ≡ replicate 15 0 → v ≡ replicate 15 0 → Q (start t (leftAt s 0))
-    → Walk t s Q [] (arrays (replicate 32 0) (replicate 32 0) (replicate 32 0) (replicate 120 0) v l o) (record { at = 0; due = 0 }) (endOn 255 true (t .bus .window)) 0
-walk-start t s l o v f Q k e A el eo ev q = record {
-  state = freshState t;
+pub walk-start : (t : Tree) (c : Channel) (s l o v : List ℕ) (f : State) (Q : Run → Type 0) → treeKeeps t ≡ true → f ≡ freshState t c → Accepts s 0
+    → l ≡ f .last → o ≡ replicate 15 0 → v ≡ replicate 15 0 → Q (start t c (leftAt s 0))
+    → Walk t c s Q [] (arrays (replicate 32 0) (replicate 32 0) (replicate 32 0) (replicate 120 0) v l o) (record { at = 0; due = 0 }) (endOn 255 true (t .bus .window)) 0
+walk-start t c s l o v f Q k e A el eo ev q = record {
+  state = freshState t c;
   shows = record {
     stored = record {
-      rules = fresh-keeps t k;
+      rules = fresh-keeps t c k;
+      channel = refl;
       size = length-set zero-counts (homeIn (delayOf t) []) _;
       outstanding = λ a _. ap (λ (h : ℕ). getD (set zero-counts h (getD zero-counts h 0 - 1)) a 0) (ago-none (delayOf t + 1))
           ∙ ap (λ (l : List ℕ). getD l a 0) (set-out zero-counts 255 0 (lit< tt)) ∙ zeros 32 a ∙ sym (none a);
@@ -110,7 +113,7 @@ walk-start t s l o v f Q k e A el eo ev q = record {
       counts = subst (Counted t _ (replicate 120 0)) (sym ev) (counted-none t (sound t k) _ (λ a _. zeros 32 a));
     };
     line = record { accepts = A; room = λ a. omega (arith, zeros 32 a); due = omega arith };
-    past = past-none t (freshState t) (λ a d. ap (bit d) (zeros 32 a) ∙ no-bits d) (omega (arith, sound t k .most-accs));
+    past = past-none t (freshState t c) (λ a d. ap (bit d) (zeros 32 a) ∙ no-bits d) (omega (arith, sound t k .most-accs));
     settled = λ z. clash cc;
   };
   slot = refl;
@@ -121,10 +124,10 @@ walk-start t s l o v f Q k e A el eo ev q = record {
     zero-counts : List ℕ
     zero-counts = replicate 32 0
 
-    none : (a : ℕ) → outstandingOf (freshState t) a ≡ 0
+    none : (a : ℕ) → outstandingOf (freshState t c) a ≡ 0
     none a = omega (arith, zeros 32 a, no-ones (getD (replicate 32 0) a 0) (zeros 32 a))
 
-module _ (t : Tree) (s : List ℕ) (z : State) (bs : List ℕ) (d : Arrays) (x : NextLine) (e : SlotEnd) (H : Shows t s z bs d x e) where
+module _ (t : Tree) (c : Channel) (s : List ℕ) (z : State) (bs : List ℕ) (d : Arrays) (x : NextLine) (e : SlotEnd) (H : Shows t c s z bs d x e) where
   abbrev run : Run
   run = runOf s z d x
 
@@ -134,7 +137,7 @@ module _ (t : Tree) (s : List ℕ) (z : State) (bs : List ℕ) (d : Arrays) (x :
       q ∙ ap₂ (λ (y z : Bool). y && noneHeld (d .held) && z) (left-ends s (x .at) (H .line .accepts))
       (live-none t z (H .stored .rules) (d .under) (d .live) (H .stored .counts))
 
-  module _ (w : List ℕ) (k : ℕ) (F : Fixed t w k) (n : ℕ) (N : z .slot ≡ n) where
+  module _ (w : List ℕ) (k : ℕ) (F : Fixed t w k) (L : LimitsOf t c w) (n : ℕ) (N : z .slot ≡ n) where
     abbrev due : List ℕ
     due = dueOn n s x (d .held) .held
 
@@ -168,10 +171,11 @@ module _ (t : Tree) (s : List ℕ) (z : State) (bs : List ℕ) (d : Arrays) (x :
     same-before =
         ap (λ (h : List ℕ). offerEach (t .accs) t (offering z h)) (T .held ∙ ap (λ (i : ℕ). heldWith i (d .held) (leftAt s (x .at))) (sym N))
 
-    due-stored : Stored t z (withHeld due (homeOn home d))
+    due-stored : Stored t c z (withHeld due (homeOn home d))
     due-stored =
         let R = H .stored in record {
           rules = R .rules;
+          channel = R .channel;
           size = R .size;
           outstanding = R .outstanding;
           admitted = R .admitted;
@@ -181,10 +185,10 @@ module _ (t : Tree) (s : List ℕ) (z : State) (bs : List ℕ) (d : Arrays) (x :
         }
 
     -- before a slot: the arrays are those of the definition once the offers are made
-    before-shown : StoredOffering t (beforeSlot t run) before
+    before-shown : StoredOffering t c (beforeSlot t run) before
     before-shown =
-        subst (λ (o : _). StoredOffering t o before) same-before
-        (before-offered t w (F .table) (offering z due) (withHeld due (homeOn home d)) (record { stored = due-stored; held = refl })
+        subst (λ (o : _). StoredOffering t c o before) same-before
+        (before-offered t c w (F .table) L (offering z due) (withHeld due (homeOn home d)) (record { stored = due-stored; held = refl })
         home (H .past .known (delayOf t + 1)) ready rest-idles ready-known)
 
     abbrev mid : State
@@ -199,7 +203,7 @@ module _ (t : Tree) (s : List ℕ) (z : State) (bs : List ℕ) (d : Arrays) (x :
     mid-past : Past t mid bs
     mid-past = past-same t z mid bs (each-same (λ (y : State). y .returning) t (λ y a. offer-others t y a .returning) (t .accs) (withDue run)) (H .past)
 
-    module _ (g : n < lastSlot) (L : e .left ≡ leftIn (t .bus .window) n) where
+    module _ (g : n < lastSlot) (E : e .left ≡ leftIn (t .bus .window) n) where
       abbrev window : Bool
       window = opensOn (e .left)
 
@@ -213,7 +217,7 @@ module _ (t : Tree) (s : List ℕ) (z : State) (bs : List ℕ) (d : Arrays) (x :
       byte = serveOn w before .byte
 
       Y : StoredSlot t mid before (serveOn w before)
-      Y = serves t w (F .table) mid before (before-shown .stored)
+      Y = serves t c w (F .table) mid before (before-shown .stored)
 
       abbrev service : State
       service = servedFrom t mid
@@ -222,7 +226,7 @@ module _ (t : Tree) (s : List ℕ) (z : State) (bs : List ℕ) (d : Arrays) (x :
       same-slot = served-frame t mid mid-rules .1 ∙ mid-slot
 
       opened : window ≡ opens t (service .slot)
-      opened = ap opensOn L ∙ left-opens (t .bus .window) n (sound-of t mid mid-rules .window) ∙ ap (opens t) (sym same-slot)
+      opened = ap opensOn E ∙ left-opens (t .bus .window) n (sound-of t mid mid-rules .window) ∙ ap (opens t) (sym same-slot)
 
       -- the slot of the definition
       slotted-as : outcome (slotAnswer t mid mid-rules) (tick t service) ≡ slotted t mid
@@ -236,6 +240,9 @@ module _ (t : Tree) (s : List ℕ) (z : State) (bs : List ℕ) (d : Arrays) (x :
 
       then-rules : keeps t then ≡ true
       then-rules = slot-keeps t mid mid-rules
+
+      then-channel : then .channel ≡ c
+      then-channel = step-channel t mid slot ∙ before-shown .stored .channel
 
       admitted-same : before .admitted ≡ service .admitted
       admitted-same = before-shown .stored .admitted ∙ sym (served-frame t mid mid-rules .0)
@@ -270,10 +277,11 @@ module _ (t : Tree) (s : List ℕ) (z : State) (bs : List ℕ) (d : Arrays) (x :
             | no f ↦ getD-set-other outstanding h a x 0 (λ q. f (sym q)) ∙ omega (arith, held, went-home a l, only-other h a f)
           ]
 
-      ticked : Stored t (tick t service) (homeOn (homeIn (delayOf t) bytes) after)
+      ticked : Stored t c (tick t service) (homeOn (homeIn (delayOf t) bytes) after)
       unfolding tick
       ticked = record {
         rules = subst (λ (y : State). keeps t y ≡ true) (sym then-is) then-rules;
+        channel = ap (λ (y : State). y .channel) then-is ∙ then-channel;
         size = length-set outstanding _ _ ∙ home-size;
         outstanding = home-stored;
         admitted = ap₂ (λ (b : Bool) (m : List ℕ). pick b (replicate 32 0) m) opened (Y .admitted ∙ admitted-same);
@@ -287,8 +295,8 @@ module _ (t : Tree) (s : List ℕ) (z : State) (bs : List ℕ) (d : Arrays) (x :
       ticked-slot = ap (λ (i : ℕ). i + 1) same-slot
 
       -- after a slot: the arrays are those of the definition
-      after-stored : Stored t then (homeOn (homeIn (delayOf t) bytes) after)
-      after-stored = subst (λ (y : State). Stored t y (homeOn (homeIn (delayOf t) bytes) after)) then-is ticked
+      after-stored : Stored t c then (homeOn (homeIn (delayOf t) bytes) after)
+      after-stored = subst (λ (y : State). Stored t c y (homeOn (homeIn (delayOf t) bytes) after)) then-is ticked
 
       after-past : Past t then bytes
       after-past = subst (λ (y : State). Past t y bytes) then-is (past-next t mid mid-rules bs mid-past byte (Y .byte) byte-known)
@@ -309,6 +317,7 @@ module _ (t : Tree) (s : List ℕ) (z : State) (bs : List ℕ) (d : Arrays) (x :
           ))
           (λ b. ap (λ (l : List ℕ). getD l b 0)
           (sym (after-stored .admitted) ∙ passed _ _ _ a ∙ Y .admitted ∙ before-shown .stored .admitted))
+          (step-channel t mid slot)
 
       after-room : Room (after .held) (line .at)
       after-room a =
@@ -322,7 +331,7 @@ module _ (t : Tree) (s : List ℕ) (z : State) (bs : List ℕ) (d : Arrays) (x :
           )
 
       -- the run one slot on, its byte, and what holds of its arrays
-      shows-next : Shows t s (next t run .state) bytes after line (endOn byte window left)
+      shows-next : Shows t c s (next t run .state) bytes after line (endOn byte window left)
       unfolding next
       shows-next = record {
         stored = after-stored;
@@ -344,23 +353,23 @@ module _ (t : Tree) (s : List ℕ) (z : State) (bs : List ℕ) (d : Arrays) (x :
       unfolding next
       slot-next = ap (λ (y : State). y .slot) (sym then-is) ∙ ticked-slot
 
-      walked : (P : Run → Type 0) → (byte ≡ lastByte t run → P (next t run)) → Walk t s P bytes after line (endOn byte window left) (n + 1)
+      walked : (P : Run → Type 0) → (byte ≡ lastByte t run → P (next t run)) → Walk t c s P bytes after line (endOn byte window left) (n + 1)
       walked P f = record {
         state = next t run .state;
         shows = shows-next;
         slot = slot-next;
-        left = ap (leftOn (t .bus .window)) L ∙ left-next (t .bus .window) n (sound t (F .rules) .window);
+        left = ap (leftOn (t .bus .window)) E ∙ left-next (t .bus .window) n (sound t (F .rules) .window);
         holds = subst P (sym run-next) (f byte-next);
       }
 
 -- the test before each slot, and one slot, for any loop over a run
-module _ (t : Tree) (w : List ℕ) (k : ℕ) (s : List ℕ) (F : Fixed t w k) (Q : Run → Type 0) (bs : List ℕ) (d : Arrays) (x : NextLine) (e : SlotEnd)
-    (n : ℕ) (G : Walk t s Q bs d x e n) where
+module _ (t : Tree) (c : Channel) (w : List ℕ) (k : ℕ) (s : List ℕ) (F : Fixed t w k) (L : LimitsOf t c w) (Q : Run → Type 0) (bs : List ℕ) (d : Arrays) (x : NextLine) (e : SlotEnd)
+    (n : ℕ) (G : Walk t c s Q bs d x e n) where
   abbrev pub here : Run
   here = runOf s (G .state) d x
 
   pub walk-done : (b : Bool) → b ≡ (eqb (x .at) (length s) && noneHeld (d .held) && eqb (getD (d .live) 0 0) 0) → b ≡ isDone here
-  walk-done = shows-done t s (G .state) bs d x e (G .shows)
+  walk-done = shows-done t c s (G .state) bs d x e (G .shows)
 
   -- the line, the arrays and the slot's end are those of the two calls
   pub record Step (x₁ : NextLine) (e₂ : SlotEnd) (d₂ : Arrays) : Type 0 where
@@ -375,14 +384,14 @@ module _ (t : Tree) (w : List ℕ) (k : ℕ) (s : List ℕ) (F : Fixed t w k) (Q
     pub after : d₂ ≡ afterOn w (e .left) mid
 
   pub walk-next : (x₁ : NextLine) (e₂ : SlotEnd) (d₂ : Arrays) → Step x₁ e₂ d₂ → n < lastSlot → (bs₂ : List ℕ) → bs₂ ≡ bs ++ e₂ .served ∷ []
-      → (P : Run → Type 0) → (e₂ .served ≡ lastByte t here → P (next t here)) → Walk t s P bs₂ d₂ x₁ e₂ (n + 1)
+      → (P : Run → Type 0) → (e₂ .served ≡ lastByte t here → P (next t here)) → Walk t c s P bs₂ d₂ x₁ e₂ (n + 1)
   walk-next x₁ e₂ d₂ S g bs₂ B P f =
       let first = S .before ∙ ap (λ (h : ℕ). beforeOn s n x (e .opened) k h w d) (S .home-is) in
       let end = S .ends ∙ ap₂ (λ (i : ℕ) (y : Arrays). slotEndOn w i (e .left) y) (S .window-is) first in
       let byte = ap (λ (i : SlotEnd). i .served) end in
-      let W = walked t s (G .state) bs d x e (G .shows) w k F n (G .slot) g (G .left) P (λ b. f (byte ∙ b)) in
-      subst₂ (λ (l : NextLine) (b : List ℕ). Walk t s P b d₂ l e₂ (n + 1)) (sym (S .line)) (sym B)
-      (subst₂ (λ (y : Arrays) (i : SlotEnd). Walk t s P (bs ++ i .served ∷ []) y (dueOn n s x (d .held) .line) i (n + 1))
+      let W = walked t c s (G .state) bs d x e (G .shows) w k F L n (G .slot) g (G .left) P (λ b. f (byte ∙ b)) in
+      subst₂ (λ (l : NextLine) (b : List ℕ). Walk t c s P b d₂ l e₂ (n + 1)) (sym (S .line)) (sym B)
+      (subst₂ (λ (y : Arrays) (i : SlotEnd). Walk t c s P (bs ++ i .served ∷ []) y (dueOn n s x (d .held) .line) i (n + 1))
       (sym (S .after ∙ ap (afterOn w (e .left)) first)) (sym end) W)
 
   -- after it what waits of an accelerator stands under its own port

@@ -1,4 +1,4 @@
--- The run of a trace (document 01, "Turns", last paragraph).
+-- The run of a trace on one channel (document 01, "Turns", last paragraph; document 02, item 5).
 --
 -- Run                   where a run stands before a slot: the state, the held counts, the lines left
 -- hold h r              "adds the lines due to the held counts": the held counts with request r added
@@ -14,22 +14,23 @@
 -- Trail                 the bytes written, one a slot used, and whether the run ended done; ended d: no byte more; written b x:
 --                       the byte b, then x
 -- trail k t r           the run from r on, over at most k slots: "Done is tested before each slot"
--- start t rs            "The runner starts fresh": nothing is held, and all lines rs are left
--- runFor t rs n         the run from the start, over the lines rs and a buffer of n bytes
+-- start t c rs          "The runner starts fresh", on channel c: nothing is held, and all lines rs are left
+-- runFor t c rs n       the run from the start, over the lines rs and a buffer of n bytes
 -- Ending                how a run ends: refused by a number and a line, or by 11, which has no line; or done, or stopped, "and
 --                       the number of slots used"
 -- endAfter d n          done if d, else stopped, after n slots
 -- endOf x               done or stopped by the trail x: the slots used are its bytes
 -- answered y x          how a run of the trail x ends where the trace's reading answers y; overwritten y x d: the buffer d then
 -- over x d              the trail's bytes over those of d
--- ranOf t s n           how a run of trace s over a buffer of n bytes ends: "the runner 11, buffer size, trace"
--- bufferAfter t s d     the buffer d after the run: "Bytes past the slots used keep their contents", and a refusal leaves all
+-- ranOf t c s n         how a run of trace s on channel c over a buffer of n bytes ends: "the runner 11, buffer size, trace"
+-- bufferAfter t c s d   the buffer d after the run: "Bytes past the slots used keep their contents", and a refusal leaves all
 use Prim.Native.Nat.{ℕ, zero, suc, _+_}
 use mathlib.Core.Bool.{Bool, true, _&&_, not}
 use mathlib.Core.List.{List, [], _∷_, _++_}
 use lib.ListN.{length, set, drop, replicate}
 use lib.Dec.{leb, ltb, eqb}
 use Rattle.model.specs.declared.Tree.{Tree}
+use Rattle.model.specs.declared.Channel.{Channel}
 use Rattle.model.specs.declared.State.{State}
 use Rattle.folds.specs.Fold.{pick, all}
 use Rattle.rules.specs.Rules.{treeKeeps}
@@ -104,11 +105,11 @@ unfoldable pub trail : ℕ → Tree → Run → Trail
 trail zero t r = ended (isDone r)
 trail (suc k) t r = pick (isDone r) (ended true) (written (lastByte t r) (trail k t (next t r)))
 
-abbrev pub start : Tree → List Request → Run
-start t rs = record { state = freshState t; held = replicate 32 0; left = rs }
+abbrev pub start : Tree → Channel → List Request → Run
+start t c rs = record { state = freshState t c; held = replicate 32 0; left = rs }
 
-abbrev pub runFor : Tree → List Request → ℕ → Trail
-runFor t rs n = trail n t (start t rs)
+abbrev pub runFor : Tree → Channel → List Request → ℕ → Trail
+runFor t c rs n = trail n t (start t c rs)
 
 pub data Ending : Type 0 where
   refusedAt : ℕ → ℕ → Ending
@@ -135,14 +136,14 @@ overwritten Accepted x d = over x d
 overwritten (Refused r n) x d = d
 overwritten Broken x d = d
 
-unfoldable pub ranOf : Tree → List ℕ → ℕ → Ending
-ranOf t s n =
+unfoldable pub ranOf : Tree → Channel → List ℕ → ℕ → Ending
+ranOf t c s n =
     pick (not (treeKeeps t)) (broken 11)
     (pick (ltb 65536 n) (refusedAt 2 0)
-    (answered (readTrace t s) (runFor t (requests (lines s)) n)))
+    (answered (readTrace t s) (runFor t c (requests (lines s)) n)))
 
-unfoldable pub bufferAfter : Tree → List ℕ → List ℕ → List ℕ
-bufferAfter t s d =
+unfoldable pub bufferAfter : Tree → Channel → List ℕ → List ℕ → List ℕ
+bufferAfter t c s d =
     pick (not (treeKeeps t)) d
     (pick (ltb 65536 (length d)) d
-    (overwritten (readTrace t s) (runFor t (requests (lines s)) (length d)) d))
+    (overwritten (readTrace t s) (runFor t c (requests (lines s)) (length d)) d))

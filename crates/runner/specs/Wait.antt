@@ -12,17 +12,18 @@
 -- servedIn w a b        the services of accelerator a, once b is served, by what was told before, w
 -- tellOn w k a n m b    what is told of transaction k of accelerator a after slot n, by what was told before, w: b was served, and then
 --                       m of it wait. Those and the ones served are all that were admitted
--- usedBy t rs n         the slots that the run over the lines rs and a buffer of n bytes uses
+-- usedBy t c rs n       the slots that the run on channel c over the lines rs and a buffer of n bytes uses
 -- askedOf t a k         the number asked of accelerator a: 0, none, where the tree has no such accelerator
--- waitFor t rs a k n    what the run over the lines rs and a buffer of n bytes tells of transaction k of accelerator a
+-- waitFor t c rs a k n  what the run on channel c over the lines rs and a buffer of n bytes tells of transaction k of accelerator a
 -- toldRead y w          w where the trace's reading answers y by accepting; else nothing is told
--- toldOf t s a k n      what is told by a run of trace s over a buffer of n bytes: nothing where it is refused
+-- toldOf t c s a k n    what is told by a run of trace s on channel c over a buffer of n bytes: nothing where it is refused
 use Prim.Native.Nat.{ℕ, zero, suc, _+_}
 use mathlib.Core.Bool.{Bool, not}
 use mathlib.Core.List.{List, [], _∷_}
 use lib.Dec.{leb, ltb, eqb}
 use lib.ListN.{length}
 use Rattle.model.specs.declared.Tree.{Tree}
+use Rattle.model.specs.declared.Channel.{Channel}
 use Rattle.folds.specs.Fold.{pick}
 use Rattle.model.specs.Tree.{waitingOf}
 use Rattle.rules.specs.Rules.{treeKeeps}
@@ -80,22 +81,22 @@ tellOn w k a n m b =
     (leastOf (w .service) n (leb k (servedIn w a b)))
     (servedIn w a b))
 
-abbrev pub usedBy : Tree → List Request → ℕ → ℕ
-usedBy t rs n = length (runFor t rs n .bytes)
+abbrev pub usedBy : Tree → Channel → List Request → ℕ → ℕ
+usedBy t c rs n = length (runFor t c rs n .bytes)
 
 abbrev pub askedOf : Tree → ℕ → ℕ → ℕ
 askedOf t a k = pick (ltb a (t .accs)) k 0
 
-abbrev pub waitFor : Tree → List Request → ℕ → ℕ → ℕ → Waits
-waitFor t rs a k n = waitsAfter t (start t rs) (usedBy t rs n) a (askedOf t a k)
+abbrev pub waitFor : Tree → Channel → List Request → ℕ → ℕ → ℕ → Waits
+waitFor t c rs a k n = waitsAfter t (start t c rs) (usedBy t c rs n) a (askedOf t a k)
 
 abbrev pub toldRead : FileAnswer → Waits → Waits
 toldRead Accepted w = w
 toldRead (Refused r n) w = noWait
 toldRead Broken w = noWait
 
-unfoldable pub toldOf : Tree → List ℕ → ℕ → ℕ → ℕ → Waits
-toldOf t s a k n =
+unfoldable pub toldOf : Tree → Channel → List ℕ → ℕ → ℕ → ℕ → Waits
+toldOf t c s a k n =
     pick (not (treeKeeps t)) noWait
     (pick (ltb 65536 n) noWait
-    (toldRead (readTrace t s) (waitFor t (requests (lines s)) a k n)))
+    (toldRead (readTrace t s) (waitFor t c (requests (lines s)) a k n)))

@@ -1,5 +1,5 @@
-// The runner of document 01: a trace is run slot by slot on a configuration, from the fresh state, and each slot's service
-// is written as one byte.
+// The runner of document 01: a trace is run slot by slot on a configuration, from the fresh state of a channel, and each slot's
+// service is written as one byte.
 mod steps;
 mod waiting;
 
@@ -7,6 +7,7 @@ use counts::tables::table_of;
 use lines::FileAnswer;
 use machine::FreshAnswer;
 use machine::fresh;
+use model::Channel;
 use model::Refusal;
 use model::State;
 use model::Tree;
@@ -99,17 +100,25 @@ fn ended(done: bool, used: u32) -> RunAnswer
     RunAnswer::Stopped(used)
 }
 
-// The run of an accepted trace, one byte a slot, until nothing is left or the buffer is full, and what it tells of transaction k of
+// The run of an accepted trace on a channel, one byte a slot, until nothing is left or the buffer is full, and what it tells of transaction k of
 // accelerator a, of none if k is 0. In place of a state it keeps what is outstanding, admitted and held of each accelerator, what
 // waits under each port, the turns and the live ports, and the next line's slot. The slot count is the number of bytes used, and these
 // bytes say whose answer comes home.
-fn run_slots(t: Tree, fresh: State, trace: &[u8], a: u8, k: u32, out: &mut [u8]) -> RunWait
-    requires { ⌜ (treeKeeps t ≡ true) × (fresh ≡ freshState t) × (length (now out) ≤ 65536) × Accepts (now trace) 0 × ((k ≡ 0 → ⊥) → a < t .accs) ⌝ }
-    ensures answer { λ r. ⌜ runMeans (r .answer) ≡ endOf (runFor t (leftAt (now (trace .entry)) 0) (length (now (out .entry)))) ⌝ }
-    ensures bytes { λ r. ⌜ now (out .exit) ≡ over (runFor t (leftAt (now (trace .entry)) 0) (length (now (out .entry)))) (now (out .entry)) ⌝ }
-    ensures wait { λ r. ⌜ waitOf (r .wait) ≡ waitsAfter t (start t (leftAt (now (trace .entry)) 0)) (usedBy t (leftAt (now (trace .entry)) 0) (length (now (out .entry)))) a k ⌝ }
+fn run_slots(
+    t: Tree,
+    channel: Channel,
+    fresh: State,
+    trace: &[u8],
+    a: u8,
+    k: u32,
+    out: &mut [u8],
+) -> RunWait
+    requires { ⌜ (treeKeeps t ≡ true) × (fresh ≡ freshState t channel) × (length (now out) ≤ 65536) × Accepts (now trace) 0 × ((k ≡ 0 → ⊥) → a < t .accs) ⌝ }
+    ensures answer { λ r. ⌜ runMeans (r .answer) ≡ endOf (runFor t channel (leftAt (now (trace .entry)) 0) (length (now (out .entry)))) ⌝ }
+    ensures bytes { λ r. ⌜ now (out .exit) ≡ over (runFor t channel (leftAt (now (trace .entry)) 0) (length (now (out .entry)))) (now (out .entry)) ⌝ }
+    ensures wait { λ r. ⌜ waitOf (r .wait) ≡ waitsAfter t (start t channel (leftAt (now (trace .entry)) 0)) (usedBy t channel (leftAt (now (trace .entry)) 0) (length (now (out .entry)))) a k ⌝ }
 {
-    let table = table_of(t);
+    let table = table_of(t, channel);
     let last = fresh.last;
     let mut blocks = [0u32; 96];
     let mut under = [0u16; 120];
@@ -159,14 +168,14 @@ fn run_slots(t: Tree, fresh: State, trace: &[u8], a: u8, k: u32, out: &mut [u8])
     }
 }
 
-// Runs the trace on the configuration, writes one byte a slot into `out`, and tells of transaction k of accelerator a, counted from 1
+// Runs the trace on a channel of the configuration, writes one byte a slot into `out`, and tells of transaction k of accelerator a, counted from 1
 // in the order of service, when it was admitted and served; of none if k is 0 or there is no such accelerator.
-pub fn run_wait(t: Tree, trace: &[u8], a: u8, k: u32, out: &mut [u8]) -> RunWait
-    ensures answer { λ r. ⌜ runMeans (r .answer) ≡ ranOf t (now (trace .entry)) (length (now (out .entry))) ⌝ }
-    ensures bytes { λ r. ⌜ now (out .exit) ≡ bufferAfter t (now (trace .entry)) (now (out .entry)) ⌝ }
-    ensures wait { λ r. ⌜ waitOf (r .wait) ≡ toldOf t (now (trace .entry)) a k (length (now (out .entry))) ⌝ }
+pub fn run_wait(t: Tree, channel: Channel, trace: &[u8], a: u8, k: u32, out: &mut [u8]) -> RunWait
+    ensures answer { λ r. ⌜ runMeans (r .answer) ≡ ranOf t channel (now (trace .entry)) (length (now (out .entry))) ⌝ }
+    ensures bytes { λ r. ⌜ now (out .exit) ≡ bufferAfter t channel (now (trace .entry)) (now (out .entry)) ⌝ }
+    ensures wait { λ r. ⌜ waitOf (r .wait) ≡ toldOf t channel (now (trace .entry)) a k (length (now (out .entry))) ⌝ }
 {
-    let start = fresh(t);
+    let start = fresh(t, channel);
     let started = start.answer;
     let FreshAnswer::Started = started else {
         return untold(RunAnswer::Broken);
@@ -176,18 +185,19 @@ pub fn run_wait(t: Tree, trace: &[u8], a: u8, k: u32, out: &mut [u8]) -> RunWait
     }
     match read_requests(t.accs, trace) {
         FileAnswer::Accepted => {
-            run_slots(t, start.state, trace, a, number_asked(t.accs, a, k), out)
+            let number = number_asked(t.accs, a, k);
+            run_slots(t, channel, start.state, trace, a, number, out)
         }
         FileAnswer::Refused(why, line) => untold(RunAnswer::Refused(why, line)),
         FileAnswer::Broken => untold(RunAnswer::Broken),
     }
 }
 
-// Runs the trace on the configuration and writes one byte a slot into `out`.
-pub fn run(t: Tree, trace: &[u8], out: &mut [u8]) -> RunAnswer
-    ensures answer { λ r. ⌜ runMeans r ≡ ranOf t (now (trace .entry)) (length (now (out .entry))) ⌝ }
-    ensures bytes { λ r. ⌜ now (out .exit) ≡ bufferAfter t (now (trace .entry)) (now (out .entry)) ⌝ }
+// Runs the trace on a channel of the configuration and writes one byte a slot into `out`.
+pub fn run(t: Tree, channel: Channel, trace: &[u8], out: &mut [u8]) -> RunAnswer
+    ensures answer { λ r. ⌜ runMeans r ≡ ranOf t channel (now (trace .entry)) (length (now (out .entry))) ⌝ }
+    ensures bytes { λ r. ⌜ now (out .exit) ≡ bufferAfter t channel (now (trace .entry)) (now (out .entry)) ⌝ }
 {
-    let ran = run_wait(t, trace, 0, 0, out);
+    let ran = run_wait(t, channel, trace, 0, 0, out);
     ran.answer
 }

@@ -1,9 +1,11 @@
--- Computed from the definitions: the calls of a slot in which an offer is refused; that an offer writes no byte and a refused
+-- Computed from the definitions: the calls of a slot in which an offer is refused, and of one on either channel of a tree with a
+-- block that only writes; that an offer writes no byte and a refused
 -- one admits nothing; and what the lines due before a slot ask.
 use Prim.Native.Nat.{ℕ}
 use mathlib.Core.List.{[], _∷_}
 use mathlib.Core.Path.{_≡_, refl}
 use Rattle.model.specs.declared.Tree.{Tree}
+use Rattle.model.specs.declared.Channel.the-variants.{Read, Write}
 use lib.Count.{ones}
 use Rattle.folds.specs.Fold.{sum, all}
 use Rattle.model.specs.Tree.{above}
@@ -14,6 +16,7 @@ use Rattle.trace.specs.TraceFile.{totalFor}
 use Rattle.machine.specs.Machine.{admitted, served, refused, offered}
 use Rattle.machine.specs.Calls.{offer, slot}
 use Rattle.guarantee.specs.Guarantee.{event}
+use Rattle.guarantee.specs.Instances.{mapped}
 use Rattle.runner.specs.Offers.{offerHeld, offerEach}
 use Rattle.runner.specs.Run.{start, heldWith}
 use Rattle.runner.specs.Slots.{dueBefore}
@@ -27,10 +30,20 @@ abbrev tree : Tree
 tree = pair 1 4 4 4 2
 
 -- the budget is 2: of four transactions the third is offered and refused, the fourth is not offered
-pub calls-of-slot : slotCalls tree (start tree (line 0 0 4 ∷ line 0 1 1 ∷ []))
+pub calls-of-slot : slotCalls tree (start tree Read (line 0 0 4 ∷ line 0 1 1 ∷ []))
     ≡ offer 0 ∷ offer 0 ∷ offer 0 ∷ offer 1 ∷ slot ∷ []
 unfolding offersHeld offersEach offerHeld offerEach heldWith offered treeKeeps stateKeeps sized recordKeeps turnKeeps busKeeps carries rootPlaced childPlaced usedInterconnect unusedInterconnect usedAccelerator unusedAccelerator inside above sum all ones
 calls-of-slot = refl
+
+-- accelerator 1 has a job on the write channel alone: on the read channel its first offer is refused, and it makes no other
+pub calls-without-job : slotCalls mapped (start mapped Read (line 0 0 2 ∷ line 0 1 2 ∷ [])) ≡ offer 0 ∷ offer 0 ∷ offer 1 ∷ slot ∷ []
+unfolding offersHeld offersEach offerHeld offerEach heldWith offered treeKeeps stateKeeps sized recordKeeps turnKeeps busKeeps carries rootPlaced childPlaced usedInterconnect unusedInterconnect usedAccelerator unusedAccelerator inside above sum all ones
+calls-without-job = refl
+
+pub calls-with-job : slotCalls mapped (start mapped Write (line 0 0 2 ∷ line 0 1 2 ∷ []))
+    ≡ offer 0 ∷ offer 0 ∷ offer 1 ∷ offer 1 ∷ slot ∷ []
+unfolding offersHeld offersEach offerHeld offerEach heldWith offered treeKeeps stateKeeps sized recordKeeps turnKeeps busKeeps carries rootPlaced childPlaced usedInterconnect unusedInterconnect usedAccelerator unusedAccelerator inside above sum all ones
+calls-with-job = refl
 
 pub byte-of-slot : bytesIn (event (offer 0) admitted ∷ event slot (served 0) ∷ []) ≡ 0 ∷ []
 unfolding bytesIn

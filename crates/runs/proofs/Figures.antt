@@ -1,4 +1,4 @@
--- The run is computed once, and what waits before its first slot; all that is answered follows from its bytes, as every wait begins in slot 0.
+-- The run on a channel is computed once, and what waits before its first slot; all that is answered follows from its bytes, as every wait begins in slot 0.
 use Prim.Native.Nat.{ℕ, zero, suc, _+_, _≤_, _<_}
 use mathlib.Core.Bool.{Bool, true, _||_}
 use mathlib.Core.List.{List, [], _∷_, _++_}
@@ -14,6 +14,8 @@ use lib.Seq.{take-all, take-append-le}
 use Rattle.folds.specs.Fold.{pick, sum, all}
 use Rattle.folds.proofs.Folds.{picked}
 use Rattle.model.specs.declared.Tree.{Tree}
+use Rattle.model.specs.declared.Channel.{Channel}
+use Rattle.model.specs.declared.Channel.the-variants.{Read, Write}
 use Rattle.model.specs.Tree.{above}
 use Rattle.model.specs.Trees.{chain}
 use Rattle.model.specs.Beneath.{inside}
@@ -58,64 +60,66 @@ bytes-sooner t r n (suc m) h = elim (decLt m n) [
 abbrev whole : List ℕ
 whole = 0 ∷ 1 ∷ 0 ∷ 2 ∷ 0 ∷ 1 ∷ 0 ∷ 3 ∷ []
 
-abbrev run : Run
-run = start chain asked
+abbrev run : Channel → Run
+run c = start chain c asked
 
 abbrev offered-first : List ℕ
 offered-first = 4 ∷ 2 ∷ 1 ∷ 1 ∷ replicate 28 0
 
-run-bytes : runFor chain asked 65536 .bytes ≡ whole
+run-bytes : (c : Channel) → runFor chain c asked 65536 .bytes ≡ whole
 unfolding offerHeld offerEach heldWith leftAfter next offered slotted tick who after turnPort turnAllowance seek bitsBelow treeKeeps stateKeeps sized recordKeeps turnKeeps busKeeps carries rootPlaced childPlaced usedInterconnect unusedInterconnect usedAccelerator unusedAccelerator inside above sum all ones trail
-run-bytes = refl
+run-bytes Read = refl
+run-bytes Write = refl
 
-first-waits : beforeSlot chain run .state .waiting ≡ offered-first
+first-waits : (c : Channel) → beforeSlot chain (run c) .state .waiting ≡ offered-first
 unfolding offerHeld offerEach heldWith offered treeKeeps stateKeeps sized recordKeeps turnKeeps busKeeps carries rootPlaced childPlaced usedInterconnect unusedInterconnect usedAccelerator unusedAccelerator inside above sum all ones
-first-waits = refl
+first-waits Read = refl
+first-waits Write = refl
 
-used : usedBy chain asked 65536 ≡ 8
-used = ap length run-bytes
+used : (c : Channel) → usedBy chain c asked 65536 ≡ 8
+used c = ap length (run-bytes c)
 
-bytes : bytesBefore 8 chain run ≡ whole
-bytes = ap (λ (n : ℕ). bytesBefore n chain run) (sym used) ∙ sym (ran 65536 chain run .bytes) ∙ run-bytes
+bytes : (c : Channel) → bytesBefore 8 chain (run c) ≡ whole
+bytes c = ap (λ (n : ℕ). bytesBefore n chain (run c)) (sym (used c)) ∙ sym (ran 65536 chain (run c) .bytes) ∙ run-bytes c
 
-module _ (a k : ℕ) where
+module _ (c : Channel) (a k : ℕ) where
   abbrev serves : ℕ
   serves = first 8 (λ n. leb k (countIn a (take (suc n) whole)))
 
-  few : fewer chain asked a k ≡ (eqb k 0 || ltb (countIn a whole) k)
-  few = ap (λ (bs : List ℕ). eqb k 0 || ltb (countIn a bs) k) (ap (λ (n : ℕ). bytesBefore n chain run) used ∙ bytes)
+  few : fewer chain c asked a k ≡ (eqb k 0 || ltb (countIn a whole) k)
+  few = ap (λ (bs : List ℕ). eqb k 0 || ltb (countIn a bs) k) (ap (λ (n : ℕ). bytesBefore n chain (run c)) (used c) ∙ bytes c)
 
-  service : serviceSlot chain run 8 a k ≡ serves
-  service = first-same 8 _ _ (λ n l. ap (λ (bs : List ℕ). leb k (countIn a bs)) (bytes-sooner chain run (suc n) 8 (omega arith) ∙ ap (take (suc n)) bytes))
+  service : serviceSlot chain (run c) 8 a k ≡ serves
+  service = first-same 8 _ _ (λ n l. ap (λ (bs : List ℕ). leb k (countIn a bs)) (bytes-sooner chain (run c) (suc n) 8 (omega arith) ∙ ap (take (suc n)) (bytes c)))
 
   module _ (h : leb k (getD offered-first a 0) ≡ true) where
-    admission : admissionSlot chain run 8 a k ≡ 0
+    admission : admissionSlot chain (run c) 8 a k ≡ 0
     unfolding countIn bytesBefore standing
-    admission = first-here 7 (λ n. leb k (takenBy chain run a n)) (ap (λ (w : List ℕ). leb k (0 + getD w a 0)) first-waits ∙ ap (leb k) (zero-add (getD offered-first a 0)) ∙ h)
+    admission = first-here 7 (λ n. leb k (takenBy chain (run c) a n)) (ap (λ (w : List ℕ). leb k (0 + getD w a 0)) (first-waits c) ∙ ap (leb k) (zero-add (getD offered-first a 0)) ∙ h)
 
-    list : listOf chain asked a k ≡ take serves whole
+    list : listOf chain c asked a k ≡ take serves whole
     list =
-        ap (λ (m : ℕ). drop (admissionSlot chain run m a k) (take (serviceSlot chain run m a k) (bytesBefore m chain run))) used
-        ∙ ap (λ (i : ℕ). drop i (take (serviceSlot chain run 8 a k) (bytesBefore 8 chain run))) admission
-        ∙ ap₂ (λ (o : ℕ) (bs : List ℕ). take o bs) service bytes
+        ap (λ (m : ℕ). drop (admissionSlot chain (run c) m a k) (take (serviceSlot chain (run c) m a k) (bytesBefore m chain (run c)))) (used c)
+        ∙ ap (λ (i : ℕ). drop i (take (serviceSlot chain (run c) 8 a k) (bytesBefore 8 chain (run c)))) admission
+        ∙ ap₂ (λ (o : ℕ) (bs : List ℕ). take o bs) service (bytes c)
 
-    answer : whyFrom chain asked a k
+    answer : whyFrom chain c asked a k
         ≡ pick (leb 4 a) (denied 7) (pick (eqb k 0 || ltb (countIn a whole) k) (denied 12) (waited (length (take serves whole)) 0))
     unfolding whyFrom
     answer =
-        ap (λ (b : Bool). pick (leb 4 a) (denied 7) (pick b (denied 12) (waited (length (listOf chain asked a k)) (admissionSlot chain run (usedBy chain asked 65536) a k)))) few
+        ap (λ (b : Bool). pick (leb 4 a) (denied 7) (pick b (denied 12) (waited (length (listOf chain c asked a k)) (admissionSlot chain (run c) (usedBy chain c asked 65536) a k)))) few
         ∙ ap₂ (λ (l : List ℕ) (i : ℕ). pick (leb 4 a) (denied 7) (pick (eqb k 0 || ltb (countIn a whole) k) (denied 12) (waited (length l) i)))
-        list (ap (λ (m : ℕ). admissionSlot chain run m a k) used ∙ admission)
+        list (ap (λ (m : ℕ). admissionSlot chain (run c) m a k) (used c) ∙ admission)
 
-pub figures : Figures
+pub figures : (c : Channel) → Figures c
 unfolding entries countIn first crosses meeting above sum whyFrom
-figures = record {
-  last = answer 3 1 refl;
-  last-list = ap (entries chain 3) (list 3 1 refl);
-  own = answer 0 2 refl;
-  own-list = ap (entries chain 0) (list 0 2 refl);
-  at-once = answer 0 1 refl;
-  fifth = picked _ (denied 12) _ (few 0 5);
+figures c = record {
+  last = answer c 3 1 refl;
+  last-list = ap (entries chain 3) (list c 3 1 refl);
+  own = answer c 0 2 refl;
+  own-list = ap (entries chain 0) (list c 0 2 refl);
+  at-once = answer c 0 1 refl;
+  fifth = picked _ (denied 12) _ (few c 0 5);
   none = refl;
   unknown = refl;
 }

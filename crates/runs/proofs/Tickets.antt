@@ -137,16 +137,16 @@ module _ (t : Tree) (s : State) (cs : List Call) (K : keeps t s ≡ true) (a : �
   unfolding slotsIn
   in-time G others first later e = record {
     own = before;
-    slots = subst (λ (k : ℕ). slotsIn mid < suc k * shareOf t a) before soon;
-    others = subst (λ (k : ℕ). othersIn a mid ≤ suc k * (shareOf t a - 1)) before
+    slots = subst (λ (k : ℕ). slotsIn mid < suc k * shareOf t (s .channel) a) before soon;
+    others = subst (λ (k : ℕ). othersIn a mid ≤ suc k * (shareOf t (s .channel) a - 1)) before
         (G .few-others front (mid ++ rest) a E mid rest refl (subst (Holds (admittedBy (length front))) (sym first) here));
   }
     where
       enough : slotsIn mid + 1 ≤ slotsIn (mid ++ rest)
       enough = omega (arith, slots-append mid rest, ap slotsIn e)
 
-      soon : slotsIn mid < suc (length (queueAfter s a front)) * shareOf t a
-      soon = elim (decLt (slotsIn (mid ++ rest)) (suc (length (queueAfter s a front)) * shareOf t a)) [
+      soon : slotsIn mid < suc (length (queueAfter s a front)) * shareOf t (s .channel) a
+      soon = elim (decLt (slotsIn (mid ++ rest)) (suc (length (queueAfter s a front)) * shareOf t (s .channel) a)) [
         | yes l ↦ omega (arith, enough, l)
         | no d ↦
             let U = G .in-time front (mid ++ rest) a E (omega arith) in

@@ -13,6 +13,7 @@ use lib.Seq.{take-at, drop-at}
 use borrow.Author.Tests.{eq-eqb, ne-eqb, eqb-true, leb-true, leb-false, le-leb, lt-ltb, le-ltb}
 use Rattle.model.specs.declared.Tree.{Tree}
 use Rattle.model.specs.declared.State.{State}
+use Rattle.model.specs.declared.Channel.{Channel}
 use Rattle.folds.specs.Fold.{pick}
 use Rattle.model.specs.Tree.{waitingOf}
 use Rattle.rules.specs.Rules.{treeKeeps, keeps}
@@ -128,15 +129,15 @@ split a j (e ∷ es) l = go (e .call) (e .answer) l (λ i h. split a i es h)
     go (offer b) (refused i) h f = later (offer b) (refused i) j (omega arith) (f j (omega arith))
     go slot (refused i) h f = later slot (refused i) j (omega arith) (f j (omega arith))
 
-module _ (t : Tree) (k : treeKeeps t ≡ true) (rs : List Request) where
+module _ (t : Tree) (k : treeKeeps t ≡ true) (c : Channel) (rs : List Request) where
   abbrev at : ℕ → Run
-  at n = standing n t (start t rs)
+  at n = standing n t (start t c rs)
 
   abbrev offersIn : ℕ → List Call
   offersIn n = offersEach (t .accs) t (withDue (at n))
 
   abbrev E : ℕ → List Event
-  E n = eventsOf t (freshState t) (callsBefore n t (start t rs))
+  E n = eventsOf t (freshState t c) (callsBefore n t (start t c rs))
 
   abbrev O : ℕ → List Event
   O n = eventsOf t (at n .state) (offersIn n)
@@ -146,33 +147,33 @@ module _ (t : Tree) (k : treeKeeps t ≡ true) (rs : List Request) where
 
   -- the events before slot n and its offers
   module _ (n : ℕ) (l : n ≤ lastSlot) where
-    up-to-offers : eventsOf t (freshState t) (callsBefore n t (start t rs) ++ offersIn n) ≡ E n ++ O n
-    up-to-offers = events-append t (freshState t) (callsBefore n t (start t rs)) (offersIn n)
-        ∙ ap (λ (s : State). E n ++ eventsOf t s (offersIn n)) (called t rs k n l .state)
+    up-to-offers : eventsOf t (freshState t c) (callsBefore n t (start t c rs) ++ offersIn n) ≡ E n ++ O n
+    up-to-offers = events-append t (freshState t c) (callsBefore n t (start t c rs)) (offersIn n)
+        ∙ ap (λ (s : State). E n ++ eventsOf t s (offersIn n)) (called t c rs k n l .state)
 
-    state-there : stateAfter t (freshState t) (callsBefore n t (start t rs) ++ offersIn n) ≡ beforeSlot t (at n) .state
-    state-there = state-append t (freshState t) (callsBefore n t (start t rs)) (offersIn n)
-        ∙ ap (λ (s : State). stateAfter t s (offersIn n)) (called t rs k n l .state) ∙ makes-each (t .accs) t (withDue (at n)) .state
+    state-there : stateAfter t (freshState t c) (callsBefore n t (start t c rs) ++ offersIn n) ≡ beforeSlot t (at n) .state
+    state-there = state-append t (freshState t c) (callsBefore n t (start t c rs)) (offersIn n)
+        ∙ ap (λ (s : State). stateAfter t s (offersIn n)) (called t c rs k n l .state) ∙ makes-each (t .accs) t (withDue (at n)) .state
 
     pub one-more : E (suc n) ≡ (E n ++ O n) ++ S n ∷ []
     unfolding callsBefore eventsOf
     one-more =
-        ap (eventsOf t (freshState t)) (sym (append-assoc (callsBefore n t (start t rs)) (offersIn n) (slot ∷ [])))
-        ∙ events-append t (freshState t) (callsBefore n t (start t rs) ++ offersIn n) (slot ∷ [])
+        ap (eventsOf t (freshState t c)) (sym (append-assoc (callsBefore n t (start t c rs)) (offersIn n) (slot ∷ [])))
+        ∙ events-append t (freshState t c) (callsBefore n t (start t c rs) ++ offersIn n) (slot ∷ [])
         ∙ ap₂ (λ (es : List Event) (s : State). es ++ event slot (slotted t s .answer) ∷ []) up-to-offers state-there
 
-    bytes-there : bytesIn (E n ++ O n) ≡ bytesBefore n t (start t rs)
-    bytes-there = bytes-append (E n) (O n) ∙ ap₂ (λ (x y : List ℕ). x ++ y) (called t rs k n l .bytes) (makes-each (t .accs) t (withDue (at n)) .bytes) ∙ append-nil _
+    bytes-there : bytesIn (E n ++ O n) ≡ bytesBefore n t (start t c rs)
+    bytes-there = bytes-append (E n) (O n) ∙ ap₂ (λ (x y : List ℕ). x ++ y) (called t c rs k n l .bytes) (makes-each (t .accs) t (withDue (at n)) .bytes) ∙ append-nil _
 
     slots-there : slotsIn (E n) ≡ n
-    slots-there = called t rs k n l .slots
+    slots-there = called t c rs k n l .slots
 
     -- what is admitted by then
-    pub taken-there : (a : ℕ) → (a ≡ 255 → ⊥) → admissionsBy a (E n ++ O n) ≡ takenBy t (start t rs) a n
+    pub taken-there : (a : ℕ) → (a ≡ 255 → ⊥) → admissionsBy a (E n ++ O n) ≡ takenBy t (start t c rs) a n
     taken-there a d =
-        let w : Leads t (freshState t) (E n ++ O n) (beforeSlot t (at n) .state) =
-        subst (λ (es : List Event). Leads t (freshState t) es (beforeSlot t (at n) .state)) up-to-offers
-        (subst (Leads t (freshState t) _) state-there (calls-lead t (freshState t) (callsBefore n t (start t rs) ++ offersIn n) (fresh-keeps t k))) in
+        let w : Leads t (freshState t c) (E n ++ O n) (beforeSlot t (at n) .state) =
+        subst (λ (es : List Event). Leads t (freshState t c) es (beforeSlot t (at n) .state)) up-to-offers
+        (subst (Leads t (freshState t c) _) state-there (calls-lead t (freshState t c) (callsBefore n t (start t c rs) ++ offersIn n) (fresh-keeps t c k))) in
         omega (arith, balance a w, zeros 32 a, services-bytes a d (E n ++ O n), ap (countIn a) bytes-there)
 
   -- from one slot's offers to a later one's
@@ -212,17 +213,17 @@ module _ (t : Tree) (k : treeKeeps t ≡ true) (rs : List Request) where
       }
 
   abbrev bytes : ℕ → List ℕ
-  bytes n = bytesBefore n t (start t rs)
+  bytes n = bytesBefore n t (start t c rs)
 
   module _ (a : ℕ) (la : a < t .accs) (j m : ℕ) (lj : 0 < j) (lm : m ≤ lastSlot) (enough : j ≤ countIn a (bytes m)) where
     small : a ≡ 255 → ⊥
     small e = omega (arith, sound t k .most-accs)
 
     abbrev in-slot : ℕ
-    in-slot = admissionSlot t (start t rs) m a j
+    in-slot = admissionSlot t (start t c rs) m a j
 
     abbrev out-slot : ℕ
-    out-slot = serviceSlot t (start t rs) m a j
+    out-slot = serviceSlot t (start t c rs) m a j
 
     -- one slot more
     count-more : (n : ℕ) → countIn a (bytes (suc n)) ≡ countIn a (bytes n) + pick (eqb a (lastByte t (at n))) 1 0
@@ -237,7 +238,7 @@ module _ (t : Tree) (k : treeKeeps t ≡ true) (rs : List Request) where
     unfolding callsBefore eventsOf admissionsBy
     admitted-none = refl
 
-    admitted-more : (n : ℕ) → n ≤ lastSlot → admissionsBy a (E (suc n)) ≡ takenBy t (start t rs) a n
+    admitted-more : (n : ℕ) → n ≤ lastSlot → admissionsBy a (E (suc n)) ≡ takenBy t (start t c rs) a n
     unfolding admissionsBy
     admitted-more n l = omega (arith, ap (admissionsBy a) (one-more n l), admissions-append a (E n ++ O n) (S n ∷ []), taken-there n l a small, none (S n .answer))
       where
@@ -249,15 +250,15 @@ module _ (t : Tree) (k : treeKeeps t ≡ true) (rs : List Request) where
 
     -- no more are served than were admitted
     served-less : (n : ℕ) → n ≤ lastSlot → countIn a (bytes n) ≤ admissionsBy a (E n)
-    served-less n l = omega (arith, balance a (calls-lead t (freshState t) (callsBefore n t (start t rs)) (fresh-keeps t k)), zeros 32 a, services-bytes a small (E n), ap (countIn a) (called t rs k n l .bytes))
+    served-less n l = omega (arith, balance a (calls-lead t (freshState t c) (callsBefore n t (start t c rs)) (fresh-keeps t c k)), zeros 32 a, services-bytes a small (E n), ap (countIn a) (called t c rs k n l .bytes))
 
     before-out : (n : ℕ) → ((i : ℕ) → i < n → leb j (countIn a (bytes (suc i))) ≡ false) → countIn a (bytes n) < j
     before-out zero h = omega (arith, count-none)
     before-out (suc n) h = omega (arith, leb-false j (countIn a (bytes (suc n))) (h n (omega arith)))
 
-    before-in : (n : ℕ) → n ≤ lastSlot → ((i : ℕ) → i < n → leb j (takenBy t (start t rs) a i) ≡ false) → admissionsBy a (E n) < j
+    before-in : (n : ℕ) → n ≤ lastSlot → ((i : ℕ) → i < n → leb j (takenBy t (start t c rs) a i) ≡ false) → admissionsBy a (E n) < j
     before-in zero l h = omega (arith, admitted-none)
-    before-in (suc n) l h = omega (arith, admitted-more n (omega arith), leb-false j (takenBy t (start t rs) a n) (h n (omega arith)))
+    before-in (suc n) l h = omega (arith, admitted-more n (omega arith), leb-false j (takenBy t (start t c rs) a n) (h n (omega arith)))
 
     out : First m (λ n. leb j (countIn a (bytes (suc n)))) out-slot
     out = firsts m (λ n. leb j (countIn a (bytes (suc n))))
@@ -288,23 +289,23 @@ module _ (t : Tree) (k : treeKeeps t ≡ true) (rs : List Request) where
     last-event : S out-slot ≡ event slot (served a)
     last-event = ap (event slot) (answers-it _ (serves-it .0))
 
-    enough-taken : j ≤ takenBy t (start t rs) a out-slot
+    enough-taken : j ≤ takenBy t (start t c rs) a out-slot
     enough-taken = omega (arith, out-there, served-less (suc out-slot) (omega (arith, out-there)), admitted-more out-slot (omega (arith, out-there)))
 
-    into : First m (λ n. leb j (takenBy t (start t rs) a n)) in-slot
-    into = firsts m (λ n. leb j (takenBy t (start t rs) a n))
+    into : First m (λ n. leb j (takenBy t (start t c rs) a n)) in-slot
+    into = firsts m (λ n. leb j (takenBy t (start t c rs) a n))
 
     in-early : in-slot ≤ out-slot
     in-early = elim (decLt out-slot in-slot) [
-      | yes l ↦ absurd (omega (arith, enough-taken, leb-false j (takenBy t (start t rs) a out-slot) (into .least out-slot l)))
+      | yes l ↦ absurd (omega (arith, enough-taken, leb-false j (takenBy t (start t c rs) a out-slot) (into .least out-slot l)))
       | no d ↦ omega arith
     ]
 
-    in-there : j ≤ takenBy t (start t rs) a in-slot
+    in-there : j ≤ takenBy t (start t c rs) a in-slot
     in-there = go (into .is)
       where
-        go : Found m (λ n. leb j (takenBy t (start t rs) a n)) in-slot → j ≤ takenBy t (start t rs) a in-slot
-        go (found l e) = leb-true j (takenBy t (start t rs) a in-slot) e
+        go : Found m (λ n. leb j (takenBy t (start t c rs) a n)) in-slot → j ≤ takenBy t (start t c rs) a in-slot
+        go (found l e) = leb-true j (takenBy t (start t c rs) a in-slot) e
         go (missed e) = absurd (omega (arith, in-early, out-there))
 
     in-last : in-slot ≤ lastSlot
@@ -344,7 +345,7 @@ module _ (t : Tree) (k : treeKeeps t ≡ true) (rs : List Request) where
     number-is : servicesOf a (upTo a fore while) + 1 ≡ j
     number-is = omega (arith, ap (servicesOf a) up, services-bytes a small (E out-slot ++ O out-slot), ap (countIn a) (bytes-there out-slot out-last), serves-it)
 
-    same-count : waitingOf (freshState t) a + admissionsBy a fore ≡ servicesOf a (upTo a fore while)
+    same-count : waitingOf (freshState t c) a + admissionsBy a fore ≡ servicesOf a (upTo a fore while)
     same-count = omega (arith, zeros 32 a, number-is, admissions-append a (E in-slot) (X .front), X .before, before-in in-slot in-last (into .least))
 
     since-is : slotsIn fore ≡ in-slot
@@ -382,32 +383,32 @@ module _ (t : Tree) (k : treeKeeps t ≡ true) (rs : List Request) where
       slots-append fore (event (offer a) admitted ∷ while),
       ap length bytes-out,
       length-append (bytes in-slot) (bytesIn while),
-      bytes-length in-slot t (start t rs),
-      bytes-length out-slot t (start t rs),
+      bytes-length in-slot t (start t c rs),
+      bytes-length out-slot t (start t c rs),
     )
 
     bytes-all : bytes m ≡ bytes out-slot ++ bytesIn (S out-slot ∷ Z .rest)
-    bytes-all = sym (called t rs k m lm .bytes) ∙ ap bytesIn (Z .events) ∙ bytes-append (E out-slot ++ O out-slot) (S out-slot ∷ Z .rest)
+    bytes-all = sym (called t c rs k m lm .bytes) ∙ ap bytesIn (Z .events) ∙ bytes-append (E out-slot ++ O out-slot) (S out-slot ∷ Z .rest)
         ∙ ap (λ (x : List ℕ). x ++ bytesIn (S out-slot ∷ Z .rest)) (bytes-there out-slot out-last)
 
-    bytes-are : waitBytes t (start t rs) m a j ≡ bytesIn while
+    bytes-are : waitBytes t (start t c rs) m a j ≡ bytesIn while
     bytes-are =
         ap (λ (x : List ℕ). drop in-slot (take out-slot x)) bytes-all
-        ∙ ap (drop in-slot) (take-at (bytes out-slot) (bytesIn (S out-slot ∷ Z .rest)) out-slot (bytes-length out-slot t (start t rs)) ∙ bytes-out)
-        ∙ drop-at (bytes in-slot) (bytesIn while) in-slot (bytes-length in-slot t (start t rs))
+        ∙ ap (drop in-slot) (take-at (bytes out-slot) (bytesIn (S out-slot ∷ Z .rest)) out-slot (bytes-length out-slot t (start t c rs)) ∙ bytes-out)
+        ∙ drop-at (bytes in-slot) (bytesIn while) in-slot (bytes-length in-slot t (start t c rs))
 
     none-left : servicesOf a [] ≡ 0
     unfolding servicesOf
     none-left = refl
 
-    pub waited : Waited t (freshState t) (E m) a j in-slot (entries t a (waitBytes t (start t rs) m a j))
+    pub waited : Waited t (freshState t c) (E m) a j in-slot (entries t a (waitBytes t (start t c rs) m a j))
     waited =
-        let cs = callsBefore m t (start t rs) in
-        let K = fresh-keeps t k in
-        let G = guarantee t (freshState t) cs K in
-        let stands = stands-at t (freshState t) cs K a fore while ending whole same-count while [] (sym (append-nil while)) in
+        let cs = callsBefore m t (start t c rs) in
+        let K = fresh-keeps t c k in
+        let G = guarantee t (freshState t c) cs K in
+        let stands = stands-at t (freshState t c) cs K a fore while ending whole same-count while [] (sym (append-nil while)) in
         let f = at-found (servicesOf a []) none-left stands in
-        let known = served-known t (freshState t) cs K a fore while ending whole same-count G in
+        let known = served-known t (freshState t c) cs K a fore while ending whole same-count G in
         record {
           front = fore;
           mid = while;
@@ -419,7 +420,7 @@ module _ (t : Tree) (k : treeKeeps t ≡ true) (rs : List Request) where
           since = since-is;
           list = ap (entries t a) bytes-are;
           unrefused = unrefused-is;
-          in-time = in-time t (freshState t) cs K a fore while ending whole same-count G (f .0) (f .1) (Z .rest) refl;
-          no-idle = never-idle t (freshState t) cs K a fore while ending whole same-count G la;
+          in-time = in-time t (freshState t c) cs K a fore while ending whole same-count G (f .0) (f .1) (Z .rest) refl;
+          no-idle = never-idle t (freshState t c) cs K a fore while ending whole same-count G la;
           meets = λ x y b e. meeting-deepest t k a b la (known x y b e);
         }

@@ -9,6 +9,7 @@ use lib.Dec.{eqb, ltb, leb}
 use lib.ListN.{length}
 use borrow.Author.Tests.{not-false, leb-false, ltb-false, eqb-false, le-ltb}
 use Rattle.model.specs.declared.Tree.{Tree}
+use Rattle.model.specs.declared.Channel.{Channel}
 use Rattle.folds.specs.Fold.{pick}
 use Rattle.rules.specs.Rules.{treeKeeps}
 use Rattle.folds.proofs.Folds.{passed}
@@ -34,18 +35,18 @@ neither false false e = (refl, refl)
 neither true y e = let i : _≡_ {A = ℕ} 0 1 = cc in absurd (omega arith)
 neither false true e = let i : _≡_ {A = ℕ} 0 1 = cc in absurd (omega arith)
 
-module _ (c i : ℕ) where
-  not-denied : (n : ℕ) → denied n ≡ waited c i → ⊥
+module _ (w i : ℕ) where
+  not-denied : (n : ℕ) → denied n ≡ waited w i → ⊥
   not-denied n e = let z : _≡_ {A = ℕ} 0 1 = cc in omega arith
 
-  not-refused : (n m : ℕ) → refusedAt n m ≡ waited c i → ⊥
+  not-refused : (n m : ℕ) → refusedAt n m ≡ waited w i → ⊥
   not-refused n m e = let z : _≡_ {A = ℕ} 0 1 = cc in omega arith
 
-  goes-by : (b : Bool) (x y : Why) → (x ≡ waited c i → ⊥) → pick b x y ≡ waited c i → (b ≡ false) × (y ≡ waited c i)
+  goes-by : (b : Bool) (x y : Why) → (x ≡ waited w i → ⊥) → pick b x y ≡ waited w i → (b ≡ false) × (y ≡ waited w i)
   goes-by true x y f e = absurd (f e)
   goes-by false x y f e = (refl, e)
 
-  accepted : (y : FileAnswer) (x : Why) → whyRead y x ≡ waited c i → (y ≡ Accepted) × (x ≡ waited c i)
+  accepted : (y : FileAnswer) (x : Why) → whyRead y x ≡ waited w i → (y ≡ Accepted) × (x ≡ waited w i)
   accepted Accepted x e = (refl, e)
   accepted (Refused r n) x e = absurd (not-refused _ n e)
   accepted Broken x e = absurd (not-denied 11 e)
@@ -67,29 +68,30 @@ module _ (c i : ℕ) where
       go true = inl refl
       go false = inr refl
 
-  pub why-is-true : (t : Tree) (s : List ℕ) (a k : ℕ) (d : List ℕ) → whyOf t s a k (length d) ≡ waited c i → WhyIsTrue t s a k d c i
+  pub why-is-true : (t : Tree) (c : Channel) (s : List ℕ) (a k : ℕ) (d : List ℕ) → whyOf t c s a k (length d) ≡ waited w i
+      → WhyIsTrue t c s a k d w i
   unfolding whyOf whyFrom whyBuffer bufferFrom ranOf
-  why-is-true t s a k d e =
+  why-is-true t c s a k d e =
       let rs = requests (lines s) in
-      let m = usedBy t rs 65536 in
+      let m = usedBy t c rs 65536 in
       let tree = goes-by (not (treeKeeps t)) _ _ (not-denied 11) e in
       let size = goes-by (ltb 65536 (length d)) _ _ (not-refused 2 0) (tree .1) in
       let read = accepted (readTrace t s) _ (size .1) in
       let known = goes-by (leb (t .accs) a) _ _ (not-denied 7) (read .1) in
-      let enough = goes-by (fewer t rs a k) _ _ (not-denied 12) (known .1) in
+      let enough = goes-by (fewer t c rs a k) _ _ (not-denied 12) (known .1) in
       let few = neither (eqb k 0) _ (enough .0) in
       let z : 0 < k = omega (arith, eqb-false k 0 (few .0)) in
-      let R = ran 65536 t (start t rs) in
-      let W : Waited t (freshState t) (eventsOfRun t s m) a k i (entries t a (listOf t rs a k)) =
-      subst (λ j. Waited t (freshState t) (eventsOfRun t s m) a k j (entries t a (listOf t rs a k))) (ap slot-of (enough .1))
-      (waits.waited t (not-false _ (tree .0)) rs a (leb-false _ _ (known .0)) k m z (omega (arith, R .slots)) (ltb-false _ _ (few .1))) in
-      let size-is = entries-length t a (listOf t rs a k) ∙ ap (λ n. n * 2) (ap count-of (enough .1)) in
+      let R = ran 65536 t (start t c rs) in
+      let W : Waited t (freshState t c) (eventsOfRun t c s m) a k i (entries t a (listOf t c rs a k)) =
+      subst (λ j. Waited t (freshState t c) (eventsOfRun t c s m) a k j (entries t a (listOf t c rs a k))) (ap slot-of (enough .1))
+      (waits.waited t (not-false _ (tree .0)) c rs a (leb-false _ _ (known .0)) k m z (omega (arith, R .slots)) (ltb-false _ _ (few .1))) in
+      let size-is = entries-length t a (listOf t c rs a k) ∙ ap (λ n. n * 2) (ap count-of (enough .1)) in
       record {
         used = m;
-        ran = subst (λ x. Reports x m) (sym (passed _ (run.broken 11) _ (tree .0) ∙ passed _ (run.refusedAt 2 0) _ (le-ltb 65536 65536 (omega arith)) ∙ ap (λ y. answered y (runFor t rs 65536)) (read .0))) (reports (runFor t rs 65536));
-        list = entries t a (listOf t rs a k);
+        ran = subst (λ x. Reports x m) (sym (passed _ (run.broken 11) _ (tree .0) ∙ passed _ (run.refusedAt 2 0) _ (le-ltb 65536 65536 (omega arith)) ∙ ap (λ y. answered y (runFor t c rs 65536)) (read .0))) (reports (runFor t c rs 65536));
+        list = entries t a (listOf t c rs a k);
         waits = W;
         count = size-is;
         slots = omega (arith, W .unrefused, ap length (W .list), entries-length t a (bytesIn (W .mid)), size-is);
-        buffer = passed _ _ _ (tree .0) ∙ passed _ _ _ (size .0) ∙ ap (λ y. bufferRead y (bufferFrom t rs a k d) d) (read .0) ∙ passed _ _ _ (known .0) ∙ passed _ _ _ (enough .0);
+        buffer = passed _ _ _ (tree .0) ∙ passed _ _ _ (size .0) ∙ ap (λ y. bufferRead y (bufferFrom t c rs a k d) d) (read .0) ∙ passed _ _ _ (known .0) ∙ passed _ _ _ (enough .0);
       }

@@ -1,26 +1,28 @@
 -- A run as a list of calls (document 01, "What contracts have to carry", e: "A run that is not refused is such a list from the
--- fresh state, the bytes it writes the slots' answers, 255 for idle").
+-- fresh state, the bytes it writes the slots' answers, 255 for idle"), on one channel (document 02, item 5).
 --
 -- offersHeld k t o a    the offers that accelerator a makes from o on, at most k of them, a refused one included
 -- offersAll t o a       those with all that accelerator a holds
 -- offersEach n t o      the offers of the accelerators below n, in rising number
 -- slotCalls t r         the calls of one slot: the offers, then the slot
 -- callsBefore n t r     the calls of the first n slots of the run from r
--- traceStart t s        where the run of trace s starts
--- callsOf t s n         the calls of the first n slots of the run of trace s
--- eventsOfRun t s n     those calls with their answers
+-- traceStart t c s      where the run of trace s on channel c starts
+-- callsOf t c s n       the calls of the first n slots of the run of trace s on channel c
+-- eventsOfRun t c s n   those calls with their answers
 -- byteIn c x            the byte of a slot's answer; none for an offer
 -- bytesIn es            the answers of the slots among the events es, as bytes
 -- admissionsBy a es     the admissions of accelerator a among the events es
 -- askedBefore a m rs    what the lines of rs that are due before slot m ask for accelerator a
 -- Reports e m           the ending e "reports done or stopped, and the number of slots used", m
--- RunIsCalls t s d m    what is proved of a run of trace s over the buffer d that reports m slots
+-- RunIsCalls t c s d m  what is proved of a run of trace s on channel c over the buffer d that reports m slots
 use Prim.Native.Nat.{ℕ, zero, suc, _+_, _≤_, _<_}
 use mathlib.Core.List.{List, [], _∷_, _++_}
 use mathlib.Core.Path.{_≡_}
 use mathlib.Core.Logic.{_⊎_}
 use lib.ListN.{length, take}
 use Rattle.model.specs.declared.Tree.{Tree}
+use Rattle.model.specs.declared.Channel.{Channel}
+use Rattle.model.specs.Tree.{jobOf}
 use Rattle.text.specs.Text.{lines}
 use Rattle.trace.specs.declared.Request.{Request}
 use Rattle.trace.specs.TraceFile.{requests, totalFor}
@@ -28,7 +30,7 @@ use Rattle.machine.specs.Machine.{Answer, freshState, offered, onAdmitted}
 use Rattle.machine.specs.Calls.{Call, offer, slot, stateAfter}
 use Rattle.guarantee.specs.Guarantee.{Event, eventsOf, slotsIn, admitsOne, Guarantee}
 use Rattle.runner.specs.Offers.{Offering, heldOf, release, offering, offerEach}
-use Rattle.runner.specs.Run.{Run, withDue, byteOf, start, Ending, done, stopped, bufferAfter}
+use Rattle.runner.specs.Run.{Run, withDue, byteOf, start, Ending, done, stopped, ranOf, bufferAfter}
 use Rattle.runner.specs.Slots.{standing, dueBefore}
 
 unfoldable pub offersHeld : ℕ → Tree → Offering → ℕ → List Call
@@ -53,11 +55,11 @@ unfoldable pub callsBefore : ℕ → Tree → Run → List Call
 callsBefore zero t r = []
 callsBefore (suc n) t r = callsBefore n t r ++ slotCalls t (standing n t r)
 
-abbrev pub traceStart : Tree → List ℕ → Run
-traceStart t s = start t (requests (lines s))
+abbrev pub traceStart : Tree → Channel → List ℕ → Run
+traceStart t c s = start t c (requests (lines s))
 
-abbrev pub callsOf : Tree → List ℕ → ℕ → List Call
-callsOf t s n = callsBefore n t (traceStart t s)
+abbrev pub callsOf : Tree → Channel → List ℕ → ℕ → List Call
+callsOf t c s n = callsBefore n t (traceStart t c s)
 
 abbrev pub byteIn : Call → Answer → List ℕ
 byteIn (offer a) x = []
@@ -71,8 +73,8 @@ unfoldable pub admissionsBy : ℕ → List Event → ℕ
 admissionsBy a [] = 0
 admissionsBy a (e ∷ es) = admitsOne a (e .answer) (e .call) + admissionsBy a es
 
-abbrev pub eventsOfRun : Tree → List ℕ → ℕ → List Event
-eventsOfRun t s n = eventsOf t (freshState t) (callsOf t s n)
+abbrev pub eventsOfRun : Tree → Channel → List ℕ → ℕ → List Event
+eventsOfRun t c s n = eventsOf t (freshState t c) (callsOf t c s n)
 
 abbrev pub askedBefore : ℕ → ℕ → List Request → ℕ
 askedBefore a m rs = totalFor a (dueBefore m rs)
@@ -80,17 +82,24 @@ askedBefore a m rs = totalFor a (dueBefore m rs)
 abbrev pub Reports : Ending → ℕ → Type 0
 Reports e m = (e ≡ done m) ⊎ (e ≡ stopped m)
 
-pub record RunIsCalls (t : Tree) (s d : List ℕ) (m : ℕ) : Type 0 where
+pub record RunIsCalls (t : Tree) (c : Channel) (s d : List ℕ) (m : ℕ) : Type 0 where
   -- demand 3 holds of the run's calls, "from the fresh state"
-  pub demand : Guarantee t (freshState t) (callsOf t s m)
+  pub demand : Guarantee t (freshState t c) (callsOf t c s m)
   -- "the bytes it writes the slots' answers, 255 for idle"
-  pub bytes : bytesIn (eventsOfRun t s m) ≡ take m (bufferAfter t s d)
+  pub bytes : bytesIn (eventsOfRun t c s m) ≡ take m (bufferAfter t c s d)
   -- each slot used is one that is not refused, and there are at most as many as the buffer has bytes
-  pub slots : slotsIn (eventsOfRun t s m) ≡ m
+  pub slots : slotsIn (eventsOfRun t c s m) ≡ m
   pub room : m ≤ length d
   -- the calls leave the state in which the run stands after its slots
-  pub state : stateAfter t (freshState t) (callsOf t s m) ≡ standing m t (traceStart t s) .state
+  pub state : stateAfter t (freshState t c) (callsOf t c s m) ≡ standing m t (traceStart t c s) .state
   -- what an accelerator still holds and what was admitted of it is what its lines due have asked
   pub asked : (a : ℕ) → a < t .accs
-      → heldOf (standing m t (traceStart t s) .held) a + admissionsBy a (eventsOfRun t s m)
+      → heldOf (standing m t (traceStart t c s) .held) a + admissionsBy a (eventsOfRun t c s m)
       ≡ askedBefore a m (requests (lines s))
+  -- "In a run its held requests stay held": of an accelerator whose job has 0 transactions on the channel nothing is admitted, and what
+  -- its lines due have asked is held
+  pub stays-held : (a : ℕ) → a < t .accs → jobOf t c a ≡ 0
+      → (admissionsBy a (eventsOfRun t c s m) ≡ 0)
+      × (heldOf (standing m t (traceStart t c s) .held) a ≡ askedBefore a m (requests (lines s)))
+  -- "so that run is stopped", whatever the trace asks of it
+  pub stopped-then : (a : ℕ) → a < t .accs → jobOf t c a ≡ 0 → 0 < totalFor a (requests (lines s)) → ranOf t c s (length d) ≡ stopped m

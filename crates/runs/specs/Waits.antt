@@ -3,7 +3,8 @@
 -- servedOne a x, servesOne a x c   1 if the call c is a slot that answers accelerator a
 -- servicesOf a es       the services of accelerator a among the events es
 -- InTime t s a front mid   a transaction of accelerator a, admitted after the events front and served after the events mid that
---                       follow, keeps demand 3, with k the own ones before it: it waits fewer slots than (k + 1) times the share, and
+--                       follow, keeps demand 3, with k the own ones before it: it waits fewer slots than (k + 1) times its share on
+--                       the channel of the starting state s, and
 --                       at most (k + 1) times (share less 1) of others are served meanwhile
 -- Waited t s es a k n l the k-th service of accelerator a among the events es is that of a transaction admitted in slot n, and l is
 --                       the list of the slots in which it waited
@@ -14,6 +15,7 @@ use lib.Dec.{eqb}
 use lib.ListN.{length}
 use Rattle.model.specs.declared.Tree.{Tree}
 use Rattle.model.specs.declared.State.{State}
+use Rattle.model.specs.declared.Channel.{Channel}
 use Rattle.folds.specs.Fold.{pick}
 use Rattle.machine.specs.Machine.{Answer, admitted, served, idle, refused, freshState}
 use Rattle.machine.specs.Calls.{Call, offer, slot}
@@ -41,8 +43,8 @@ servicesOf a (e ∷ es) = servesOne a (e .answer) (e .call) + servicesOf a es
 pub record InTime (t : Tree) (s : State) (a : ℕ) (front mid : List Event) : Type 0 where
   -- the own ones before it are those that are served meanwhile
   pub own : length (queueAfter s a front) ≡ servicesOf a mid
-  pub slots : slotsIn mid < suc (servicesOf a mid) * shareOf t a
-  pub others : othersIn a mid ≤ suc (servicesOf a mid) * (shareOf t a - 1)
+  pub slots : slotsIn mid < suc (servicesOf a mid) * shareOf t (s .channel) a
+  pub others : othersIn a mid ≤ suc (servicesOf a mid) * (shareOf t (s .channel) a - 1)
 
 pub record Waited (t : Tree) (s : State) (es : List Event) (a k n : ℕ) (l : List ℕ) : Type 0 where
   pub front : List Event
@@ -68,13 +70,13 @@ pub record Waited (t : Tree) (s : State) (es : List Event) (a k n : ℕ) (l : Li
   -- "the right meeting point": that of a slot is the deepest interconnect that both paths cross
   pub meets : (x y : List Event) (b : ℕ) → mid ≡ x ++ event slot (served b) ∷ y → Deepest t a b (meetOf t a b .interconnect)
 
--- what `why` answers is so: of the run over a buffer of 65,536 bytes, which uses `used` slots, the list in the buffer is that of the
--- transaction's wait, c slots long, from slot i on
-pub record WhyIsTrue (t : Tree) (s : List ℕ) (a k : ℕ) (d : List ℕ) (c i : ℕ) : Type 0 where
+-- what `why` answers is so: of the run on channel c over a buffer of 65,536 bytes, which uses `used` slots, the list in the buffer is
+-- that of the transaction's wait, n slots long, from slot i on
+pub record WhyIsTrue (t : Tree) (c : Channel) (s : List ℕ) (a k : ℕ) (d : List ℕ) (n i : ℕ) : Type 0 where
   pub used : ℕ
-  pub ran : Reports (ranOf t s 65536) used
+  pub ran : Reports (ranOf t c s 65536) used
   pub list : List ℕ
-  pub waits : Waited t (freshState t) (eventsOfRun t s used) a k i list
-  pub count : length list ≡ c * 2
-  pub slots : slotsIn (waits .mid) ≡ c
-  pub buffer : whyBuffer t s a k d ≡ listOver list d
+  pub waits : Waited t (freshState t c) (eventsOfRun t c s used) a k i list
+  pub count : length list ≡ n * 2
+  pub slots : slotsIn (waits .mid) ≡ n
+  pub buffer : whyBuffer t c s a k d ≡ listOver list d

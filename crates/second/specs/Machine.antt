@@ -10,6 +10,7 @@
 -- lastPortOf d i       the last port of interconnect i
 -- leftOf d i           the allowance of interconnect i
 -- slotOf d             the slot count
+-- channelOf d          the channel: 0 reads, 1 writes
 use Prim.Native.Nat.{ℕ, zero, suc, _+_, _-_, _*_, _%_, _^_, min}
 use mathlib.Core.Bool.{Bool, false, _||_}
 use mathlib.Core.List.{List}
@@ -43,3 +44,6 @@ leftOf d i = numberAt d 2192 i
 
 abbrev pub slotOf : List ℕ → ℕ
 slotOf d = numberAt d 2208 0
+
+abbrev pub channelOf : List ℕ → ℕ
+channelOf d = numberAt d 2210 0

@@ -1,6 +1,7 @@
 // The second reader of a tree. The tree is its lines: row r of the store holds the numbers of the file's line r + 1, eleven
 // to a row. Whatever a tree says is looked up by going through the rows.
 use crate::ORDER_FIRST;
+use crate::OTHER_CHANNEL;
 use crate::Said;
 use crate::scan::ACC;
 use crate::scan::BUS;
@@ -34,6 +35,11 @@ const ROW_OF: usize = 560;
 
 // 1 if the configuration breaks its rules.
 const BROKEN: usize = 531;
+
+// The channels.
+pub const READ: usize = 0;
+
+pub const WRITE: usize = 1;
 
 // What a port carries: an accelerator's number, 32 + an interconnect's number, or nothing.
 pub const NOTHING: usize = 255;
@@ -74,6 +80,27 @@ pub fn acc_row(d: &[usize; 16384], a: usize) -> usize
     ensures { λ r. ⌜ r ≡ accRow (now (d .entry)) a ⌝ }
 {
     get(d, ROW_OF, a % 32)
+}
+
+// How many transactions the job of accelerator a has on a channel.
+fn job(d: &[usize; 16384], a: usize, channel: usize) -> usize {
+    let row = acc_row(d, a);
+    if channel == READ {
+        return cell(d, row, 5);
+    }
+    cell(d, row, 6)
+}
+
+pub fn other(channel: usize) -> usize {
+    if channel == READ { WRITE } else { READ }
+}
+
+// Has the job of accelerator a no transactions on a channel? A wrong rule looks at the other one.
+pub fn is_jobless(d: &[usize; 16384], a: usize, channel: usize, wrong: usize) -> bool {
+    if wrong == OTHER_CHANNEL {
+        return job(d, a, other(channel)) == 0;
+    }
+    job(d, a, channel) == 0
 }
 
 // The return delay, in slots.

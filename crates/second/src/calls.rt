@@ -1,6 +1,9 @@
 // The calls of the second machine one by one: an offer, a slot, and the rules of a state that come before both. A state may
 // be altered, so that some break a rule.
 use crate::BUDGET_FIRST;
+use crate::JOB_FIRST;
+use crate::JOB_LAST;
+use crate::JOBLESS_KEPT;
 use crate::LAST_FIRST;
 use crate::NO_WRONG_RULE;
 use crate::UNKNOWN_FIRST;
@@ -11,6 +14,7 @@ use crate::book::int_row;
 use crate::book::ints;
 use crate::book::is_broken;
 use crate::home::outstanding;
+use crate::home::returning;
 use crate::home::returns_keep;
 use crate::queues::ADMITTED;
 use crate::queues::ALLOWANCE;
@@ -21,10 +25,12 @@ use crate::queues::SLOT;
 use crate::queues::USED;
 use crate::queues::advance;
 use crate::queues::clear_state;
+use crate::queues::is_idle;
 use crate::queues::one_slot;
 use crate::queues::place_in_queue;
 use crate::queues::push;
 use crate::queues::queued;
+use crate::queues::set_channel;
 use crate::queues::start;
 use crate::queues::waits;
 use store::get;
@@ -39,8 +45,10 @@ pub const WAITS: usize = 0;
 pub const SPENT: usize = 1;
 // for each interconnect its last port,
 pub const PORT: usize = 2;
-// and its allowance.
+// and its allowance;
 pub const LEFT: usize = 3;
+// and the channel.
+pub const CHANNEL: usize = 4;
 
 // The slot count of the last slot there is.
 const LAST_SLOT: usize = 4294967295;
@@ -93,7 +101,7 @@ fn queue_up(d: &mut [usize; 16384], a: usize, n: usize) {
     put(d, ADMITTED, a, std::num::wrapping_add_usize(first, n));
 }
 
-// Sets entry i of a part of the state to n.
+// Sets entry i of a part of the state to n; the channel is one entry.
 pub fn alter(d: &mut [usize; 16384], which: usize, i: usize, n: usize) {
     if which == WAITS {
         queue_up(d, i % 32, n);
@@ -107,7 +115,19 @@ pub fn alter(d: &mut [usize; 16384], which: usize, i: usize, n: usize) {
         put(d, LAST, i % 15, n);
         return;
     }
+    if which == CHANNEL {
+        set_channel(d, n);
+        return;
+    }
     put(d, ALLOWANCE, i % 15, n);
+}
+
+// Has accelerator a nothing outstanding, if it has no job on the channel of the state? A wrong rule asks only what returns.
+fn rests(d: &[usize; 16384], a: usize, wrong: usize) -> bool {
+    if !is_idle(d, a, wrong) {
+        return true;
+    }
+    (returning(d, a) == 0) & ((queued(d, a) == 0) | (wrong == JOBLESS_KEPT))
 }
 
 // Does accelerator a keep to its limits? One that the tree does not have has nothing.
@@ -118,7 +138,8 @@ fn acc_keeps(d: &[usize; 16384], a: usize, wrong: usize) -> bool {
         return (all == 0) & (spent == 0);
     }
     let row = acc_row(d, a);
-    (all <= cell(d, row, 3)) & (spent <= cell(d, row, 4)) & returns_keep(d, a, wrong)
+    let within = (all <= cell(d, row, 3)) & (spent <= cell(d, row, 4));
+    within & rests(d, a, wrong) & returns_keep(d, a, wrong)
 }
 
 // Is the turn of interconnect i one that it can have?
@@ -143,7 +164,8 @@ fn state_keeps(d: &[usize; 16384], wrong: usize) -> bool {
     keeps
 }
 
-// Is the configuration, or the state, against its rules? A wrong rule keeps a state with a return due now.
+// Is the configuration, or the state, against its rules? A wrong rule keeps a state with a return due now, or one in which transactions of
+// an accelerator without a job wait.
 pub fn rules_broken(d: &[usize; 16384], wrong: usize) -> bool {
     if is_broken(d) {
         return true;
@@ -151,17 +173,17 @@ pub fn rules_broken(d: &[usize; 16384], wrong: usize) -> bool {
     !state_keeps(d, wrong)
 }
 
-// The start: 0, or 11 and the state is all 0.
-pub fn start_one(d: &mut [usize; 16384]) -> usize {
+// The start on a channel: 0, or 11 and the state of it is all 0.
+pub fn start_one(d: &mut [usize; 16384], channel: usize) -> usize {
     if is_broken(d) {
-        clear_state(d);
+        clear_state(d, channel);
         return 11;
     }
-    start(d);
+    start(d, channel);
     0
 }
 
-// What an offer of a known accelerator answers on a state that keeps its rules. A wrong rule tests 9 before 8.
+// What an offer of an accelerator that has a job answers on a state that keeps its rules. A wrong rule tests 9 before 8.
 fn limits_answer(d: &[usize; 16384], a: usize, wrong: usize) -> usize {
     let row = acc_row(d, a);
     let full = cell(d, row, 3) <= outstanding(d, a, wrong);
@@ -172,7 +194,15 @@ fn limits_answer(d: &[usize; 16384], a: usize, wrong: usize) -> usize {
     if full { 8 } else { 0 }
 }
 
-// What an offer of accelerator a answers: 0 if it is admitted, or a number. A wrong rule tests 7 before 11.
+// What an offer of a known accelerator answers on such a state. A wrong rule tests 14 after 8.
+fn known_answer(d: &[usize; 16384], a: usize, wrong: usize) -> usize {
+    if !is_idle(d, a, wrong) {
+        return limits_answer(d, a, wrong);
+    }
+    if wrong == JOB_LAST { 8 } else { 14 }
+}
+
+// What an offer of accelerator a answers: 0 if it is admitted, or a number. A wrong rule tests 7 before 11, or 14 before 7.
 pub fn offer_answer(d: &[usize; 16384], a: usize, wrong: usize) -> usize {
     let unknown = accs(d) <= a;
     if unknown & (wrong == UNKNOWN_FIRST) {
@@ -181,10 +211,13 @@ pub fn offer_answer(d: &[usize; 16384], a: usize, wrong: usize) -> usize {
     if rules_broken(d, wrong) {
         return 11;
     }
+    if unknown & (wrong == JOB_FIRST) {
+        return 14;
+    }
     if unknown {
         return 7;
     }
-    limits_answer(d, a, wrong)
+    known_answer(d, a, wrong)
 }
 
 // The offer of one transaction.

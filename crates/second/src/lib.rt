@@ -1,4 +1,4 @@
-// A second implementation of document 01's readers, machine, runner and bounds, and of document 02's items 1, 2 and 4, written
+// A second implementation of document 01's readers, machine, runner and bounds, and of document 02's items 1, 2, 4 and 5, written
 // separately from the library and its definitions: it shares no code with them.
 //
 // Test code: it is proved that each function is safe and ends. Those that a comparison with the library reads its entries by have
@@ -79,8 +79,22 @@ pub const ZERO_WRITTEN: usize = 29;
 pub const LONG_FIRST: usize = 30;
 // or 13 tested before 11,
 pub const SHORT_FIRST: usize = 31;
-// and a text written as far as the buffer goes, and then refused by 13.
+// and a text written as far as the buffer goes, and then refused by 13;
 pub const WRITTEN_SHORT: usize = 32;
+// phi of every accelerator counted on both channels,
+pub const BOTH_COUNT: usize = 33;
+// 14 tested after 8, as if none might be outstanding,
+pub const JOB_LAST: usize = 34;
+// or before 7, since what the tree has not has no job,
+pub const JOB_FIRST: usize = 35;
+// a state kept in which transactions of an accelerator without a job wait,
+pub const JOBLESS_KEPT: usize = 36;
+// the job looked at on the other channel,
+pub const OTHER_CHANNEL: usize = 37;
+// a run that admits from an accelerator without a job,
+pub const JOBLESS_ADMITTED: usize = 38;
+// and one that is done though such an accelerator holds requests.
+pub const DONE_HOLDING: usize = 39;
 
 // An answer on a file: 0 where it is accepted, or the number of a refusal; and the line.
 pub struct Said {

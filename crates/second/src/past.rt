@@ -40,10 +40,10 @@ fn admitted_in(x: usize) -> usize {
     x / 256
 }
 
-// Runs the lines of the log over as many slots as the past has places, and keeps each slot; how many are used.
-pub fn keep_run(d: &mut [usize; 16384], past: &mut [usize]) -> usize {
+// Runs the lines of the log on a channel over as many slots as the past has places, and keeps each slot; how many are used.
+pub fn keep_run(d: &mut [usize; 16384], channel: usize, past: &mut [usize]) -> usize {
     let lines = lines(d);
-    start(d);
+    start(d, channel);
     let mut used = 0;
     while used < past.len() {
         if nothing_left(d, lines, NO_WRONG_RULE) {

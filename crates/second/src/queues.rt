@@ -1,10 +1,13 @@
 // The second machine and runner. Each accelerator has a queue of tickets; what waits under a port is counted by walking
 // up from each accelerator that has a ticket in its queue, and the next port is sought one by one.
 use crate::DONE_AT_HOME;
+use crate::DONE_HOLDING;
 use crate::FROM_ZERO;
 use crate::GROWING;
 use crate::HOME_AT_WINDOW;
+use crate::JOBLESS_ADMITTED;
 use crate::LOWER_RESET;
+use crate::NO_WRONG_RULE;
 use crate::SIZE_FIRST;
 use crate::Said;
 use crate::TRACE_FIRST;
@@ -15,6 +18,7 @@ use crate::book::cell;
 use crate::book::int_row;
 use crate::book::ints;
 use crate::book::is_broken;
+use crate::book::is_jobless;
 use crate::home::all_returning;
 use crate::home::forget_returns;
 use crate::home::outstanding;
@@ -31,7 +35,7 @@ use store::get;
 use store::least;
 use store::put;
 ghost use mathlib.Core.Path.{_≡_};
-ghost use Rattle.second.specs.Machine.{queuedOf};
+ghost use Rattle.second.specs.Machine.{queuedOf, channelOf};
 
 // For each accelerator how many transactions were requested since the start,
 const REQUESTED: usize = 2048;
@@ -54,8 +58,11 @@ pub(crate) const ALLOWANCE: usize = 2192;
 // The slot,
 pub(crate) const SLOT: usize = 2208;
 
-// and the next line of the log.
+// the next line of the log,
 const NEXT: usize = 2209;
+
+// and the channel.
+const CHANNEL: usize = 2210;
 
 // The queues, sixteen places to each accelerator: a ring of tickets, each the number of its transaction,
 pub(crate) const QUEUE: usize = 2560;
@@ -69,6 +76,22 @@ pub struct Ended {
     pub line: usize,
     pub done: bool,
     pub slots: usize,
+}
+
+// The channel that the state is of.
+pub fn channel(d: &[usize; 16384]) -> usize
+    ensures { λ r. ⌜ r ≡ channelOf (now (d .entry)) ⌝ }
+{
+    get(d, CHANNEL, 0)
+}
+
+pub fn set_channel(d: &mut [usize; 16384], channel: usize) {
+    put(d, CHANNEL, 0, channel);
+}
+
+// Has accelerator a no transactions on the channel of the state?
+pub(crate) fn is_idle(d: &[usize; 16384], a: usize, wrong: usize) -> bool {
+    is_jobless(d, a, channel(d), wrong)
 }
 
 // How many tickets are in the queue of accelerator a.
@@ -210,12 +233,27 @@ fn all_queued(d: &[usize; 16384]) -> usize {
     sum
 }
 
-fn all_held(d: &[usize; 16384]) -> usize {
+// Is what accelerator a holds left to do? A wrong rule leaves out what those without a job hold.
+fn is_left(d: &[usize; 16384], a: usize, wrong: usize) -> bool {
+    if wrong == DONE_HOLDING {
+        return !is_idle(d, a, wrong);
+    }
+    true
+}
+
+fn all_held(d: &[usize; 16384], wrong: usize) -> usize {
     let mut sum = 0;
     for a in 0..32 {
-        sum = std::num::wrapping_add_usize(sum, held(d, a));
+        if is_left(d, a, wrong) {
+            sum = std::num::wrapping_add_usize(sum, held(d, a));
+        }
     }
     sum
+}
+
+// Is a request held of an accelerator without a job on the channel? It stays held.
+pub fn is_stuck(d: &[usize; 16384]) -> bool {
+    all_held(d, NO_WRONG_RULE) != all_held(d, DONE_HOLDING)
 }
 
 // The lines whose slot has come are requested.
@@ -240,8 +278,12 @@ fn may_offer(d: &[usize; 16384], a: usize, wrong: usize) -> bool {
     room & (held(d, a) != 0)
 }
 
-// Accelerator a offers until it holds none, phi of it are outstanding or its budget is used.
+// Accelerator a offers until it holds none, phi of it are outstanding or its budget is used; without a job, all stay held. A wrong rule
+// does not ask for the job.
 fn offer(d: &mut [usize; 16384], a: usize, wrong: usize) {
+    if is_idle(d, a, wrong) & (wrong != JOBLESS_ADMITTED) {
+        return;
+    }
     for _ in 0..16usize {
         if may_offer(d, a, wrong) {
             push(d, a);
@@ -303,17 +345,18 @@ pub(crate) fn nothing_left(d: &[usize; 16384], lines: usize, wrong: usize) -> bo
     if (wrong == DONE_AT_HOME) & (all_returning(d) != 0) {
         return false;
     }
-    (lines <= get(d, NEXT, 0)) & (all_held(d) == 0) & (all_queued(d) == 0)
+    (lines <= get(d, NEXT, 0)) & (all_held(d, wrong) == 0) & (all_queued(d) == 0)
 }
 
-// Nothing is requested, admitted or served, and all else of the state is 0.
-pub(crate) fn clear_state(d: &mut [usize; 16384]) {
+// Nothing is requested, admitted or served on this channel, and all else of the state is 0.
+pub(crate) fn clear_state(d: &mut [usize; 16384], channel: usize) {
     clear(d, REQUESTED, 1024);
+    set_channel(d, channel);
 }
 
-// The last port of each interconnect is 7, and all else of the state is 0.
-pub fn start(d: &mut [usize; 16384]) {
-    clear_state(d);
+// The state of a channel in which the last port of each interconnect is 7, and all else is 0.
+pub fn start(d: &mut [usize; 16384], channel: usize) {
+    clear_state(d, channel);
     for i in 0..15 {
         if i < ints(d) {
             put(d, LAST, i, 7);
@@ -339,10 +382,10 @@ pub fn refused(number: usize, line: usize) -> Ended {
     }
 }
 
-// Runs the lines of the log on the tree in the rows.
-fn run_log(d: &mut [usize; 16384], out: &mut [u8], wrong: usize) -> Ended {
+// Runs the lines of the log on a channel of the tree in the rows.
+fn run_log(d: &mut [usize; 16384], channel: usize, out: &mut [u8], wrong: usize) -> Ended {
     let lines = get(d, LINES, 0);
-    start(d);
+    start(d, channel);
     let mut used = 0;
     while used < out.len() {
         if nothing_left(d, lines, wrong) {
@@ -378,11 +421,17 @@ pub fn run_refusal(trace: Said, d: &[usize; 16384], n: usize, wrong: usize) -> S
     trace
 }
 
-// Runs the trace that the log has, unless it is refused.
-pub fn run_trace(trace: Said, d: &mut [usize; 16384], out: &mut [u8], wrong: usize) -> Ended {
+// Runs the trace that the log has on a channel, unless it is refused.
+pub fn run_trace(
+    trace: Said,
+    d: &mut [usize; 16384],
+    channel: usize,
+    out: &mut [u8],
+    wrong: usize,
+) -> Ended {
     let r = run_refusal(trace, d, out.len(), wrong);
     if r.number != 0 {
         return refused(r.number, r.line);
     }
-    run_log(d, out, wrong)
+    run_log(d, channel, out, wrong)
 }

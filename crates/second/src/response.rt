@@ -1,22 +1,28 @@
-// The second bounds: the capacity of a port is the sum over the accelerators whose way up enters by it.
+// The second bounds: the capacity of a port on a channel is the sum over the accelerators whose way up enters by it and whose job has
+// transactions there.
+use crate::BOTH_COUNT;
 use crate::NESTED;
 use crate::OWN_PORT;
 use crate::UNKNOWN_FIRST;
 use crate::book::NOTHING;
+use crate::book::READ;
+use crate::book::WRITE;
 use crate::book::acc_row;
 use crate::book::accs;
 use crate::book::carried;
 use crate::book::cell;
 use crate::book::int_row;
 use crate::book::is_broken;
+use crate::book::is_jobless;
 use crate::book::level;
 use crate::queues::passes;
 use store::least;
 
-// The figures of an accelerator.
+// The figures of an accelerator: of the shares and the transactions of others that of reads first.
 pub struct Row {
     pub level: usize,
-    pub share: usize,
+    pub sr: usize,
+    pub sw: usize,
     pub reads: usize,
     pub writes: usize,
     pub response: usize,
@@ -43,70 +49,84 @@ fn times(x: usize, y: usize) -> usize {
     product
 }
 
-fn capacity(d: &[usize; 16384], i: usize, p: usize) -> usize {
+// What accelerator a counts on a channel: phi, or nothing without a job there. A wrong rule counts phi on both.
+fn weight(d: &[usize; 16384], a: usize, channel: usize, wrong: usize) -> usize {
+    if is_jobless(d, a, channel, wrong) & (wrong != BOTH_COUNT) {
+        return 0;
+    }
+    cell(d, acc_row(d, a), 3)
+}
+
+fn capacity(d: &[usize; 16384], i: usize, p: usize, channel: usize, wrong: usize) -> usize {
     let mut found = 0;
     for a in 0..32 {
         if a < accs(d) {
             if passes(d, a, i, p) {
-                found = sum(found, cell(d, acc_row(d, a), 3));
+                found = sum(found, weight(d, a, channel, wrong));
             }
         }
     }
     found
 }
 
-// The sum over the ports of interconnect i, but `own`, of the smaller of g and the capacity.
-fn others(d: &[usize; 16384], i: usize, own: usize) -> usize {
+// The sum over the ports of interconnect i, but `own`, of the smaller of g and the capacity on a channel.
+fn others(d: &[usize; 16384], i: usize, own: usize, channel: usize, wrong: usize) -> usize {
     let grain = cell(d, int_row(i), 3);
     let mut found = 0;
     for p in 0..8 {
         if p != own {
-            found = sum(found, least(grain, capacity(d, i, p)));
+            found = sum(found, least(grain, capacity(d, i, p, channel, wrong)));
         }
     }
     found
 }
 
 // A wrong rule: the capacity of a port that carries an interconnect is taken through that one's own granularity.
-fn nested_capacity(d: &[usize; 16384], i: usize, p: usize) -> usize {
+fn nested_capacity(d: &[usize; 16384], i: usize, p: usize, channel: usize) -> usize {
     let below = carried(d, i, p);
     if (31 < below) & (below != NOTHING) {
-        return others(d, std::num::wrapping_sub_usize(below, 32), 8);
+        return others(
+            d,
+            std::num::wrapping_sub_usize(below, 32),
+            8,
+            channel,
+            NESTED,
+        );
     }
-    capacity(d, i, p)
+    capacity(d, i, p, channel, NESTED)
 }
 
-fn nested_others(d: &[usize; 16384], i: usize, own: usize) -> usize {
+fn nested_others(d: &[usize; 16384], i: usize, own: usize, channel: usize) -> usize {
     let grain = cell(d, int_row(i), 3);
     let mut found = 0;
     for p in 0..8 {
         if p != own {
-            found = sum(found, least(grain, nested_capacity(d, i, p)));
+            found = sum(found, least(grain, nested_capacity(d, i, p, channel)));
         }
     }
     found
 }
 
-// D at interconnect i, entered by port p.
-fn rivals(d: &[usize; 16384], i: usize, p: usize, wrong: usize) -> usize {
+// D at interconnect i, entered by port p, on a channel.
+fn rivals(d: &[usize; 16384], i: usize, p: usize, channel: usize, wrong: usize) -> usize {
     if wrong == NESTED {
-        return nested_others(d, i, p);
+        return nested_others(d, i, p, channel);
     }
     if wrong == OWN_PORT {
-        return others(d, i, 8);
+        return others(d, i, 8, channel, wrong);
     }
-    others(d, i, p)
+    others(d, i, p, channel, wrong)
 }
 
 // The product of 1 + D on the way from accelerator a up to the root.
-fn share(d: &[usize; 16384], a: usize, wrong: usize) -> usize {
+fn share(d: &[usize; 16384], a: usize, channel: usize, wrong: usize) -> usize {
     let mut row = acc_row(d, a);
     let mut product = 1;
     let mut over = false;
     for _ in 0..4usize {
         if !over {
             let i = cell(d, row, 1);
-            let rival = rivals(d, i, cell(d, row, 2), wrong);
+            let rival = rivals(d, i, cell(d, row, 2), channel, wrong);
             product = times(product, sum(rival, 1));
             over = i == 0;
             row = int_row(i);
@@ -160,7 +180,8 @@ pub fn bound_refusal(d: &[usize; 16384], a: usize, wrong: usize) -> usize {
 pub fn no_figures() -> Row {
     Row {
         level: 0,
-        share: 0,
+        sr: 0,
+        sw: 0,
         reads: 0,
         writes: 0,
         response: 0,
@@ -173,11 +194,12 @@ pub fn no_figures() -> Row {
 pub fn figures(d: &[usize; 16384], a: usize, wrong: usize) -> Row {
     let row = acc_row(d, a);
     let levels = level(d, cell(d, row, 1));
-    let product = share(d, a, wrong);
+    let sr = share(d, a, READ, wrong);
+    let sw = share(d, a, WRITE, wrong);
     let reads = cell(d, row, 5);
     let writes = cell(d, row, 6);
-    let others_read = times(reads, std::num::wrapping_sub_usize(product, 1));
-    let others_write = times(writes, std::num::wrapping_sub_usize(product, 1));
+    let others_read = times(reads, std::num::wrapping_sub_usize(sr, 1));
+    let others_write = times(writes, std::num::wrapping_sub_usize(sw, 1));
     let alone = sum(
         times(reads, read_alone(d, levels)),
         times(writes, write_alone(d, levels)),
@@ -190,7 +212,8 @@ pub fn figures(d: &[usize; 16384], a: usize, wrong: usize) -> Row {
     let period = cell(d, row, 8);
     Row {
         level: levels,
-        share: product,
+        sr: sr,
+        sw: sw,
         reads: others_read,
         writes: others_write,
         response: response,

@@ -1,4 +1,4 @@
-// The second report: the text of document 01 for the tree in the rows, from the second bounds.
+// The second report: the text of document 01, with document 02's two shares, for the tree in the rows, from the second bounds.
 use crate::NO_WRONG_RULE;
 use crate::book::accs;
 use crate::response::Row;
@@ -50,7 +50,8 @@ fn verdict(page: &mut [u8; 65536], at: usize, meets: bool) -> usize {
 fn line(page: &mut [u8; 65536], at: usize, a: usize, r: Row) -> usize {
     let mut next = column(page, at, a);
     next = column(page, next, r.level);
-    next = column(page, next, r.share);
+    next = column(page, next, r.sr);
+    next = column(page, next, r.sw);
     next = column(page, next, r.reads);
     next = column(page, next, r.writes);
     next = column(page, next, r.response);
@@ -63,7 +64,7 @@ pub fn write_report(d: &[usize; 16384], page: &mut [u8; 65536]) -> usize {
     let mut next = word(
         page,
         0,
-        b"acc\tlevel\tshare\tyr\tyw\tresp\tperiod\tverdict\n",
+        b"acc\tlevel\tsr\tsw\tyr\tyw\tresp\tperiod\tverdict\n",
     );
     let mut all = true;
     for a in 0..32 {

@@ -12,6 +12,7 @@ use lib.Dec.{eqb, lit<, lit≤}
 use lib.ListN.{length}
 use borrow.Author.Tests.{eq-eqb, ne-eqb}
 use Rattle.model.specs.declared.Tree.{Tree}
+use Rattle.model.specs.declared.Channel.{Channel}
 use Rattle.folds.specs.Fold.{pick, sum}
 use Rattle.model.specs.Tree.{Crossing, granularityOf, limitOf, homeOf, homePortOf, parentOf, parentPortOf, above, path}
 use Rattle.rules.specs.Rules.{treeKeeps}
@@ -92,11 +93,11 @@ module _ (t : Tree) (φ : ℕ → ℕ) (S : Sound t) where
       (pow-le-pow-right (lit< tt) (S .level (homeOf t a) (S .home a l)))
 
 module _ (t : Tree) (S : Sound t) where
-  pub share-within : (a : ℕ) → a < t .accs → shareWithin 3 t a ≡ shareOf t a
-  share-within a l =
+  pub share-within : (c : Channel) (a : ℕ) → a < t .accs → shareWithin 3 t c a ≡ shareOf t c a
+  share-within c a l =
       let k : length (above 15 t (homeOf t a)) ≤ 3 = omega (arith, S .level (homeOf t a) (S .home a l)) in
-      ap (λ xs. shareAlong t (limitOf t) (record { interconnect = homeOf t a; port = homePortOf t a } ∷ xs)) (above-enough t 3 15 (homeOf t a) (lit≤ tt) k)
+      ap (λ xs. shareAlong t (limitOf t c) (record { interconnect = homeOf t a; port = homePortOf t a } ∷ xs)) (above-enough t 3 15 (homeOf t a) (lit≤ tt) k)
 
 -- "No share exceeds 163,047,361 (113 to the fourth power)", and none is below 1
-pub share-bounds : (t : Tree) → treeKeeps t ≡ true → (a : ℕ) → a < t .accs → (1 ≤ shareOf t a) × (shareOf t a ≤ 163047361)
-share-bounds t e a l = (share-least t (limitOf t) (path t a), share-most t (limitOf t) (sound t e) a l)
+pub share-bounds : (t : Tree) → treeKeeps t ≡ true → (c : Channel) (a : ℕ) → a < t .accs → (1 ≤ shareOf t c a) × (shareOf t c a ≤ 163047361)
+share-bounds t e c a l = (share-least t (limitOf t c) (path t a), share-most t (limitOf t c) (sound t e) a l)

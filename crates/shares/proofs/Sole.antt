@@ -1,4 +1,4 @@
--- The share is 1 exactly if the tree has no other accelerator. The root is on every path, so the path of another
+-- The share on a channel is 1 exactly if no other accelerator of the tree has a job there. The root is on every path, so the path of another
 -- accelerator leaves this one's at some interconnect, by another port, which counts there; and only accelerators make a
 -- port count.
 use Prim.Native.Nat.{ℕ, zero, suc, _+_, _*_, _≤_, _<_}
@@ -10,12 +10,13 @@ use native.Mathlib.Decide.{decLt, ℕ-discrete}
 use native.Mathlib.Nat.{le-trans, le-mul-of-pos-right, mul-le-mul-right}
 use native.Mathlib.Omega.{arith}
 use Rattle.model.specs.declared.Tree.{Tree}
+use Rattle.model.specs.declared.Channel.{Channel}
 use Rattle.model.specs.declared.Port.{Port}
-use Rattle.model.specs.Tree.{Crossing, portOf, parentOf, parentPortOf, homeOf, homePortOf, limitOf, path}
+use Rattle.model.specs.Tree.{Crossing, portOf, parentOf, parentPortOf, homeOf, homePortOf, jobOf, limitOf, path}
 use Rattle.model.specs.Beneath.{under, inside, weightUnder}
 use Rattle.rules.specs.Rules.{treeKeeps}
 use Rattle.folds.proofs.Folds.{sum-zero, term-le}
-use Rattle.rules.proofs.Sound.{Sound, sound, above-step}
+use Rattle.rules.proofs.Sound.{Sound, sound, limit-none, limit-phi, above-step}
 use Rattle.rules.proofs.Beneath.{only, only-same, only-other, some-port, On, here, there, lane, at-port, path-bounds, path-unique, path-root, path-holds, beneath-on, beneath-once}
 use Rattle.shares.specs.Shares.{capacityOf, counted, othersAt, shareAlong, shareOf}
 use Rattle.shares.proofs.Shares.{counted-own, counted-other, share-least}
@@ -125,7 +126,15 @@ pub sole-within : (t : Tree) → treeKeeps t ≡ true → (φ : ℕ → ℕ) (a 
 sole-within t e φ a la =
     (alone-if t (sound t e) φ a la, λ h. along-one t φ (path t a) (none-counts t (sound t e) φ a la h))
 
-pub sole : (t : Tree) → treeKeeps t ≡ true → (a : ℕ) → a < t .accs → (shareOf t a ≡ 1) ↔ ((b : ℕ) → b < t .accs → b ≡ a)
-sole t e a la =
-    let w = sole-within t e (limitOf t) a la in
-    (λ h b lb. w .0 h b lb (sound t e .limit b lb .0), λ h. w .1 (λ b lb _. h b lb))
+-- on a channel: exactly if no other accelerator has a job there
+pub sole : (t : Tree) → treeKeeps t ≡ true → (c : Channel) (a : ℕ) → a < t .accs
+    → (shareOf t c a ≡ 1) ↔ ((b : ℕ) → b < t .accs → 0 < jobOf t c b → b ≡ a)
+sole t e c a la =
+    let w = sole-within t e (limitOf t c) a la in
+    (λ h b lb j. w .0 h b lb (some b lb j), λ h. w .1 (λ b lb l. h b lb (job b l)))
+  where
+    some : (b : ℕ) → b < t .accs → 0 < jobOf t c b → 0 < limitOf t c b
+    some b lb j = omega (arith, limit-phi t c b (λ z. omega arith), sound t e .phi b lb)
+
+    job : (b : ℕ) → 0 < limitOf t c b → 0 < jobOf t c b
+    job b l = elim (ℕ-discrete (jobOf t c b) 0) [ yes z ↦ absurd (omega (arith, limit-none t c b z)) | no d ↦ omega arith ]

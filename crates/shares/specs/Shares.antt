@@ -1,5 +1,6 @@
--- Capacity, D and share of document 01, "Bounds", sentence by sentence. φ a is how many transactions of accelerator a may
--- be outstanding.
+-- Capacity, D and share of document 01, "Bounds", sentence by sentence; "Capacity, D and share are thus given for each channel"
+-- (document 02, item 5). φ a is how many transactions of accelerator a may be outstanding: on channel c it is `limitOf t c a`, which is 0
+-- where "a job has 0 transactions".
 --
 -- capacityOf t φ j p         the capacity of port p of interconnect j: "0 if empty, phi for an accelerator, for an
 --                            interconnect the sum over everything beneath it, down to the accelerators"
@@ -7,13 +8,14 @@
 --                            else "the smaller of g and the capacity"
 -- othersAt t φ j p           "D at an interconnect on an accelerator's path is the sum, over its other ports, .."
 -- shareAlong t φ xs          "the product of (1 + D) along" the crossings xs
--- shareOf t a                "The share is the product of (1 + D) along the path", with the configuration's phi
--- shareWithin n t a          the same product along the first crossing of the path and at most n above it: with n = 3 the
+-- shareOf t c a              on channel c: "The share is the product of (1 + D) along the path"
+-- shareWithin n t c a        the same product along the first crossing of the path and at most n above it: with n = 3 the
 --                            share, if the configuration keeps its rules (`share-within`), and 64 bits hold it on any other
 use Prim.Native.Nat.{ℕ, _+_, _*_, min}
 use mathlib.Core.List.{List, [], _∷_}
 use lib.Dec.{eqb}
 use Rattle.model.specs.declared.Tree.{Tree}
+use Rattle.model.specs.declared.Channel.{Channel}
 use Rattle.folds.specs.Fold.{pick, sum}
 use Rattle.model.specs.Tree.{Crossing, granularityOf, limitOf, homeOf, homePortOf, above, path}
 use Rattle.model.specs.Beneath.{weightUnder}
@@ -31,9 +33,9 @@ unfoldable pub shareAlong : Tree → (ℕ → ℕ) → List Crossing → ℕ
 shareAlong t φ [] = 1
 shareAlong t φ (x ∷ xs) = (1 + othersAt t φ (x .interconnect) (x .port)) * shareAlong t φ xs
 
-abbrev pub shareOf : Tree → ℕ → ℕ
-shareOf t a = shareAlong t (limitOf t) (path t a)
+abbrev pub shareOf : Tree → Channel → ℕ → ℕ
+shareOf t c a = shareAlong t (limitOf t c) (path t a)
 
-abbrev pub shareWithin : ℕ → Tree → ℕ → ℕ
-shareWithin n t a =
-    shareAlong t (limitOf t) (record { interconnect = homeOf t a; port = homePortOf t a } ∷ above n t (homeOf t a))
+abbrev pub shareWithin : ℕ → Tree → Channel → ℕ → ℕ
+shareWithin n t c a =
+    shareAlong t (limitOf t c) (record { interconnect = homeOf t a; port = homePortOf t a } ∷ above n t (homeOf t a))

@@ -1,9 +1,11 @@
-// D and share of document 01. Each function answers on any configuration whatever: what is walked is bounded by the number
-// of levels, and not by the tables. A port's capacity is what is beneath it by the outstanding limits
+// D and share of document 01, for each channel. Each function answers on any configuration whatever: what is walked is bounded by the number
+// of levels, and not by the tables. A port's capacity is what is beneath it by the outstanding limits of the channel
 // (model::access::weight_under).
+use model::Channel;
 use model::Tree;
 use model::access::accelerator_at;
 use model::access::interconnect_at;
+use model::access::limit_of;
 use model::access::weight_under;
 use rules::smaller;
 ghost use mathlib.Core.Path.{_≡_};
@@ -12,15 +14,14 @@ ghost use Rattle.model.specs.Tree.{limitOf, above};
 ghost use Rattle.model.specs.Beneath.{weightIn};
 ghost use Rattle.shares.specs.Shares.{counted, othersAt, shareAlong, shareWithin};
 
-// How many transactions of each accelerator may be outstanding.
-fn limits(t: Tree) -> [u8; 32]
-    ensures { λ r. ⌜ weightIn r ≡ limitOf t ⌝ }
+// How many transactions of each accelerator may be outstanding on a channel.
+fn limits(t: Tree, channel: Channel) -> [u8; 32]
+    ensures { λ r. ⌜ weightIn r ≡ limitOf t channel ⌝ }
 {
     let mut table = [0u8; 32];
     let mut i: usize = 0;
     while i < 32 {
-        let x = t.accelerators[i];
-        table[i] = x.phi;
+        table[i] = limit_of(t, channel, i as u8);
         i += 1;
     }
     table
@@ -72,12 +73,12 @@ fn share_above(t: Tree, limits: [u8; 32], n: u8, j: u8) -> u64
     factor_at(t, limits, x.parent, x.port) * share_above(t, limits, n - 1, x.parent)
 }
 
-// The share of accelerator a, over its own crossing and at most three above it: no more lie there where the configuration
+// The share of accelerator a on a channel, over its own crossing and at most three above it: no more lie there where the configuration
 // keeps its rules.
-pub fn share_of(t: Tree, a: u8) -> u64
-    ensures { λ r. ⌜ r ≡ shareWithin 3 t a ⌝ }
+pub fn share_of(t: Tree, channel: Channel, a: u8) -> u64
+    ensures { λ r. ⌜ r ≡ shareWithin 3 t channel a ⌝ }
 {
-    let phi = limits(t);
+    let most = limits(t, channel);
     let x = accelerator_at(t, a);
-    factor_at(t, phi, x.interconnect, x.port) * share_above(t, phi, 3, x.interconnect)
+    factor_at(t, most, x.interconnect, x.port) * share_above(t, most, 3, x.interconnect)
 }

@@ -1,10 +1,13 @@
-// simulate TREE TRACE [SLOTS]: runs the trace on the tree and writes a line for each slot used, and a last line that says
-// whether the run is done or stopped. A refusal is one line on standard output and one line in words on standard error.
+// simulate CHANNEL TREE TRACE [SLOTS]: runs the trace, of reads or of writes, on the tree and writes a line for each slot used, and a
+// last line that says whether the run is done or stopped. A refusal is one line on standard output and one line in words on standard
+// error.
 use answers::Outcome;
+use answers::channel_number;
 use input::Input;
 use input::file_bytes;
 use input::page_text;
 use libc::STDERR_FILENO;
+use model::Channel;
 use reasons::explain;
 use simulation::Asked;
 use simulation::Part;
@@ -62,22 +65,43 @@ fn explain_outcome(
 }
 
 // Runs over the buffer, of a byte for each slot asked.
-fn run_over(served: &mut [u8], tree_name: &[u8], tree: &[u8], trace_name: &[u8], trace: &[u8]) {
-    let o = razhikum::razhikum_run(tree, trace, served);
+fn run_over(
+    served: &mut [u8],
+    channel: Channel,
+    tree_name: &[u8],
+    tree: &[u8],
+    trace_name: &[u8],
+    trace: &[u8],
+) {
+    let o = razhikum::razhikum_run(tree, channel_number(channel), trace, served);
     show(o, served);
     explain_outcome(o, served.len(), tree_name, tree, trace_name, trace);
 }
 
 // One slot more than a run may have shows that more were asked.
-fn run_slots(slots: usize, tree_name: &[u8], tree: &[u8], trace_name: &[u8], trace: &[u8]) {
+fn run_slots(
+    channel: Channel,
+    slots: usize,
+    tree_name: &[u8],
+    tree: &[u8],
+    trace_name: &[u8],
+    trace: &[u8],
+) {
     let mut served = [0u8; 65537];
     if slots <= 65537 {
-        run_over(&mut served[..slots], tree_name, tree, trace_name, trace);
+        run_over(
+            &mut served[..slots],
+            channel,
+            tree_name,
+            tree,
+            trace_name,
+            trace,
+        );
     }
 }
 
 // One byte more than a file may have shows a longer one.
-fn run_files(slots: usize, tree_name: &[u8], trace_name: &[u8]) {
+fn run_files(channel: Channel, slots: usize, tree_name: &[u8], trace_name: &[u8]) {
     let mut tree = [0u8; 65537];
     let mut trace = [0u8; 65537];
     let read = input::load(tree_name, &mut tree);
@@ -89,6 +113,7 @@ fn run_files(slots: usize, tree_name: &[u8], trace_name: &[u8]) {
         return;
     };
     run_slots(
+        channel,
         slots,
         tree_name,
         file_bytes(&tree, n),
@@ -97,20 +122,28 @@ fn run_files(slots: usize, tree_name: &[u8], trace_name: &[u8]) {
     );
 }
 
-// What the first three words ask.
+// What the first four words ask.
 fn main() {
     let mut first = [0u8; 131072];
     let mut second = [0u8; 131072];
     let mut third = [0u8; 131072];
-    let n = input::word(1, &mut first);
-    let m = input::word(2, &mut second);
-    let k = input::word(3, &mut third);
-    let tree_name = &first[0..n];
-    let trace_name = &second[0..m];
-    let asked = simulation::simulate_asked(input::words(), tree_name, trace_name, &third[0..k]);
+    let mut fourth = [0u8; 131072];
+    let k = input::word(1, &mut first);
+    let n = input::word(2, &mut second);
+    let m = input::word(3, &mut third);
+    let j = input::word(4, &mut fourth);
+    let tree_name = &second[0..n];
+    let trace_name = &third[0..m];
+    let asked = simulation::simulate_asked(
+        input::words(),
+        &first[0..k],
+        tree_name,
+        trace_name,
+        &fourth[0..j],
+    );
     match asked {
         Asked::Usage => say_usage(),
         Asked::Help => say_help(),
-        Asked::Slots(slots) => run_files(slots, tree_name, trace_name),
+        Asked::Run(channel, slots) => run_files(channel, slots, tree_name, trace_name),
     }
 }

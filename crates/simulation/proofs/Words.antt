@@ -1,51 +1,63 @@
 -- The words of `simulate`: the tests are those of the definition.
 use Prim.Native.Nat.{ℕ}
-use mathlib.Core.Bool.{Bool, true, false, _&&_}
+use mathlib.Core.Bool.{Bool, true, false, _&&_, _||_}
 use mathlib.Core.List.{List}
-use mathlib.Core.Path.{_≡_, ap, sym, _∙_}
-use lib.Dec.{leb, eqb}
+use mathlib.Core.Path.{_≡_, ap, ap₂, sym, _∙_}
+use lib.Dec.{leb}
 use borrow.Author.Tests.{eq-eqb, ne-eqb}
-use Rattle.folds.specs.Fold.{pick, within}
+use Rattle.folds.specs.Fold.{within}
 use Rattle.folds.proofs.Folds.{picked, passed}
-use Rattle.usage.specs.Usage.{helpAsked, twoFiles}
+use Rattle.model.specs.declared.Channel.{Channel}
+use Rattle.usage.specs.declared.ChannelWord.{ChannelWord}
+use Rattle.usage.specs.declared.ChannelWord.the-variants.{NoChannel, Known}
 use Rattle.usage.specs.declared.NumberWord.{NumberWord}
 use Rattle.usage.specs.declared.NumberWord.the-variants.{NoNumber, Number}
-use Rattle.usage.specs.Usage.{plainNumber, numberAsked}
+use Rattle.usage.specs.Usage.{asksHelp, helpAsked, twoFiles, channelAsked, plainNumber, numberAsked}
 use Rattle.usage.proofs.Numbers.{numberIn, said-plain, said-number}
 use Rattle.simulation.specs.declared.Asked.{Asked}
-use Rattle.simulation.specs.declared.Asked.the-variants.{Usage, Help, Slots}
-use Rattle.simulation.specs.Simulation.{slotsAsked, simulateAsked}
+use Rattle.simulation.specs.declared.Asked.the-variants.{Usage, Help, Run}
+use Rattle.simulation.specs.Simulation.{slotsAsked, runAsked, simulateAsked}
 
 -- the word SLOTS, as it was read
-module _ (w : List ℕ) (x : NumberWord) (e : x ≡ numberAsked w 65537) where
-  pub slots-none : x ≡ NoNumber → Usage ≡ slotsAsked w
+module _ (h : Channel) (w : List ℕ) (x : NumberWord) (e : x ≡ numberAsked w 65537) where
+  pub slots-none : x ≡ NoNumber → Usage ≡ slotsAsked h w
   unfolding slotsAsked
   slots-none n = sym (passed _ _ _ (said-plain w 65537 NoNumber (sym n ∙ e)))
 
-  pub slots-said : (k : ℕ) → x ≡ Number k → Slots k ≡ slotsAsked w
+  pub slots-said : (k : ℕ) → x ≡ Number k → Run h k ≡ slotsAsked h w
   unfolding slotsAsked
   slots-said k n =
       let p : plainNumber w ≡ true = said-plain w 65537 (Number k) (sym n ∙ e) in
-      ap Slots (said-number w 65537 (Number k) (sym n ∙ e) p) ∙ sym (picked _ _ _ p)
+      ap (Run h) (said-number w 65537 (Number k) (sym n ∙ e) p) ∙ sym (picked _ _ _ p)
+
+-- the words CHANNEL and SLOTS, the one as it was read
+module _ (n : ℕ) (k c : List ℕ) (y : ChannelWord) (e : y ≡ channelAsked k) where
+  as-read : (z : ChannelWord) → y ≡ z → runAsked n (channelAsked k) c ≡ runAsked n z c
+  as-read z f = ap (λ (w : ChannelWord). runAsked n w c) (sym e ∙ f)
+
+  pub by-no-channel : y ≡ NoChannel → Usage ≡ runAsked n (channelAsked k) c
+  by-no-channel f = sym (as-read NoChannel f)
+
+  module _ (h : Channel) (f : y ≡ Known h) where
+    pub by-default : n ≡ 3 → Run h 65536 ≡ runAsked n (channelAsked k) c
+    by-default g = sym (as-read (Known h) f ∙ picked _ _ _ (eq-eqb _ _ g))
+
+    pub by-slots : (n ≡ 3 → ⊥) → {x : Asked} → x ≡ slotsAsked h c → x ≡ runAsked n (channelAsked k) c
+    by-slots g w = w ∙ sym (as-read (Known h) f ∙ passed _ _ _ (ne-eqb _ _ g))
 
 -- what `simulate` does, test by test in the definition's order
-module _ (n : ℕ) (a b c : List ℕ) where
-  pub by-help : {h : Bool} → h ≡ helpAsked a b c → h ≡ true → Help ≡ simulateAsked n a b c
+module _ (n : ℕ) (k a b c : List ℕ) {h j : Bool} (p : h ≡ helpAsked k a b) (q : j ≡ asksHelp c) where
+  pub by-help : h || j ≡ true → Help ≡ simulateAsked n k a b c
   unfolding simulateAsked
-  by-help p e = sym (picked _ _ _ (sym p ∙ e))
+  by-help e = sym (picked _ _ _ (sym (ap₂ _||_ p q) ∙ e))
 
-  module _ {h f : Bool} (p : h ≡ helpAsked a b c) (e : h ≡ false) (q : f ≡ twoFiles a b) where
-    pub by-words : (leb 2 n && leb n 3) && f ≡ false → Usage ≡ simulateAsked n a b c
+  module _ (e : h || j ≡ false) {f : Bool} (r : f ≡ twoFiles a b) where
+    pub by-words : (leb 3 n && leb n 4) && f ≡ false → Usage ≡ simulateAsked n k a b c
     unfolding simulateAsked
-    by-words g = sym (passed _ _ _ (sym p ∙ e) ∙ passed _ _ _ (ap (λ (x : Bool). within 2 n 3 && x) (sym q) ∙ g))
+    by-words g =
+        sym (passed _ _ _ (sym (ap₂ _||_ p q) ∙ e) ∙ passed _ _ _ (ap (λ (x : Bool). within 3 n 4 && x) (sym r) ∙ g))
 
-    module _ (g : (leb 2 n && leb n 3) && f ≡ true) where
-      abbrev here : simulateAsked n a b c ≡ pick (eqb n 2) (Slots 65536) (slotsAsked c)
-      unfolding simulateAsked
-      here = passed _ _ _ (sym p ∙ e) ∙ picked _ _ _ (ap (λ (x : Bool). within 2 n 3 && x) (sym q) ∙ g)
-
-      pub by-default : n ≡ 2 → Slots 65536 ≡ simulateAsked n a b c
-      by-default k = sym (here ∙ picked _ _ _ (eq-eqb _ _ k))
-
-      pub by-slots : (n ≡ 2 → ⊥) → {x : Asked} → x ≡ slotsAsked c → x ≡ simulateAsked n a b c
-      by-slots k w = w ∙ sym (here ∙ passed _ _ _ (ne-eqb _ _ k))
+    pub by-run : (leb 3 n && leb n 4) && f ≡ true → {x : Asked} → x ≡ runAsked n (channelAsked k) c → x ≡ simulateAsked n k a b c
+    unfolding simulateAsked
+    by-run g w =
+        w ∙ sym (passed _ _ _ (sym (ap₂ _||_ p q) ∙ e) ∙ picked _ _ _ (ap (λ (x : Bool). within 3 n 4 && x) (sym r) ∙ g))

@@ -3,7 +3,11 @@
 use answers::Outcome;
 use journal::pages;
 use listing::refusal_text;
+use model::Channel;
+use usage::ChannelWord;
 use usage::NumberWord;
+use usage::asks_help;
+use usage::channel_asked;
 use usage::help_asked;
 use usage::number_asked;
 use usage::two_files;
@@ -11,13 +15,15 @@ ghost use mathlib.Core.Path.{_≡_};
 ghost use Prim.Native.Nat.{_≤_};
 ghost use lib.ListN.{length, take};
 ghost use Rattle.put.specs.Page.{Written};
-ghost use Rattle.simulation.specs.Simulation.{slotsAsked, simulateAsked, refusedPart, pageCount, simulationPage};
+ghost use Rattle.usage.specs.Usage.{channelAsked};
+ghost use Rattle.simulation.specs.Simulation.{slotsAsked, runAsked, simulateAsked, refusedPart, pageCount, simulationPage};
 
-// What `simulate` does by its words: it runs so many slots, 65,537 for every number above 65,536, or says its usage or its help.
+// What `simulate` does by its words: it runs so many slots of a channel, 65,537 for every number above 65,536, or says its usage or
+// its help.
 pub enum Asked {
     Usage,
     Help,
-    Slots(usize),
+    Run(Channel, usize),
 }
 
 // What a refusal is of: the tree, the word SLOTS or the trace; or nothing is refused.
@@ -28,29 +34,46 @@ pub enum Part {
     Trace,
 }
 
-// How many slots the word SLOTS asks for; usage where it is no number.
-pub fn slots_asked(word: &[u8]) -> Asked
-    ensures { λ r. ⌜ r ≡ slotsAsked (now (word .entry)) ⌝ }
+// The run of a channel over as many slots as the word SLOTS asks for; usage where it is no number.
+pub fn slots_asked(channel: Channel, word: &[u8]) -> Asked
+    ensures { λ r. ⌜ r ≡ slotsAsked channel (now (word .entry)) ⌝ }
 {
     let said = number_asked(word, 65537);
     match said {
         NumberWord::NoNumber => Asked::Usage,
-        NumberWord::Number(n) => Asked::Slots(n as usize),
+        NumberWord::Number(n) => Asked::Run(channel, n as usize),
     }
 }
 
-// What `simulate` does, started with `count` words, of which these are the first three.
-pub fn simulate_asked(count: usize, tree: &[u8], trace: &[u8], slots: &[u8]) -> Asked
-    ensures { λ r. ⌜ r ≡ simulateAsked count (now (tree .entry)) (now (trace .entry)) (now (slots .entry)) ⌝ }
+// The run that the words CHANNEL and SLOTS ask for, of `count` words; usage where the one is no channel, the other no number.
+fn run_asked(count: usize, channel: &[u8], slots: &[u8]) -> Asked
+    ensures { λ r. ⌜ r ≡ runAsked count (channelAsked (now (channel .entry))) (now (slots .entry)) ⌝ }
 {
-    if help_asked(tree, trace, slots) {
+    let said = channel_asked(channel);
+    let ChannelWord::Known(c) = said else {
+        return Asked::Usage;
+    };
+    if count == 3 {
+        return Asked::Run(c, 65536);
+    }
+    slots_asked(c, slots)
+}
+
+// What `simulate` does, started with `count` words, of which these are the first four.
+pub fn simulate_asked(
+    count: usize,
+    channel: &[u8],
+    tree: &[u8],
+    trace: &[u8],
+    slots: &[u8],
+) -> Asked
+    ensures { λ r. ⌜ r ≡ simulateAsked count (now (channel .entry)) (now (tree .entry)) (now (trace .entry)) (now (slots .entry)) ⌝ }
+{
+    if help_asked(channel, tree, trace) | asks_help(slots) {
         return Asked::Help;
     }
-    if (2 <= count) & (count <= 3) & two_files(tree, trace) {
-        if count == 2 {
-            return Asked::Slots(65536);
-        }
-        return slots_asked(slots);
+    if (3 <= count) & (count <= 4) & two_files(tree, trace) {
+        return run_asked(count, channel, slots);
     }
     Asked::Usage
 }

@@ -1,9 +1,11 @@
 // A program that writes every text the programs print: help and usage, the report, the rewriting and refusals of tree files,
-// simulations of refused, done and stopped runs by the word SLOTS, and refusals in words; what the programs do by their words; and
-// which files can be read. The file `stdout` holds them, written apart from the definitions.
+// simulations of refused, done and stopped runs of both channels by the word SLOTS, and refusals in words; what the programs do by
+// their words; and which files can be read. The file `stdout` holds them, written apart from the definitions.
+use answers::channel_number;
 use input::Input;
 use inquiry::Reply;
 use libc::STDOUT_FILENO;
+use model::Channel;
 use plan::Printed;
 use simulation::Asked;
 use simulation::Part;
@@ -96,21 +98,32 @@ fn report_does(words: &[u8], terminal: bool) {
     }
 }
 
+fn say_channel(channel: Channel) {
+    match channel {
+        Channel::Read => say_line(b"reads"),
+        Channel::Write => say_line(b"writes"),
+    }
+}
+
 // What `simulate` does, started with these words.
 fn simulate_does(words: &[u8]) {
     let second = after(words);
     let third = after(second);
+    let fourth = after(third);
     let asked = simulation::simulate_asked(
         word_count(words),
         word(words),
         word(second),
         word(third),
+        word(fourth),
     );
     match asked {
         Asked::Usage => say_line(b"simulate: usage\n"),
         Asked::Help => say_line(b"simulate: help\n"),
-        Asked::Slots(k) => {
-            say_line(b"simulate: slots ");
+        Asked::Run(channel, k) => {
+            say_line(b"simulate: ");
+            say_channel(channel);
+            say_line(b", slots ");
             io::print_decimal(STDOUT_FILENO, k as u64);
             say_line(b"\n");
         }
@@ -122,18 +135,22 @@ fn why_does(words: &[u8]) {
     let second = after(words);
     let third = after(second);
     let fourth = after(third);
+    let fifth = after(fourth);
     let asked = inquiry::why_asked(
         word_count(words),
         word(words),
         word(second),
         word(third),
         word(fourth),
+        word(fifth),
     );
     match asked {
         inquiry::Asked::Usage => say_line(b"why: usage\n"),
         inquiry::Asked::Help => say_line(b"why: help\n"),
-        inquiry::Asked::Wait(a, k) => {
-            say_line(b"why: accelerator ");
+        inquiry::Asked::Wait(channel, a, k) => {
+            say_line(b"why: ");
+            say_channel(channel);
+            say_line(b", accelerator ");
             io::print_decimal(STDOUT_FILENO, a as u64);
             say_line(b", number ");
             io::print_decimal(STDOUT_FILENO, k as u64);
@@ -196,26 +213,62 @@ fn simulate_lines() {
         b"simulate;\n\
         simulate;--help;\n\
         simulate;-h;\n\
-        simulate;a.tree;\n\
-        simulate;a.tree;a.trace;\n\
-        simulate;-;a.trace;\n\
-        simulate;a.tree;-;\n\
-        simulate;-;-;\n\
-        simulate;-x;a.trace;\n\
-        simulate;a.tree;--slots;\n\
-        simulate;a.tree;--help;\n\
-        simulate;a.tree;a.trace;1;2;\n\
-        simulate;a.tree;a.trace;0;\n\
+        simulate;read;\n\
+        simulate;read;a.tree;\n\
+        simulate;read;a.tree;a.trace;\n\
+        simulate;write;a.tree;a.trace;\n\
+        simulate;read;-;a.trace;\n\
+        simulate;write;a.tree;-;\n\
+        simulate;read;-;-;\n\
+        simulate;read;-x;a.trace;\n\
+        simulate;read;a.tree;--slots;\n\
+        simulate;read;a.tree;--help;\n\
+        simulate;read;a.tree;a.trace;1;2;\n\
+        simulate;read;a.tree;a.trace;1;-h;\n\
+        simulate;read;a.tree;a.trace;0;\n\
+        simulate;write;a.tree;a.trace;1;\n\
+        simulate;read;a.tree;-;65536;\n\
+        simulate;read;a.tree;a.trace;65537;\n\
+        simulate;write;a.tree;a.trace;99999999999999999999;\n\
+        simulate;read;a.tree;a.trace;x;\n\
+        simulate;read;a.tree;a.trace;;\n\
+        simulate;read;a.tree;a.trace;-;\n\
+        simulate;read;a.tree;a.trace;+1;\n\
+        simulate;read;-;-;1;\n\
+        simulate;read;a.tree;a.trace;-h;\n",
+    );
+}
+
+// No word for the channel, another word, or the words in another order.
+fn channel_lines() {
+    do_lines(
+        b"simulate;a.tree;a.trace;\n\
         simulate;a.tree;a.trace;1;\n\
-        simulate;a.tree;-;65536;\n\
-        simulate;a.tree;a.trace;65537;\n\
-        simulate;a.tree;a.trace;99999999999999999999;\n\
-        simulate;a.tree;a.trace;x;\n\
-        simulate;a.tree;a.trace;;\n\
-        simulate;a.tree;a.trace;-;\n\
-        simulate;a.tree;a.trace;+1;\n\
-        simulate;-;-;1;\n\
-        simulate;a.tree;a.trace;-h;\n",
+        simulate;a.tree;a.trace;1;2;\n\
+        simulate;;a.tree;a.trace;\n\
+        simulate;-;a.tree;a.trace;\n\
+        simulate;-h;a.tree;a.trace;\n\
+        simulate;--help;a.tree;a.trace;1;\n\
+        simulate;Read;a.tree;a.trace;\n\
+        simulate;reads;a.tree;a.trace;\n\
+        simulate;rea;a.tree;a.trace;1;\n\
+        simulate;writ;a.tree;a.trace;\n\
+        simulate;WRITE;a.tree;a.trace;1;\n\
+        simulate;0;a.tree;a.trace;\n\
+        simulate;a.tree;read;a.trace;\n\
+        simulate;a.tree;a.trace;read;\n\
+        simulate;a.tree;a.trace;1;read;\n\
+        simulate;write;read;read;1;\n\
+        why;a.tree;a.trace;1;2;\n\
+        why;;a.tree;a.trace;1;2;\n\
+        why;-;a.tree;a.trace;1;2;\n\
+        why;-h;a.tree;a.trace;1;2;\n\
+        why;Write;a.tree;a.trace;1;2;\n\
+        why;writes;a.tree;a.trace;1;2;\n\
+        why;a.tree;write;a.trace;1;2;\n\
+        why;a.tree;a.trace;write;1;2;\n\
+        why;a.tree;a.trace;1;2;write;\n\
+        why;read;write;write;1;2;\n",
     );
 }
 
@@ -223,27 +276,29 @@ fn why_lines() {
     do_lines(
         b"why;\n\
         why;--help;\n\
-        why;a.tree;-h;\n\
-        why;a.tree;a.trace;--help;2;\n\
-        why;a.tree;a.trace;1;-h;\n\
-        why;a.tree;a.trace;1;\n\
-        why;a.tree;a.trace;1;2;3;\n\
-        why;a.tree;a.trace;1;2;-h;\n\
-        why;a.tree;a.trace;1;2;\n\
-        why;-;a.trace;0;0;\n\
-        why;a.tree;-;31;65536;\n\
-        why;-;-;1;2;\n\
-        why;-x;a.trace;1;2;\n\
-        why;a.tree;-x;1;2;\n\
-        why;a.tree;a.trace;x;2;\n\
-        why;a.tree;a.trace;1;2x;\n\
-        why;a.tree;a.trace;-1;2;\n\
-        why;a.tree;a.trace;1;02;\n\
-        why;a.tree;a.trace;;2;\n\
-        why;a.tree;a.trace;1;;\n\
-        why;a.tree;a.trace;255;4294967295;\n\
-        why;a.tree;a.trace;256;4294967296;\n\
-        why;a.tree;a.trace;99999999999999999999;99999999999999999999;\n",
+        why;read;-h;\n\
+        why;read;a.tree;-h;\n\
+        why;read;a.tree;a.trace;--help;2;\n\
+        why;read;a.tree;a.trace;1;-h;\n\
+        why;read;a.tree;a.trace;1;\n\
+        why;read;a.tree;a.trace;1;2;3;\n\
+        why;read;a.tree;a.trace;1;2;-h;\n\
+        why;read;a.tree;a.trace;1;2;\n\
+        why;write;a.tree;a.trace;1;2;\n\
+        why;write;-;a.trace;0;0;\n\
+        why;read;a.tree;-;31;65536;\n\
+        why;read;-;-;1;2;\n\
+        why;read;-x;a.trace;1;2;\n\
+        why;read;a.tree;-x;1;2;\n\
+        why;read;a.tree;a.trace;x;2;\n\
+        why;read;a.tree;a.trace;1;2x;\n\
+        why;read;a.tree;a.trace;-1;2;\n\
+        why;read;a.tree;a.trace;1;02;\n\
+        why;read;a.tree;a.trace;;2;\n\
+        why;read;a.tree;a.trace;1;;\n\
+        why;read;a.tree;a.trace;255;4294967295;\n\
+        why;read;a.tree;a.trace;256;4294967296;\n\
+        why;write;a.tree;a.trace;99999999999999999999;99999999999999999999;\n",
     );
 }
 
@@ -485,8 +540,8 @@ fn say_numbers() {
 }
 
 // Of a refusal also what is refused.
-fn run_over(served: &mut [u8], tree: &[u8], trace: &[u8]) {
-    let o = razhikum::razhikum_run(tree, trace, served);
+fn run_over(served: &mut [u8], channel: Channel, tree: &[u8], trace: &[u8]) {
+    let o = razhikum::razhikum_run(tree, channel_number(channel), trace, served);
     let mut page = [0u8; 65536];
     let n = simulation::page_text(o, served, 0, &mut page);
     show_page(&page, n);
@@ -499,15 +554,15 @@ fn run_over(served: &mut [u8], tree: &[u8], trace: &[u8]) {
     }
 }
 
-fn simulate(tree: &[u8], trace: &[u8], word: &[u8]) {
-    let asked = simulation::slots_asked(word);
-    let Asked::Slots(k) = asked else {
+fn simulate(channel: Channel, tree: &[u8], trace: &[u8], word: &[u8]) {
+    let asked = simulation::slots_asked(channel, word);
+    let Asked::Run(c, k) = asked else {
         say_line(b"no number\n");
         return;
     };
     let mut served = [0u8; 65537];
     if k <= 65537 {
-        run_over(&mut served[..k], tree, trace);
+        run_over(&mut served[..k], c, tree, trace);
     }
 }
 
@@ -519,9 +574,9 @@ fn show_reply(reply: Reply, list: &[u8; 65536]) {
 }
 
 // Of a refusal also what is refused.
-fn why(tree: &[u8], trace: &[u8], a: u8, k: u32) {
+fn why(channel: Channel, tree: &[u8], trace: &[u8], a: u8, k: u32) {
     let mut list = [0u8; 65536];
-    let reply = inquiry::inquire(tree, trace, a, k, &mut list);
+    let reply = inquiry::inquire(tree, channel, trace, a, k, &mut list);
     show_reply(reply, &list);
     let Reply::Refused(part, _, _) = reply else {
         return;
@@ -536,36 +591,59 @@ fn why(tree: &[u8], trace: &[u8], a: u8, k: u32) {
 
 fn why_words(tree: &[u8]) {
     let trace = b"o\t0\t0\t2\no\t0\t1\t1\n";
-    why(tree, trace, 0, 1);
-    why(tree, trace, 0, 2);
-    why(tree, trace, 1, 1);
-    why(tree, trace, 0, 3);
-    why(tree, trace, 0, 0);
-    why(tree, trace, 2, 0);
-    why(tree, trace, 255, 4294967295);
-    why(tree, b"o\t0\t2\t1\n", 2, 0);
-    why(b"x\n", b"x\n", 2, 0);
+    why(Channel::Read, tree, trace, 0, 1);
+    why(Channel::Read, tree, trace, 0, 2);
+    why(Channel::Read, tree, trace, 1, 1);
+    why(Channel::Read, tree, trace, 0, 3);
+    why(Channel::Read, tree, trace, 0, 0);
+    why(Channel::Read, tree, trace, 2, 0);
+    why(Channel::Read, tree, trace, 255, 4294967295);
+    why(Channel::Read, tree, b"o\t0\t2\t1\n", 2, 0);
+    why(Channel::Read, b"x\n", b"x\n", 2, 0);
+}
+
+// The same trace as writes: accelerator 1 has none, so that none of it is served and none waits for it.
+fn why_writes(tree: &[u8]) {
+    let trace = b"o\t0\t0\t2\no\t0\t1\t1\n";
+    why(Channel::Write, tree, trace, 0, 1);
+    why(Channel::Write, tree, trace, 0, 2);
+    why(Channel::Write, tree, trace, 1, 1);
+    why(Channel::Write, tree, trace, 2, 1);
+    why(Channel::Write, tree, b"o\t0\t2\t1\n", 0, 1);
+    why(Channel::Write, b"x\n", trace, 0, 1);
 }
 
 // A simulation by each kind of word SLOTS.
 fn simulate_words(tree: &[u8], trace: &[u8]) {
-    simulate(tree, trace, b"0");
-    simulate(tree, trace, b"1");
-    simulate(tree, trace, b"65536");
-    simulate(tree, trace, b"65537");
-    simulate(tree, trace, b"99999999999999999999999999");
-    simulate(tree, trace, b"");
-    simulate(tree, trace, b"00");
-    simulate(tree, trace, b"-1");
-    simulate(tree, trace, b"1x");
+    simulate(Channel::Read, tree, trace, b"0");
+    simulate(Channel::Read, tree, trace, b"1");
+    simulate(Channel::Read, tree, trace, b"65536");
+    simulate(Channel::Read, tree, trace, b"65537");
+    simulate(Channel::Read, tree, trace, b"99999999999999999999999999");
+    simulate(Channel::Read, tree, trace, b"");
+    simulate(Channel::Read, tree, trace, b"00");
+    simulate(Channel::Read, tree, trace, b"-1");
+    simulate(Channel::Read, tree, trace, b"1x");
+}
+
+// The same trace as writes: accelerator 1 has none, and the run is stopped with its request held. So it is where that request comes
+// first; without it the run is done.
+fn simulate_writes(tree: &[u8], trace: &[u8]) {
+    simulate(Channel::Write, tree, trace, b"0");
+    simulate(Channel::Write, tree, trace, b"1");
+    simulate(Channel::Write, tree, trace, b"4");
+    simulate(Channel::Write, tree, b"o\t0\t1\t1\no\t2\t0\t1\n", b"4");
+    simulate(Channel::Write, tree, b"o\t0\t0\t2\n", b"65536");
+    simulate(Channel::Write, tree, trace, b"65537");
+    simulate(Channel::Write, tree, trace, b"x");
 }
 
 // A refused tree, a refused trace, and then also a refused word.
 fn simulate_refused(tree: &[u8]) {
-    simulate(b"x\n", b"", b"1");
-    simulate(b"x\n", b"", b"65537");
-    simulate(tree, b"o\t0\t2\t1\n", b"1");
-    simulate(tree, b"o\t0\t2\t1\n", b"65537");
+    simulate(Channel::Read, b"x\n", b"", b"1");
+    simulate(Channel::Write, b"x\n", b"", b"65537");
+    simulate(Channel::Write, tree, b"o\t0\t2\t1\n", b"1");
+    simulate(Channel::Read, tree, b"o\t0\t2\t1\n", b"65537");
 }
 
 fn reports(tree: &[u8]) {
@@ -612,8 +690,10 @@ fn programs(tree: &[u8]) {
     reports(tree);
     rewritings();
     simulate_words(tree, b"o\t0\t0\t1\no\t1\t1\t1\n");
+    simulate_writes(tree, b"o\t0\t0\t1\no\t1\t1\t1\n");
     simulate_refused(tree);
     why_words(tree);
+    why_writes(tree);
 }
 
 fn main() {
@@ -624,6 +704,7 @@ fn main() {
     report_lines();
     simulate_lines();
     why_lines();
+    channel_lines();
     load_all();
     say_shapes();
     say_fields();

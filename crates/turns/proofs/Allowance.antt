@@ -3,6 +3,7 @@
 use mathlib.Core.List.{[], _∷_}
 use mathlib.Core.Path.{_≡_, refl}
 use Rattle.model.specs.declared.State.{State}
+use Rattle.model.specs.declared.Channel.the-variants.{Read}
 use Rattle.model.specs.Builders.{zeroState, withCounts, withTurns}
 use Rattle.model.specs.Trees.{pair}
 use Rattle.folds.specs.Fold.{sum}
@@ -10,7 +11,7 @@ use Rattle.model.specs.Beneath.{inside}
 use Rattle.turns.specs.Turns.{turnPort, turnAllowance}
 
 abbrev under-way : State
-under-way = withTurns (withCounts zeroState (3 ∷ 1 ∷ []) (4 ∷ 1 ∷ [])) (0 ∷ []) (1 ∷ [])
+under-way = withTurns (withCounts (zeroState Read) (3 ∷ 1 ∷ []) (4 ∷ 1 ∷ [])) (0 ∷ []) (1 ∷ [])
 
 pub goes-on : (turnPort (pair 2 16 4 4 8) under-way 0 ≡ 0) × (turnAllowance (pair 2 16 4 4 8) under-way 0 ≡ 1)
 unfolding turnPort turnAllowance inside sum

@@ -47,6 +47,7 @@ pub record Frame (s r : State) : Type 0 where
   pub returning : r .returning ≡ s .returning
   pub admitted : r .admitted ≡ s .admitted
   pub slot : r .slot ≡ s .slot
+  pub channel : r .channel ≡ s .channel
   pub last-size : length (r .last) ≡ length (s .last)
   pub allowance-size : length (r .allowance) ≡ length (s .allowance)
 
@@ -221,6 +222,7 @@ module _ (t : Tree) (S : Sound t) (s : State) (K : Kept t s) where
       returning = choice-same (λ x. x .returning) (λ x j p o. refl) 4 t s 0;
       admitted = choice-same (λ x. x .admitted) (λ x j p o. refl) 4 t s 0;
       slot = choice-same (λ x. x .slot) (λ x j p o. refl) 4 t s 0;
+      channel = choice-same (λ x. x .channel) (λ x j p o. refl) 4 t s 0;
       last-size = g .last-size;
       allowance-size = g .allowance-size;
     };

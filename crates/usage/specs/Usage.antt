@@ -4,6 +4,7 @@
 -- helpAsked a b c      one of a program's first three words does, wherever it stands among them; a word that is not given is empty
 -- isOption w           the word begins as an option does, and is not "-"; isDash w: it is "-", which stands for standard input
 -- twoFiles a b         the words a and b name two files: neither is an option, and standard input, "-", is one of them at most
+-- channelAsked w       the channel that the word w names: `read`, `write`, and nothing else
 -- plainNumber w        the word w is a number: digits, at least one, "no sign, no leading zero except 0 itself"
 -- numberAsked w m      the number that the word w says, m standing for every number above m
 -- fileAsked n a b c t  what a program of one file does, started with n words, of which a, b and c are the first three: help, if
@@ -19,8 +20,11 @@ use lib.ListN.{length, getD}
 use Rattle.folds.specs.Fold.{pick}
 use Rattle.text.specs.Text.{same, allDigits, decimal, leadingZero}
 use Rattle.put.specs.Page.{bytes}
+use Rattle.model.specs.declared.Channel.the-variants.{Read, Write}
 use Rattle.usage.specs.declared.Asked.{Asked}
 use Rattle.usage.specs.declared.Asked.the-variants.{Usage, Help, Input, File}
+use Rattle.usage.specs.declared.ChannelWord.{ChannelWord}
+use Rattle.usage.specs.declared.ChannelWord.the-variants.{NoChannel, Known}
 use Rattle.usage.specs.declared.NumberWord.{NumberWord}
 use Rattle.usage.specs.declared.NumberWord.the-variants.{NoNumber, Number}
 
@@ -38,6 +42,9 @@ isDash w = same w (bytes "-")
 
 abbrev pub twoFiles : List ℕ → List ℕ → Bool
 twoFiles a b = not (isOption a || isOption b) && not (isDash a && isDash b)
+
+unfoldable pub channelAsked : List ℕ → ChannelWord
+channelAsked w = pick (same w (bytes "read")) (Known Read) (pick (same w (bytes "write")) (Known Write) NoChannel)
 
 abbrev pub plainNumber : List ℕ → Bool
 plainNumber w = not (eqb (length w) 0) && not (leadingZero w) && allDigits w
@@ -59,7 +66,8 @@ abbrev pub reportHelp : List ℕ
 reportHelp =
     bytes "report [FILE]: from a tree file, whether each accelerator's job meets its period at worst.\n"
     ++ bytes "FILE is a tree file; standard input without one, or with -.\n"
-    ++ bytes "Columns: accelerator, level, share, interfering reads and writes, response and period in cycles, verdict.\n"
+    ++ bytes "Columns: accelerator, level, sr and sw (share of reads and of writes), yr and yw (interfering reads and writes),\n"
+    ++ bytes "response and period in cycles, verdict.\n"
     ++ bytes "A refused file prints \"refused\", the number of the cause and the line; standard error says it in words.\n"
     ++ bytes "example: report scanner.tree\n"
 
@@ -76,25 +84,29 @@ rewriteHelp =
     ++ bytes "example: rewrite scanner.tree\n"
 
 abbrev pub simulateUsage : List ℕ
-simulateUsage = bytes "usage: simulate TREE TRACE [SLOTS]\nexample: simulate scanner.tree scanner.trace 100\n"
+simulateUsage = bytes "usage: simulate CHANNEL TREE TRACE [SLOTS]\nexample: simulate read scanner.tree scanner.trace 100\n"
 
 abbrev pub simulateHelp : List ℕ
 simulateHelp =
-    bytes "simulate TREE TRACE [SLOTS]: runs a trace of requests on a tree, and says who is served in each slot.\n"
+    bytes "simulate CHANNEL TREE TRACE [SLOTS]: runs a trace of requests on a tree, and says who is served in each slot.\n"
+    ++ bytes "CHANNEL is read or write: reads and writes travel apart, and a trace is of one channel.\n"
     ++ bytes "TREE and TRACE are files; one of the two may be -, standard input. SLOTS is 0 to 65536, or 65536 without one.\n"
     ++ bytes "A line for each slot: its number, and the accelerator served or idle; then done or stopped, and the slots used.\n"
+    ++ bytes "Requests of an accelerator whose job has none on CHANNEL stay held, so that the run goes on to SLOTS and is stopped.\n"
     ++ bytes "A refused file prints \"refused\", the number of the cause and the line; standard error says it in words.\n"
-    ++ bytes "example: simulate scanner.tree scanner.trace 100\n"
+    ++ bytes "example: simulate read scanner.tree scanner.trace 100\n"
 
 abbrev pub whyUsage : List ℕ
-whyUsage = bytes "usage: why TREE TRACE ACC NUMBER\nexample: why scanner.tree scanner.trace 1 3\n"
+whyUsage = bytes "usage: why CHANNEL TREE TRACE ACC NUMBER\nexample: why read scanner.tree scanner.trace 1 3\n"
 
 abbrev pub whyHelp : List ℕ
 whyHelp =
-    bytes "why TREE TRACE ACC NUMBER: runs a trace of requests on a tree, and says why a transaction waited.\n"
+    bytes "why CHANNEL TREE TRACE ACC NUMBER: runs a trace of requests on a tree, and says why a transaction waited.\n"
+    ++ bytes "CHANNEL is read or write: reads and writes travel apart, and a trace is of one channel.\n"
     ++ bytes "TREE and TRACE are files; one of the two may be -, standard input. The run has 65536 slots at most.\n"
     ++ bytes "NUMBER is that of a transaction of accelerator ACC, counted from 1 in the order of service.\n"
+    ++ bytes "Requests of an accelerator whose job has none on CHANNEL stay held, and none of them is served.\n"
     ++ bytes "A line for each slot from its admission up to the one before its service, the first 32768 of them: the slot, the\n"
     ++ bytes "accelerator served, and the deepest interconnect on both paths, or own; then waited, and the count of all.\n"
     ++ bytes "A refusal prints \"refused\", the number of the cause and the line; standard error says it in words.\n"
-    ++ bytes "example: why scanner.tree scanner.trace 1 3\n"
+    ++ bytes "example: why read scanner.tree scanner.trace 1 3\n"

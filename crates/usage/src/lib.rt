@@ -1,11 +1,13 @@
 // What the programs say of themselves, each text put into a page that the caller lends; what their words say: help, files, a
-// number; and what a program of one file, `report` or `rewrite`, does by its words. `simulate` is in `simulation`, `why` in `inquiry`.
+// channel, a number; and what a program of one file, `report` or `rewrite`, does by its words. `simulate` is in `simulation`, `why` in
+// `inquiry`.
+use model::Channel;
 use put::put_bytes;
 use text::same_bytes;
 ghost use mathlib.Core.Path.{_≡_};
 ghost use Prim.Native.Nat.{min};
 ghost use Rattle.put.specs.Page.{Written};
-ghost use Rattle.usage.specs.Usage.{asksHelp, helpAsked, isOption, isDash, twoFiles, numberAsked, fileAsked, reportUsage, reportHelp, rewriteUsage, rewriteHelp, simulateUsage, simulateHelp, whyUsage, whyHelp};
+ghost use Rattle.usage.specs.Usage.{asksHelp, helpAsked, isOption, isDash, twoFiles, channelAsked, numberAsked, fileAsked, reportUsage, reportHelp, rewriteUsage, rewriteHelp, simulateUsage, simulateHelp, whyUsage, whyHelp};
 
 // What a program of one file does by its words.
 pub enum Asked {
@@ -13,6 +15,12 @@ pub enum Asked {
     Help,
     Input,
     File,
+}
+
+// What a word says that should name a channel: none, or which.
+pub enum ChannelWord {
+    NoChannel,
+    Known(Channel),
 }
 
 // What a word says that should be a number: none, or which.
@@ -57,6 +65,19 @@ pub fn two_files(first: &[u8], second: &[u8]) -> bool
     ensures { λ r. ⌜ r ≡ twoFiles (now (first .entry)) (now (second .entry)) ⌝ }
 {
     !(is_option(first) | is_option(second)) & !(is_dash(first) & is_dash(second))
+}
+
+// The channel that the word names, `read` or `write`.
+pub fn channel_asked(word: &[u8]) -> ChannelWord
+    ensures { λ r. ⌜ r ≡ channelAsked (now (word .entry)) ⌝ }
+{
+    if same_bytes(word, b"read") {
+        return ChannelWord::Known(Channel::Read);
+    }
+    if same_bytes(word, b"write") {
+        return ChannelWord::Known(Channel::Write);
+    }
+    ChannelWord::NoChannel
 }
 
 // A number, or `most` if it is larger.
@@ -140,7 +161,8 @@ pub fn report_help(out: &mut [u8; 65536]) -> usize
         0,
         b"report [FILE]: from a tree file, whether each accelerator's job meets its period at worst.\n\
         FILE is a tree file; standard input without one, or with -.\n\
-        Columns: accelerator, level, share, interfering reads and writes, response and period in cycles, verdict.\n\
+        Columns: accelerator, level, sr and sw (share of reads and of writes), yr and yw (interfering reads and writes),\n\
+        response and period in cycles, verdict.\n\
         A refused file prints \"refused\", the number of the cause and the line; standard error says it in words.\n\
         example: report scanner.tree\n",
     )
@@ -180,7 +202,7 @@ pub fn simulate_usage(out: &mut [u8; 65536]) -> usize
     put_bytes(
         out,
         0,
-        b"usage: simulate TREE TRACE [SLOTS]\nexample: simulate scanner.tree scanner.trace 100\n",
+        b"usage: simulate CHANNEL TREE TRACE [SLOTS]\nexample: simulate read scanner.tree scanner.trace 100\n",
     )
 }
 
@@ -191,11 +213,13 @@ pub fn simulate_help(out: &mut [u8; 65536]) -> usize
     put_bytes(
         out,
         0,
-        b"simulate TREE TRACE [SLOTS]: runs a trace of requests on a tree, and says who is served in each slot.\n\
+        b"simulate CHANNEL TREE TRACE [SLOTS]: runs a trace of requests on a tree, and says who is served in each slot.\n\
+        CHANNEL is read or write: reads and writes travel apart, and a trace is of one channel.\n\
         TREE and TRACE are files; one of the two may be -, standard input. SLOTS is 0 to 65536, or 65536 without one.\n\
         A line for each slot: its number, and the accelerator served or idle; then done or stopped, and the slots used.\n\
+        Requests of an accelerator whose job has none on CHANNEL stay held, so that the run goes on to SLOTS and is stopped.\n\
         A refused file prints \"refused\", the number of the cause and the line; standard error says it in words.\n\
-        example: simulate scanner.tree scanner.trace 100\n",
+        example: simulate read scanner.tree scanner.trace 100\n",
     )
 }
 
@@ -206,7 +230,7 @@ pub fn why_usage(out: &mut [u8; 65536]) -> usize
     put_bytes(
         out,
         0,
-        b"usage: why TREE TRACE ACC NUMBER\nexample: why scanner.tree scanner.trace 1 3\n",
+        b"usage: why CHANNEL TREE TRACE ACC NUMBER\nexample: why read scanner.tree scanner.trace 1 3\n",
     )
 }
 
@@ -217,12 +241,14 @@ pub fn why_help(out: &mut [u8; 65536]) -> usize
     put_bytes(
         out,
         0,
-        b"why TREE TRACE ACC NUMBER: runs a trace of requests on a tree, and says why a transaction waited.\n\
+        b"why CHANNEL TREE TRACE ACC NUMBER: runs a trace of requests on a tree, and says why a transaction waited.\n\
+        CHANNEL is read or write: reads and writes travel apart, and a trace is of one channel.\n\
         TREE and TRACE are files; one of the two may be -, standard input. The run has 65536 slots at most.\n\
         NUMBER is that of a transaction of accelerator ACC, counted from 1 in the order of service.\n\
+        Requests of an accelerator whose job has none on CHANNEL stay held, and none of them is served.\n\
         A line for each slot from its admission up to the one before its service, the first 32768 of them: the slot, the\n\
         accelerator served, and the deepest interconnect on both paths, or own; then waited, and the count of all.\n\
         A refusal prints \"refused\", the number of the cause and the line; standard error says it in words.\n\
-        example: why scanner.tree scanner.trace 1 3\n",
+        example: why read scanner.tree scanner.trace 1 3\n",
     )
 }

@@ -4,19 +4,20 @@
 -- entries t a bs        those of the bytes bs, in order
 -- waitBytes t r m a k   "each slot from that of its admission up to the one before its service, oldest first": their bytes
 -- Why                   refused with a line, refused without one, or the count of all slots and the slot of admission
--- listOf t rs a k       the list, of "The run .. that an output buffer of 65,536 bytes would give"
--- whyFrom t rs a k      the answer for the lines rs: 7, "then 12 if the number is 0 or the run serves fewer of that accelerator"
+-- listOf t c rs a k     the list, of "The run .. that an output buffer of 65,536 bytes would give"
+-- whyFrom t c rs a k    the answer for the lines rs: 7, "then 12 if the number is 0 or the run serves fewer of that accelerator"
 -- listOver l d          the list l over the buffer d: "Where the buffer is short the oldest slots fill it, in whole pairs"
--- bufferFrom t rs a k d the buffer d then
+-- bufferFrom t c rs a k d the buffer d then
 -- whyRead y x           x if the trace's reading answers y by accepting; bufferRead y x d: the buffer alike
--- whyOf t s a k n       the answer for the trace s and a buffer of n bytes: "after all checks of the runner 7, then 12"
--- whyBuffer t s a k d   the buffer d then: "bytes past the list keep their contents", and a refusal leaves all
+-- whyOf t c s a k n     the answer for the trace s and a buffer of n bytes: "after all checks of the runner 7, then 12"
+-- whyBuffer t c s a k d the buffer d then: "bytes past the list keep their contents", and a refusal leaves all
 use Prim.Native.Nat.{ℕ, _*_, _/_}
 use mathlib.Core.Bool.{Bool, not, _||_}
 use mathlib.Core.List.{List, [], _∷_, _++_}
 use lib.Dec.{leb, ltb, eqb}
 use lib.ListN.{length, take, drop}
 use Rattle.model.specs.declared.Tree.{Tree}
+use Rattle.model.specs.declared.Channel.{Channel}
 use Rattle.folds.specs.Fold.{pick}
 use Rattle.meeting.specs.Meeting.{meetOf}
 use Rattle.model.specs.Answer.{numberOf}
@@ -45,26 +46,26 @@ pub data Why : Type 0 where
   denied : ℕ → Why
   waited : ℕ → ℕ → Why
 
-abbrev pub listOf : Tree → List Request → ℕ → ℕ → List ℕ
-listOf t rs a k = waitBytes t (start t rs) (usedBy t rs 65536) a k
+abbrev pub listOf : Tree → Channel → List Request → ℕ → ℕ → List ℕ
+listOf t c rs a k = waitBytes t (start t c rs) (usedBy t c rs 65536) a k
 
-abbrev pub fewer : Tree → List Request → ℕ → ℕ → Bool
-fewer t rs a k = eqb k 0 || ltb (countIn a (bytesBefore (usedBy t rs 65536) t (start t rs))) k
+abbrev pub fewer : Tree → Channel → List Request → ℕ → ℕ → Bool
+fewer t c rs a k = eqb k 0 || ltb (countIn a (bytesBefore (usedBy t c rs 65536) t (start t c rs))) k
 
-unfoldable pub whyFrom : Tree → List Request → ℕ → ℕ → Why
-whyFrom t rs a k =
+unfoldable pub whyFrom : Tree → Channel → List Request → ℕ → ℕ → Why
+whyFrom t c rs a k =
     pick (leb (t .accs) a) (denied 7)
-    (pick (fewer t rs a k) (denied 12)
-    (waited (length (listOf t rs a k)) (admissionSlot t (start t rs) (usedBy t rs 65536) a k)))
+    (pick (fewer t c rs a k) (denied 12)
+    (waited (length (listOf t c rs a k)) (admissionSlot t (start t c rs) (usedBy t c rs 65536) a k)))
 
 abbrev pub listOver : List ℕ → List ℕ → List ℕ
 listOver l d = take (length d / 2 * 2) l ++ drop (length (take (length d / 2 * 2) l)) d
 
-unfoldable pub bufferFrom : Tree → List Request → ℕ → ℕ → List ℕ → List ℕ
-bufferFrom t rs a k d =
+unfoldable pub bufferFrom : Tree → Channel → List Request → ℕ → ℕ → List ℕ → List ℕ
+bufferFrom t c rs a k d =
     pick (leb (t .accs) a) d
-    (pick (fewer t rs a k) d
-    (listOver (entries t a (listOf t rs a k)) d))
+    (pick (fewer t c rs a k) d
+    (listOver (entries t a (listOf t c rs a k)) d))
 
 abbrev pub whyRead : FileAnswer → Why → Why
 whyRead Accepted x = x
@@ -76,14 +77,14 @@ bufferRead Accepted x d = x
 bufferRead (Refused r n) x d = d
 bufferRead Broken x d = d
 
-unfoldable pub whyOf : Tree → List ℕ → ℕ → ℕ → ℕ → Why
-whyOf t s a k n =
+unfoldable pub whyOf : Tree → Channel → List ℕ → ℕ → ℕ → ℕ → Why
+whyOf t c s a k n =
     pick (not (treeKeeps t)) (denied 11)
     (pick (ltb 65536 n) (refusedAt 2 0)
-    (whyRead (readTrace t s) (whyFrom t (requests (lines s)) a k)))
+    (whyRead (readTrace t s) (whyFrom t c (requests (lines s)) a k)))
 
-unfoldable pub whyBuffer : Tree → List ℕ → ℕ → ℕ → List ℕ → List ℕ
-whyBuffer t s a k d =
+unfoldable pub whyBuffer : Tree → Channel → List ℕ → ℕ → ℕ → List ℕ → List ℕ
+whyBuffer t c s a k d =
     pick (not (treeKeeps t)) d
     (pick (ltb 65536 (length d)) d
-    (bufferRead (readTrace t s) (bufferFrom t (requests (lines s)) a k d) d))
+    (bufferRead (readTrace t s) (bufferFrom t c (requests (lines s)) a k d) d))

@@ -1,5 +1,6 @@
 // Why a burst waited: the slots from a transaction's admission up to the one before its service, and who was served in each.
 use meeting::meet_of;
+use model::Channel;
 use model::Refusal;
 use model::Tree;
 use rules::tree_keeps;
@@ -108,16 +109,16 @@ fn over_limit(t: Tree) -> WhyAnswer
     WhyAnswer::Broken
 }
 
-// Lists the slots in which transaction k of accelerator a waited, two bytes a slot, and answers how many they are and the slot of
-// its admission.
-pub fn why(t: Tree, trace: &[u8], a: u8, k: u32, out: &mut [u8]) -> WhyAnswer
-    ensures answer { λ r. ⌜ whyMeans r ≡ whyOf t (now (trace .entry)) a k (length (now (out .entry))) ⌝ }
-    ensures bytes { λ r. ⌜ now (out .exit) ≡ whyBuffer t (now (trace .entry)) a k (now (out .entry)) ⌝ }
+// Lists the slots in which transaction k of accelerator a waited on a channel, two bytes a slot, and answers how many they are and
+// the slot of its admission.
+pub fn why(t: Tree, channel: Channel, trace: &[u8], a: u8, k: u32, out: &mut [u8]) -> WhyAnswer
+    ensures answer { λ r. ⌜ whyMeans r ≡ whyOf t channel (now (trace .entry)) a k (length (now (out .entry))) ⌝ }
+    ensures bytes { λ r. ⌜ now (out .exit) ≡ whyBuffer t channel (now (trace .entry)) a k (now (out .entry)) ⌝ }
 {
     if 65536 < out.len() {
         return over_limit(t);
     }
     let mut bytes = [0u8; 65536];
-    let ran = run_wait(t, trace, a, k, &mut bytes);
+    let ran = run_wait(t, channel, trace, a, k, &mut bytes);
     tell(t, a, k, ran, &bytes, out)
 }

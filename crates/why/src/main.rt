@@ -1,5 +1,6 @@
-// why TREE TRACE ACC NUMBER: runs the trace on the tree and writes a line for each slot in which a transaction waited, and a last
-// line with their count. A refusal is one line on standard output and one line in words on standard error.
+// why CHANNEL TREE TRACE ACC NUMBER: runs the trace, of reads or of writes, on the tree and writes a line for each slot in which a
+// transaction waited, and a last line with their count. A refusal is one line on standard output and one line in words on standard
+// error.
 use input::Input;
 use input::file_bytes;
 use input::page_text;
@@ -7,6 +8,7 @@ use inquiry::Asked;
 use inquiry::Part;
 use inquiry::Reply;
 use libc::STDERR_FILENO;
+use model::Channel;
 use reasons::explain;
 
 fn say_usage() {
@@ -61,9 +63,17 @@ fn explain_part(
     }
 }
 
-fn ask(a: u8, k: u32, tree_name: &[u8], tree: &[u8], trace_name: &[u8], trace: &[u8]) {
+fn ask(
+    channel: Channel,
+    a: u8,
+    k: u32,
+    tree_name: &[u8],
+    tree: &[u8],
+    trace_name: &[u8],
+    trace: &[u8],
+) {
     let mut list = [0u8; 65536];
-    let reply = inquiry::inquire(tree, trace, a, k, &mut list);
+    let reply = inquiry::inquire(tree, channel, trace, a, k, &mut list);
     show(reply, &list);
     match reply {
         Reply::Refused(part, number, line) => {
@@ -74,7 +84,7 @@ fn ask(a: u8, k: u32, tree_name: &[u8], tree: &[u8], trace_name: &[u8], trace: &
 }
 
 // One byte more than a file may have shows a longer one.
-fn ask_files(a: u8, k: u32, tree_name: &[u8], trace_name: &[u8]) {
+fn ask_files(channel: Channel, a: u8, k: u32, tree_name: &[u8], trace_name: &[u8]) {
     let mut tree = [0u8; 65537];
     let mut trace = [0u8; 65537];
     let read = input::load(tree_name, &mut tree);
@@ -86,6 +96,7 @@ fn ask_files(a: u8, k: u32, tree_name: &[u8], trace_name: &[u8]) {
         return;
     };
     ask(
+        channel,
         a,
         k,
         tree_name,
@@ -95,28 +106,31 @@ fn ask_files(a: u8, k: u32, tree_name: &[u8], trace_name: &[u8]) {
     );
 }
 
-// What the first four words ask.
+// What the first five words ask.
 fn main() {
     let mut first = [0u8; 131072];
     let mut second = [0u8; 131072];
     let mut third = [0u8; 131072];
     let mut fourth = [0u8; 131072];
-    let n = input::word(1, &mut first);
-    let m = input::word(2, &mut second);
-    let i = input::word(3, &mut third);
-    let j = input::word(4, &mut fourth);
-    let tree_name = &first[0..n];
-    let trace_name = &second[0..m];
+    let mut fifth = [0u8; 131072];
+    let k = input::word(1, &mut first);
+    let n = input::word(2, &mut second);
+    let m = input::word(3, &mut third);
+    let i = input::word(4, &mut fourth);
+    let j = input::word(5, &mut fifth);
+    let tree_name = &second[0..n];
+    let trace_name = &third[0..m];
     let asked = inquiry::why_asked(
         input::words(),
+        &first[0..k],
         tree_name,
         trace_name,
-        &third[0..i],
-        &fourth[0..j],
+        &fourth[0..i],
+        &fifth[0..j],
     );
     match asked {
         Asked::Usage => say_usage(),
         Asked::Help => say_help(),
-        Asked::Wait(a, k) => ask_files(a, k, tree_name, trace_name),
+        Asked::Wait(channel, a, k) => ask_files(channel, a, k, tree_name, trace_name),
     }
 }

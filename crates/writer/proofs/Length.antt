@@ -137,7 +137,7 @@ module _ (t : Tree) (e : treeKeeps t ≡ true) where
       let m = S .most-ints in
       let job = most-more {x = x .computing} 9 (omega (arith, r .2)) (most-more {x = x .period} 9 (omega (arith, r .4)) most-none) in
       let counts = most-more {x = x .reads} 4 (omega (arith, r .0)) (most-more {x = x .writes} 4 (omega (arith, r .1)) job) in
-      let limits = most-more {x = x .phi} 1 (omega (arith, S .limit a l .1)) (most-more {x = x .budget} 3 (omega (arith, S .budget a l .1)) counts) in
+      let limits = most-more {x = x .phi} 1 (omega (arith, S .phi a l .1)) (most-more {x = x .budget} 3 (omega (arith, S .budget a l .1)) counts) in
       most-more {x = x .interconnect} 1 (omega (arith, S .home a l)) (most-more {x = x .port} 0 (omega (arith, S .home-port a l)) limits)
 
   acc-most : (a : ℕ) → a < t .accs → suc (length (accText t a)) ≤ accMost a

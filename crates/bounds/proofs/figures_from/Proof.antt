@@ -9,7 +9,7 @@ use Rattle.bounds.proofs.figures_from.Tie as tie
 returns : tie.Need-returns
 returns c =
     let a = c .before .before .before .before .before .args in
-    ap analysed (row (a .b) (a .x) (a .level) (a .share) _ _ _ (c .before .before .interference-of .ensures) (c .before .interference-of2 .ensures) (c .before .before .before .before .response-of .ensures))
+    ap analysed (row (a .b) (a .x) (a .level) (a .reads) (a .writes) _ _ _ (c .before .before .on-channel .ensures) (c .before .on-channel2 .ensures) (c .before .before .before .before .response-of .ensures))
 
 pub figures-from-spec : {M : Type 1} → statement M
 figures-from-spec = tie.close (tie.spec (λ c κs. search needs) (λ c. search needs) (λ c κs. search needs) (λ c κs. search needs) returns)

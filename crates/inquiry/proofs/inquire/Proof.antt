@@ -3,6 +3,7 @@ use mathlib.Core.List.{List}
 use mathlib.Core.Path.{refl, ap, ap₂, _∙_}
 use Prim.Native.Nat.{ℕ}
 use borrow.Author.Needs.{needs}
+use Rattle.model.specs.declared.Channel.{Channel}
 use Rattle.lines.specs.Answer.{answerNumber, answerLine}
 use Rattle.placing.specs.declared.TreeRead.{TreeRead}
 use Rattle.razhikum.proofs.Told.{of-accepted, of-refused}
@@ -14,11 +15,11 @@ use Rattle.inquiry.specs.Inquiry.{replyOf, replyFrom}
 use Rattle.inquiry.proofs.inquire.Statement.{statement}
 use Rattle.inquiry.proofs.inquire.Tie as tie
 
-abbrev asked : List ℕ → ℕ → ℕ → TreeRead → Reply
-asked s a k q = replyOf (whyOf (q .tree) s a k 65536)
+abbrev asked : Channel → List ℕ → ℕ → ℕ → TreeRead → Reply
+asked h s a k q = replyOf (whyOf (q .tree) h s a k 65536)
 
-abbrev listOn : List ℕ → ℕ → ℕ → List ℕ → TreeRead → List ℕ
-listOn s a k d q = whyBuffer (q .tree) s a k d
+abbrev listOn : Channel → List ℕ → ℕ → ℕ → List ℕ → TreeRead → List ℕ
+listOn h s a k d q = whyBuffer (q .tree) h s a k d
 
 abbrev refusedTree : TreeRead → Reply
 refusedTree q = Refused Tree (answerNumber (q .answer)) (answerLine (q .answer))
@@ -32,8 +33,8 @@ returns c =
     let e = c .before .before .before .before .read-tree .ensures in
     let t = c .before .before .before .is-accepted .ensures in
     let y = c .before .before .if1 .taken in (
-      of-refused (asked s (x .a) (x .k)) refusedTree _ _ e _ t y _ (ap₂ (Refused Tree) (c .before .answer-number .ensures) (c .answer-line .ensures)),
-      of-refused (listOn s (x .a) (x .k) d) (λ (q : TreeRead). d) _ _ e _ t y _ refl,
+      of-refused (asked (x .channel) s (x .a) (x .k)) refusedTree _ _ e _ t y _ (ap₂ (Refused Tree) (c .before .answer-number .ensures) (c .answer-line .ensures)),
+      of-refused (listOn (x .channel) s (x .a) (x .k) d) (λ (q : TreeRead). d) _ _ e _ t y _ refl,
     )
 
 returns-2 : tie.Need-returns-2
@@ -48,9 +49,9 @@ returns-2 c =
     let r = c .before .why .ensures in
     let tree = c .before .before .before .before .before .read-tree .result .tree in
     let long = c .before .before .why-arg .given .0 .1 in (
-      of-accepted (asked s (x .a) (x .k)) refusedTree _ _ e _ t y _
-          (c .reply-of .ensures ∙ ap replyOf (r .0 ∙ ap (λ (n : ℕ). whyOf tree s (x .a) (x .k) n) long)),
-      of-accepted (listOn s (x .a) (x .k) d) (λ (q : TreeRead). d) _ _ e _ t y _ (r .1),
+      of-accepted (asked (x .channel) s (x .a) (x .k)) refusedTree _ _ e _ t y _
+          (c .reply-of .ensures ∙ ap replyOf (r .0 ∙ ap (λ (n : ℕ). whyOf tree (x .channel) s (x .a) (x .k) n) long)),
+      of-accepted (listOn (x .channel) s (x .a) (x .k) d) (λ (q : TreeRead). d) _ _ e _ t y _ (r .1),
     )
 
 pub inquire-spec : {M : Type 1} → statement M

@@ -21,7 +21,7 @@ use Rattle.listing.proofs.put_report.Tie as tie
 
 abbrev Inv-loop : tie.InvT-loop
 Inv-loop t out₀ next₀ all-meet₀ a₀ out next all-meet a =
-    Put (0 + 153 * a) out₀ next₀ (joined a (λ i. rowText i (analysisOf t i))) out next
+    Put (0 + 174 * a) out₀ next₀ (joined a (λ i. rowText i (analysisOf t i))) out next
     × (a ≤ t .accs) × (all-meet ≡ all a (λ i. analysisOf t i .meets)) × (length out ≡ length out₀)
 
 abbrev μ-loop : tie.MeasureT-loop
@@ -29,7 +29,7 @@ abbrev μ-loop : tie.MeasureT-loop
 
 loop-holds : tie.Need-loop-holds Inv-loop μ-loop
 loop-holds c =
-    (lines-none 0 153 [] (λ i. rowText i (analysisOf _ i)) (put-none _ _), search needs, sym (all-none _), refl)
+    (lines-none 0 174 [] (λ i. rowText i (analysisOf _ i)) (put-none _ _), search needs, sym (all-none _), refl)
 
 same-length : tie.Need-same-length Inv-loop μ-loop
 same-length c =
@@ -62,7 +62,7 @@ loop-again c =
     let a = at-args .args in
     let l = at-loop .loop in
     let m = row-made _ _ _ (at-args .pre) (at-if1 .if1 .taken) (at-bound .bound .ensures) _ (at-f .f .given .1) in (
-      lines-turn 0 153 [] (λ i. rowText i (analysisOf (a .t) i)) _ (l .inv .0) (put-as (ap (rowText (l .a)) m) (at-put-row .put-row .ensures)),
+      lines-turn 0 174 [] (λ i. rowText i (analysisOf (a .t) i)) _ (l .inv .0) (put-as (ap (rowText (l .a)) m) (at-put-row .put-row .ensures)),
       omega (arith, at-if1 .if1 .taken),
       all-turn _ (λ i. analysisOf (a .t) i .meets) _ _ (l .inv .2) (ap (λ (r : Analysis). r .meets) m),
       at-put-row .put-row .kept .0 ∙ l .inv .3,

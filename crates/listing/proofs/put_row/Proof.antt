@@ -8,7 +8,8 @@ use Rattle.listing.proofs.put_row.Tie as tie
 
 same-length : tie.Need-same-length
 same-length c =
-    let f7 = c .before .before .before .before .before .before in
+    let f8 = c .before .before .before .before .before .before in
+    let f7 = f8 .before .before .before .before in
     let f6 = f7 .before .before .before .before in
     let f5 = f6 .before .before .before .before in
     let f4 = f5 .before .before .before .before in
@@ -16,6 +17,7 @@ same-length c =
     let f2 = f3 .before .before .before .before in
     let f1 = f2 .before .before .before .before .before in
     c .before .before .put-verdict .kept .0
+    ∙ f8 .put-field8 .kept .0
     ∙ f7 .put-field7 .kept .0
     ∙ f6 .put-field6 .kept .0
     ∙ f5 .put-field5 .kept .0
@@ -27,18 +29,19 @@ same-length c =
 returns : tie.Need-returns
 unfolding rowText
 returns c =
-    let f7 = c .before .before .before .before .before .before in
+    let f8 = c .before .before .before .before .before .before in
+    let f7 = f8 .before .before .before .before in
     let f6 = f7 .before .before .before .before in
     let f5 = f6 .before .before .before .before in
     let f4 = f5 .before .before .before .before in
     let f3 = f4 .before .before .before .before in
     let f2 = f3 .before .before .before .before in
     let f1 = f2 .before .before .before .before .before in
-    put-then (put-then (put-then (put-then (put-then (put-then (put-then (f1 .put-field .ensures) (f2 .put-field2 .ensures))
+    put-then (put-then (put-then (put-then (put-then (put-then (put-then (put-then (f1 .put-field .ensures) (f2 .put-field2 .ensures))
     (f3 .put-field3 .ensures)) (f4 .put-field4 .ensures)) (f5 .put-field5 .ensures)) (f6 .put-field6 .ensures)) (f7 .put-field7 .ensures))
-    (c .before .before .put-verdict .ensures)
+    (f8 .put-field8 .ensures)) (c .before .before .put-verdict .ensures)
 
 pub put-row-spec : {M : Type 1} → statement M
 put-row-spec =
     tie.close (tie.spec (λ c κs. search needs) (λ c. search needs) (λ c κs. search needs) (λ c κs. search needs) (λ c κs. search needs)
-    (λ c κs. search needs) (λ c κs. search needs) (λ c κs. search needs) (λ c κs. search needs) same-length returns)
+    (λ c κs. search needs) (λ c κs. search needs) (λ c κs. search needs) (λ c κs. search needs) (λ c κs. search needs) same-length returns)

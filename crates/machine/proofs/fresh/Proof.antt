@@ -10,7 +10,7 @@ use Rattle.machine.proofs.fresh.Tie as tie
 
 returns : tie.Need-returns
 returns c =
-    ap (beginning (notStarted 11)) (c .zero-state .ensures) ∙ fresh-11 _ (sym (c .before .before .tree-keeps .ensures) ∙ not-true _ (c .before .if1 .taken))
+    ap (beginning (notStarted 11)) (c .zero-state .ensures) ∙ fresh-11 _ _ (sym (c .before .before .tree-keeps .ensures) ∙ not-true _ (c .before .if1 .taken))
 
 fresh-state-requires : tie.Need-fresh-state-requires
 fresh-state-requires c κs =
@@ -18,7 +18,7 @@ fresh-state-requires c κs =
 
 returns-2 : tie.Need-returns-2
 returns-2 c =
-    ap (beginning started) (c .fresh-state .ensures) ∙ fresh-started _ (sym (c .before .before .tree-keeps .ensures) ∙ not-false _ (c .before .if1 .left))
+    ap (beginning started) (c .fresh-state .ensures) ∙ fresh-started _ _ (sym (c .before .before .tree-keeps .ensures) ∙ not-false _ (c .before .if1 .left))
 
 pub fresh-spec : {M : Type 1} → statement M
 fresh-spec = tie.close (tie.spec (λ c κs. search needs) (λ c κs. search needs) returns fresh-state-requires returns-2)

@@ -13,10 +13,10 @@ use Rattle.machine.proofs.fresh_state.Statement.{statement}
 use Rattle.machine.proofs.fresh_state.Tie as tie
 
 abbrev Inv-loop : tie.InvT-loop
-Inv-loop n last₀ j₀ last j = (j ≤ n) × (last ≡ replicate j 7 ++ drop j (replicate 15 0))
+Inv-loop channel n last₀ j₀ last j = (j ≤ n) × (last ≡ replicate j 7 ++ drop j (replicate 15 0))
 
 abbrev μ-loop : tie.MeasureT-loop
-μ-loop n last₀ j₀ last j = n - j
+μ-loop channel n last₀ j₀ last j = n - j
 
 loop-holds : tie.Need-loop-holds Inv-loop μ-loop
 loop-holds c = (search needs, fill-none _ 7)
@@ -32,7 +32,7 @@ returns : tie.Need-returns Inv-loop μ-loop
 returns c =
     let l = c .before .before .loop in
     ap₂ (λ (s : State) (x : List ℕ). withTurns s x (s .allowance)) (c .zero-state .ensures)
-    (last-ports (c .before .before .before .before .args .t) (l .last) (l .j) (l .inv .1) (l .inv .0) (c .before .loop-test .left))
+    (last-ports (c .before .before .before .before .args .t) (c .before .before .before .before .args .channel) (l .last) (l .j) (l .inv .1) (l .inv .0) (c .before .loop-test .left))
 
 pub fresh-state-spec : {M : Type 1} → statement M
 fresh-state-spec = tie.close (tie.spec Inv-loop μ-loop (λ c. search needs) loop-holds array-write-last (λ c. search needs) (λ c. search needs) loop-again (λ c κs. search needs) returns)

@@ -1,48 +1,33 @@
--- `razhikum_run` meets its contract: each return is the side that the definition picks, and a refused tree leaves the
--- buffer as it was.
-use mathlib.Core.List.{List}
-use mathlib.Core.Path.{refl, ap, _∙_}
-use Prim.Native.Nat.{ℕ}
-use lib.ListN.{length}
+-- `razhikum_run` meets its contract: the test of the channel's number picks the refusal or the run.
+use mathlib.Core.Path.{refl}
 use borrow.Author.Needs.{needs}
-use Rattle.placing.specs.declared.TreeRead.{TreeRead}
-use Rattle.runner.specs.Run.{ranOf, bufferAfter}
-use Rattle.answers.specs.declared.Outcome.{Outcome}
-use Rattle.answers.specs.Numbers.{outcomeOf, treeRefused}
-use Rattle.razhikum.proofs.Told.{of-accepted, of-refused}
+use Rattle.model.specs.declared.Channel.{Channel}
+use Rattle.reader.specs.TreeFile.{readTree}
+use Rattle.razhikum.specs.Exports.{outcomeFrom, bufferFrom}
+use Rattle.razhikum.proofs.Told.{no-channel, on-channel}
 use Rattle.razhikum.proofs.razhikum_run.Statement.{statement}
 use Rattle.razhikum.proofs.razhikum_run.Tie as tie
 
-abbrev ranOn : List ℕ → List ℕ → TreeRead → Outcome
-ranOn s d q = outcomeOf (ranOf (q .tree) s (length d))
-
-abbrev refusedTree : TreeRead → Outcome
-refusedTree q = treeRefused (q .answer)
-
 returns : tie.Need-returns
 returns c =
-    let x = c .before .before .before .before .before .before .before .args in
-    let s = x .trace .now in
-    let d = x .out .now in
-    let e = c .before .before .before .read-tree .ensures in
-    let t = c .before .before .is-accepted .ensures in
-    let y = c .before .if1 .taken in (
-      of-refused (ranOn s d) refusedTree _ _ e _ t y _ (c .tree-refused .ensures),
-      of-refused (λ (q : TreeRead). bufferAfter (q .tree) s d) (λ (q : TreeRead). d) _ _ e _ t y _ refl,
+    let x = c .before .before .before .before .before .args in
+    let q = readTree (x .tree .now) in
+    let h = c .before .if1 .taken in (
+      no-channel (x .channel) _ (λ (k : Channel). outcomeFrom q k (x .trace .now) (x .out .now)) h _ (c .refused-by .ensures),
+      no-channel (x .channel) _ (λ (k : Channel). bufferFrom q k (x .trace .now) (x .out .now)) h _ refl,
     )
 
 returns-2 : tie.Need-returns-2
 returns-2 c =
-    let x = c .before .before .before .before .before .before .before .before .before .before .before .args in
-    let s = x .trace .now in
-    let d = x .out .now in
-    let e = c .before .before .before .before .before .before .before .read-tree .ensures in
-    let t = c .before .before .before .before .before .before .is-accepted .ensures in
-    let y = c .before .before .before .before .before .if1 .left in
-    let r = c .before .before .before .run .ensures in (
-      of-accepted (ranOn s d) refusedTree _ _ e _ t y _ (c .outcome-of .ensures ∙ ap outcomeOf (r .0)),
-      of-accepted (λ (q : TreeRead). bufferAfter (q .tree) s d) (λ (q : TreeRead). d) _ _ e _ t y _ (r .1),
+    let x = c .before .before .before .before .before .before .before .before .before .args in
+    let q = readTree (x .tree .now) in
+    let h = c .before .before .before .before .before .if1 .left in
+    let e = c .before .before .before .before .channel-of .ensures in
+    let r = c .before .before .run-on .ensures in (
+      on-channel (x .channel) _ (λ (k : Channel). outcomeFrom q k (x .trace .now) (x .out .now)) h _ e _ (r .0),
+      on-channel (x .channel) _ (λ (k : Channel). bufferFrom q k (x .trace .now) (x .out .now)) h _ e _ (r .1),
     )
 
 pub razhikum-run-spec : {M : Type 1} → statement M
-razhikum-run-spec = tie.close (tie.spec (λ c κs. search needs) (λ c κs. search needs) (λ c κs. search needs) returns (λ c κs. search needs) (λ c κs. search needs) (λ c. search needs) returns-2)
+razhikum-run-spec =
+    tie.close (tie.spec (λ c κs. search needs) returns (λ c κs. search needs) (λ c κs. search needs) (λ c. search needs) returns-2)

@@ -1,58 +1,33 @@
--- `razhikum_why` meets its contract: each return is the side that the definition picks, and a refused tree leaves the
--- buffer as it was.
-use mathlib.Core.List.{List}
-use mathlib.Core.Path.{refl, ap, ap₂, _∙_}
-use Prim.Native.Nat.{ℕ}
-use lib.ListN.{length}
+-- `razhikum_why` meets its contract: the test of the channel's number picks the refusal or the wait.
+use mathlib.Core.Path.{refl}
 use borrow.Author.Needs.{needs}
-use Rattle.lines.specs.Answer.{answerNumber, answerLine}
-use Rattle.placing.specs.declared.TreeRead.{TreeRead}
-use Rattle.waits.specs.Why.{whyOf, whyBuffer}
-use Rattle.answers.specs.declared.Wait.{Wait}
-use Rattle.answers.specs.Numbers.{noWait, waitOf}
-use Rattle.razhikum.proofs.Told.{of-accepted, of-refused}
+use Rattle.model.specs.declared.Channel.{Channel}
+use Rattle.reader.specs.TreeFile.{readTree}
+use Rattle.razhikum.specs.Exports.{waitFrom, listFrom}
+use Rattle.razhikum.proofs.Told.{no-channel, on-channel}
 use Rattle.razhikum.proofs.razhikum_why.Statement.{statement}
 use Rattle.razhikum.proofs.razhikum_why.Tie as tie
 
-abbrev toldOn : List ℕ → ℕ → ℕ → List ℕ → TreeRead → Wait
-toldOn s a k d q = waitOf (whyOf (q .tree) s a k (length d))
-
-abbrev refusedTree : TreeRead → Wait
-refusedTree q = noWait 2 (answerNumber (q .answer)) (answerLine (q .answer))
-
 returns : tie.Need-returns
 returns c =
-    let x = c .before .before .before .before .before .before .before .before .before .args in
-    let s = x .trace .now in
-    let d = x .out .now in
-    let a = x .accelerator in
-    let k = x .number in
-    let e = c .before .before .before .before .before .read-tree .ensures in
-    let t = c .before .before .before .before .is-accepted .ensures in
-    let y = c .before .before .before .if1 .taken in
-    let r = c .no-wait .ensures ∙ ap₂ (noWait 2) (c .before .before .answer-number .ensures) (c .before .answer-line .ensures) in (
-      of-refused (toldOn s a k d) refusedTree _ _ e _ t y _ r,
-      of-refused (λ (q : TreeRead). whyBuffer (q .tree) s a k d) (λ (q : TreeRead). d) _ _ e _ t y _ refl,
+    let x = c .before .before .before .before .before .args in
+    let q = readTree (x .tree .now) in
+    let h = c .before .if1 .taken in (
+      no-channel (x .channel) _ (λ (k : Channel). waitFrom q k (x .trace .now) (x .accelerator) (x .number) (x .out .now)) h _ (c .no-wait .ensures),
+      no-channel (x .channel) _ (λ (k : Channel). listFrom q k (x .trace .now) (x .accelerator) (x .number) (x .out .now)) h _ refl,
     )
 
 returns-2 : tie.Need-returns-2
 returns-2 c =
-    let x = c .before .before .before .before .before .before .before .before .before .before .before .args in
-    let s = x .trace .now in
-    let d = x .out .now in
-    let a = x .accelerator in
-    let k = x .number in
-    let e = c .before .before .before .before .before .before .before .read-tree .ensures in
-    let t = c .before .before .before .before .before .before .is-accepted .ensures in
-    let y = c .before .before .before .before .before .if1 .left in
-    let r = c .before .before .before .why .ensures in (
-      of-accepted (toldOn s a k d) refusedTree _ _ e _ t y _ (c .wait-of .ensures ∙ ap waitOf (r .0)),
-      of-accepted (λ (q : TreeRead). whyBuffer (q .tree) s a k d) (λ (q : TreeRead). d) _ _ e _ t y _ (r .1),
+    let x = c .before .before .before .before .before .before .before .before .before .args in
+    let q = readTree (x .tree .now) in
+    let h = c .before .before .before .before .before .if1 .left in
+    let e = c .before .before .before .before .channel-of .ensures in
+    let r = c .before .before .why-on .ensures in (
+      on-channel (x .channel) _ (λ (k : Channel). waitFrom q k (x .trace .now) (x .accelerator) (x .number) (x .out .now)) h _ e _ (r .0),
+      on-channel (x .channel) _ (λ (k : Channel). listFrom q k (x .trace .now) (x .accelerator) (x .number) (x .out .now)) h _ e _ (r .1),
     )
 
 pub razhikum-why-spec : {M : Type 1} → statement M
 razhikum-why-spec =
-    tie.close
-    (tie.spec
-    (λ c κs. search needs) (λ c κs. search needs) (λ c κs. search needs) (λ c κs. search needs) (λ c κs. search needs) returns
-    (λ c κs. search needs) (λ c κs. search needs) (λ c. search needs) returns-2)
+    tie.close (tie.spec (λ c κs. search needs) returns (λ c κs. search needs) (λ c κs. search needs) (λ c. search needs) returns-2)

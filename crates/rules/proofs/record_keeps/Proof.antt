@@ -17,7 +17,7 @@ returns c =
     let x = c .before .before .before .before .accelerator-at .ensures in
     let a = c .before .before .before .before .before .before .before .before .before .args in
     and-cong
-    (and-cong (ap₂ (λ (n : ℕ) (y : Accelerator). leb n (y .phi)) (c .before .before .before .outstanding-of .ensures) x)
+    (and-cong (ap₂ leb (c .before .before .before .outstanding-of .ensures) (c .before .before .limit-of .ensures))
     (ap₂ (λ (n : ℕ) (y : Accelerator). leb n (y .budget)) (c .before .before .before .before .before .before .before .before .admitted-of .ensures) x))
     (c .on-the-way .ensures ∙ ap (onTheWay (a .t .bus .delay)) (c .before .before .before .before .before .before .before .returns-of .ensures))
     ∙ sym (picked _ _ _ (lt-ltb _ _ (c .before .before .before .before .before .if1 .taken)))
@@ -31,5 +31,5 @@ returns-2 c =
 
 pub record-keeps-spec : {M : Type 1} → statement M
 record-keeps-spec =
-    tie.close (tie.spec (λ c κs. search needs) (λ c κs. search needs) (λ c κs. search needs) (λ c κs. search needs) (λ c. search needs)
-    (λ c κs. search needs) returns (λ c κs. search needs) returns-2)
+    tie.close (tie.spec (λ c κs. search needs) (λ c κs. search needs) (λ c κs. search needs) (λ c κs. search needs) (λ c κs. search needs)
+    (λ c. search needs) (λ c κs. search needs) returns (λ c κs. search needs) returns-2)

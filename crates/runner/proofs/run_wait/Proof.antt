@@ -18,9 +18,9 @@ returns c =
     let fresh = c .before .before .before in
     let x = fresh .before .before .before .args in
     let u = c .untold .ensures in
-    let no = unbegun (x .t) _ _ (fresh .fresh .ensures) _ (ap freshMeans (c .before .enum-told2 .given .1)) in
-    let r = ran-broken (x .t) (x .trace .now) (x .out .now) no in
-    (ap runMeans (u .0) ∙ r .0, (r .1, u .1 ∙ told-broken (x .t) (x .trace .now) (x .a) (x .k) _ no))
+    let no = unbegun (x .t) (x .channel) _ _ (fresh .fresh .ensures) _ (ap freshMeans (c .before .enum-told2 .given .1)) in
+    let r = ran-broken (x .t) (x .channel) (x .trace .now) (x .out .now) no in
+    (ap runMeans (u .0) ∙ r .0, (r .1, u .1 ∙ told-broken (x .t) (x .channel) (x .trace .now) (x .a) (x .k) _ no))
 
 returns-2 : tie.Need-returns-2
 returns-2 c =
@@ -28,9 +28,9 @@ returns-2 c =
     let fresh = large .before .before .before in
     let x = fresh .before .before .before .args in
     let u = c .untold2 .ensures in
-    let g = begun (x .t) _ _ (fresh .fresh .ensures) (ap freshMeans (large .before .enum-told .given .1)) in
-    let r = ran-size (x .t) (x .trace .now) (x .out .now) (g .0) (large .if1 .taken) in
-    (ap runMeans (u .0) ∙ r .0, (r .1, u .1 ∙ told-size (x .t) (x .trace .now) (x .a) (x .k) _ (g .0) (large .if1 .taken)))
+    let g = begun (x .t) (x .channel) _ _ (fresh .fresh .ensures) (ap freshMeans (large .before .enum-told .given .1)) in
+    let r = ran-size (x .t) (x .channel) (x .trace .now) (x .out .now) (g .0) (large .if1 .taken) in
+    (ap runMeans (u .0) ∙ r .0, (r .1, u .1 ∙ told-size (x .t) (x .channel) (x .trace .now) (x .a) (x .k) _ (g .0) (large .if1 .taken)))
 
 run-slots-requires : tie.Need-run-slots-requires
 run-slots-requires c κs =
@@ -39,7 +39,7 @@ run-slots-requires c κs =
     let small = read .before in
     let fresh = small .before .before .before in
     let x = fresh .before .before .before .args in
-    let g = begun (x .t) _ _ (fresh .fresh .ensures) (ap freshMeans (small .before .enum-told .given .1)) in
+    let g = begun (x .t) (x .channel) _ _ (fresh .fresh .ensures) (ap freshMeans (small .before .enum-told .given .1)) in
     let y = sym (read .read-requests .ensures ∙ reads-kept (x .t) _ (g .0)) ∙ accepted .enum-told3 .given .1 in
     (g .0, g .1, small .if1 .left, accepts-start (x .t) (x .trace .now) y, asked-known (x .t) (x .a) (x .k) _ (c .before .number-asked .ensures))
 
@@ -51,13 +51,13 @@ returns-3 c =
     let small = read .before in
     let fresh = small .before .before .before in
     let x = fresh .before .before .before .args in
-    let g = begun (x .t) _ _ (fresh .fresh .ensures) (ap freshMeans (small .before .enum-told .given .1)) in
+    let g = begun (x .t) (x .channel) _ _ (fresh .fresh .ensures) (ap freshMeans (small .before .enum-told .given .1)) in
     let y = sym (read .read-requests .ensures ∙ reads-kept (x .t) _ (g .0)) ∙ accepted .enum-told3 .given .1 in
-    let e = ran-read (x .t) (x .trace .now) (x .out .now) (g .0) (small .if1 .left) _ y in
-    let w = told-read (x .t) (x .trace .now) (x .a) (x .k) _ (g .0) (small .if1 .left) _ y in
+    let e = ran-read (x .t) (x .channel) (x .trace .now) (x .out .now) (g .0) (small .if1 .left) _ y in
+    let w = told-read (x .t) (x .channel) (x .trace .now) (x .a) (x .k) _ (g .0) (small .if1 .left) _ y in
     let r = ran .run-slots .ensures in
     let rs = leftAt (x .trace .now) 0 in
-    let asked = ap (waitsAfter (x .t) (start (x .t) rs) (usedBy (x .t) rs _) (x .a)) (ran .before .before .number-asked .ensures) in
+    let asked = ap (waitsAfter (x .t) (start (x .t) (x .channel) rs) (usedBy (x .t) (x .channel) rs _) (x .a)) (ran .before .before .number-asked .ensures) in
     (r .0 ∙ e .0, (r .1 .0 ∙ e .1, r .1 .1 ∙ asked ∙ w))
 
 returns-4 : tie.Need-returns-4
@@ -68,10 +68,10 @@ returns-4 c =
     let fresh = small .before .before .before in
     let x = fresh .before .before .before .args in
     let u = c .untold3 .ensures in
-    let g = begun (x .t) _ _ (fresh .fresh .ensures) (ap freshMeans (small .before .enum-told .given .1)) in
+    let g = begun (x .t) (x .channel) _ _ (fresh .fresh .ensures) (ap freshMeans (small .before .enum-told .given .1)) in
     let y = sym (read .read-requests .ensures ∙ reads-kept (x .t) _ (g .0)) ∙ why .why .given .1 in
-    let e = ran-read (x .t) (x .trace .now) (x .out .now) (g .0) (small .if1 .left) _ y in
-    (ap runMeans (u .0) ∙ e .0, (e .1, u .1 ∙ told-read (x .t) (x .trace .now) (x .a) (x .k) _ (g .0) (small .if1 .left) _ y))
+    let e = ran-read (x .t) (x .channel) (x .trace .now) (x .out .now) (g .0) (small .if1 .left) _ y in
+    (ap runMeans (u .0) ∙ e .0, (e .1, u .1 ∙ told-read (x .t) (x .channel) (x .trace .now) (x .a) (x .k) _ (g .0) (small .if1 .left) _ y))
 
 returns-5 : tie.Need-returns-5
 returns-5 c =
@@ -81,10 +81,10 @@ returns-5 c =
     let fresh = small .before .before .before in
     let x = fresh .before .before .before .args in
     let u = c .untold4 .ensures in
-    let g = begun (x .t) _ _ (fresh .fresh .ensures) (ap freshMeans (small .before .enum-told .given .1)) in
+    let g = begun (x .t) (x .channel) _ _ (fresh .fresh .ensures) (ap freshMeans (small .before .enum-told .given .1)) in
     let y = sym (read .read-requests .ensures ∙ reads-kept (x .t) _ (g .0)) ∙ broken .enum-told4 .given .1 in
-    let e = ran-read (x .t) (x .trace .now) (x .out .now) (g .0) (small .if1 .left) _ y in
-    (ap runMeans (u .0) ∙ e .0, (e .1, u .1 ∙ told-read (x .t) (x .trace .now) (x .a) (x .k) _ (g .0) (small .if1 .left) _ y))
+    let e = ran-read (x .t) (x .channel) (x .trace .now) (x .out .now) (g .0) (small .if1 .left) _ y in
+    (ap runMeans (u .0) ∙ e .0, (e .1, u .1 ∙ told-read (x .t) (x .channel) (x .trace .now) (x .a) (x .k) _ (g .0) (small .if1 .left) _ y))
 
 pub run-wait-spec : {M : Type 1} → statement M
 run-wait-spec =

@@ -10,6 +10,7 @@ use borrow.Author.Needs.{needs}
 use Rattle.model.specs.declared.Accelerator.{Accelerator}
 use Rattle.model.specs.Tree.{noAccelerator, limitOf}
 use Rattle.model.proofs.Lists.{long, beyond}
+use Rattle.rules.proofs.Sound.{limit-most}
 use Rattle.shares.proofs.limits.Statement.{statement}
 use Rattle.shares.proofs.limits.Tie as tie
 
@@ -24,10 +25,10 @@ filled-more l f i v h e F k b = elim (ℕ-discrete k i) [
 ]
 
 abbrev Inv-loop : tie.InvT-loop
-Inv-loop t table₀ i₀ table i = (i ≤ 32) × (length table ≡ 32) × Filled table (limitOf t) i
+Inv-loop t channel table₀ i₀ table i = (i ≤ 32) × (length table ≡ 32) × Filled table (limitOf t channel) i
 
 abbrev μ-loop : tie.MeasureT-loop
-μ-loop t table₀ i₀ table i = 32 - i
+μ-loop t channel table₀ i₀ table i = 32 - i
 
 loop-holds : tie.Need-loop-holds Inv-loop μ-loop
 loop-holds c = (omega arith, search needs, λ k h. absurd (omega arith))
@@ -37,7 +38,7 @@ loop-again c =
     let l = c .before .before .loop in (
       omega (arith, c .before .loop-test .taken),
       length-set (l .table) _ _ ∙ l .inv .1,
-      filled-more (l .table) _ (l .i) _ (omega (arith, l .inv .1, c .before .loop-test .taken)) refl (l .inv .2),
+      filled-more (l .table) _ (l .i) _ (omega (arith, l .inv .1, c .before .loop-test .taken)) (c .limit-of .ensures) (l .inv .2),
     )
 
 returns : tie.Need-returns Inv-loop μ-loop
@@ -46,8 +47,9 @@ returns c =
     fun-ext (λ k. elim (decLt k 32) [
       | yes b ↦ l .inv .2 k (omega (arith, c .loop-test .left))
       | no d ↦
-          sym (beyond (l .table) 0 k 32 (l .inv .1) (omega arith))
-          ∙ ap (λ (x : Accelerator). x .phi) (beyond (c .before .before .args .t1 .accelerators) noAccelerator k 32 (search (needs, long)) (omega arith))
+          let x = c .before .before .args in
+          let none = ap (λ (y : Accelerator). y .phi) (beyond (x .t .accelerators) noAccelerator k 32 (search (needs, long)) (omega arith)) in
+          sym (beyond (l .table) 0 k 32 (l .inv .1) (omega arith)) ∙ omega (arith, none, limit-most (x .t) (x .channel) k)
     ])
 
 pub limits-spec : {M : Type 1} → statement M

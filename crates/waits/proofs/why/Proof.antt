@@ -10,7 +10,7 @@ use Rattle.waits.proofs.why.Tie as tie
 returns : tie.Need-returns
 returns c =
     let x = c .before .before .before .before .args in
-    let e = why-long (x .t) (x .trace .now) (x .a) (x .k) (x .out .now) (c .before .if1 .taken) in
+    let e = why-long (x .t) (x .channel) (x .trace .now) (x .a) (x .k) (x .out .now) (c .before .if1 .taken) in
     (c .over-limit .ensures ∙ e .0, e .1)
 
 tell-requires : tie.Need-tell-requires
@@ -19,7 +19,7 @@ tell-requires c κs =
     let small = ran .before .before in
     let x = small .before .before .before .args in
     let r = ran .run-wait .ensures in
-    let T = tells (x .t) (x .trace .now) (x .a) (x .k) (replicate {A = ℕ} 65536 0) (length-replicate {A = ℕ} 65536 0) _ (r .0)
+    let T = tells (x .t) (x .channel) (x .trace .now) (x .a) (x .k) (replicate {A = ℕ} 65536 0) (length-replicate {A = ℕ} 65536 0) _ (r .0)
     (x .out .now) (small .if1 .left) _ (r .1 .1) _ (r .1 .0) in
     (T .service, small .if1 .left)
 
@@ -30,7 +30,7 @@ returns-2 c =
     let small = ran .before .before in
     let x = small .before .before .before .args in
     let r = ran .run-wait .ensures in
-    let T = tells (x .t) (x .trace .now) (x .a) (x .k) (replicate {A = ℕ} 65536 0) (length-replicate {A = ℕ} 65536 0) _ (r .0)
+    let T = tells (x .t) (x .channel) (x .trace .now) (x .a) (x .k) (replicate {A = ℕ} 65536 0) (length-replicate {A = ℕ} 65536 0) _ (r .0)
     (x .out .now) (small .if1 .left) _ (r .1 .1) _ (r .1 .0) in
     T .told _ (told .tell .ensures .0) _ (told .tell .ensures .1)
 

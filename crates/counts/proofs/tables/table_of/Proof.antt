@@ -11,10 +11,10 @@ use Rattle.counts.proofs.tables.table_of.Statement.{statement}
 use Rattle.counts.proofs.tables.table_of.Tie as tie
 
 abbrev Inv-loop : tie.InvT-loop
-Inv-loop t table₀ n₀ table n = (n ≤ 246) × (length table ≡ 246) × (take n table ≡ entries n (entryOf t))
+Inv-loop t channel table₀ n₀ table n = (n ≤ 246) × (length table ≡ 246) × (take n table ≡ entries n (entryOf t channel))
 
 abbrev μ-loop : tie.MeasureT-loop
-μ-loop t table₀ n₀ table n = 246 - n
+μ-loop t channel table₀ n₀ table n = 246 - n
 
 loop-holds : tie.Need-loop-holds Inv-loop μ-loop
 loop-holds c = (omega arith, refl, entries-none _)
@@ -31,7 +31,7 @@ returns : tie.Need-returns Inv-loop μ-loop
 returns c =
     let l = c .before .loop in
     let e : l .n ≡ 246 = omega (arith, c .loop-test .left, l .inv .0) in
-    sym (take-all (l .n) (l .table) (omega (arith, l .inv .1))) ∙ l .inv .2 ∙ ap (λ (i : ℕ). entries i (entryOf (c .before .before .args .t))) e
+    sym (take-all (l .n) (l .table) (omega (arith, l .inv .1))) ∙ l .inv .2 ∙ ap (λ (i : ℕ). entries i (entryOf (c .before .before .args .t) (c .before .before .args .channel))) e
 
 pub table-of-spec : {M : Type 1} → statement M
 table-of-spec =

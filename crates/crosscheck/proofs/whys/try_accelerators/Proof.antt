@@ -5,10 +5,10 @@ use Rattle.crosscheck.proofs.whys.try_accelerators.Statement.{statement
 use Rattle.crosscheck.proofs.whys.try_accelerators.Tie as tie
 
 abbrev Inv-loop : tie.InvT-loop
-Inv-loop t s d₀ past turn out₀ a₀ d out a = a ≤ 33
+Inv-loop t channel s d₀ past turn out₀ a₀ d out a = a ≤ 33
 
 abbrev μ-loop : tie.MeasureT-loop
-μ-loop t s d₀ past turn out₀ a₀ d out a = 33 - a
+μ-loop t channel s d₀ past turn out₀ a₀ d out a = 33 - a
 
 pub try-accelerators-spec : {M : Type 1} → statement M
 try-accelerators-spec =

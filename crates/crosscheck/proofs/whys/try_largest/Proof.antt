@@ -5,10 +5,10 @@ use Rattle.crosscheck.proofs.whys.try_largest.Statement.{statement}
 use Rattle.crosscheck.proofs.whys.try_largest.Tie as tie
 
 abbrev Inv-loop : tie.InvT-loop
-Inv-loop t s said d₀ past out₀ size₀ d out size = size ≤ 65538
+Inv-loop t channel s said d₀ past out₀ size₀ d out size = size ≤ 65538
 
 abbrev μ-loop : tie.MeasureT-loop
-μ-loop t s said d₀ past out₀ size₀ d out size = 65538 - size
+μ-loop t channel s said d₀ past out₀ size₀ d out size = 65538 - size
 
 pub try-largest-spec : {M : Type 1} → statement M
 try-largest-spec =

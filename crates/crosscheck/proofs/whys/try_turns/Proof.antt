@@ -5,10 +5,10 @@ use Rattle.crosscheck.proofs.whys.try_turns.Statement.{statement}
 use Rattle.crosscheck.proofs.whys.try_turns.Tie as tie
 
 abbrev Inv-loop : tie.InvT-loop
-Inv-loop t s d₀ past out₀ turn₀ d out turn = turn ≤ 6
+Inv-loop t channel s d₀ past out₀ turn₀ d out turn = turn ≤ 6
 
 abbrev μ-loop : tie.MeasureT-loop
-μ-loop t s d₀ past out₀ turn₀ d out turn = 6 - turn
+μ-loop t channel s d₀ past out₀ turn₀ d out turn = 6 - turn
 
 pub try-turns-spec : {M : Type 1} → statement M
 try-turns-spec =

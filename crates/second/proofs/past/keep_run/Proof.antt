@@ -7,10 +7,10 @@ use Rattle.second.proofs.past.keep_run.Statement.{statement}
 use Rattle.second.proofs.past.keep_run.Tie as tie
 
 abbrev Inv-loop : tie.InvT-loop
-Inv-loop d₀ past₀ lines used₀ d past used = (used ≤ length past₀) × (length past ≡ length past₀)
+Inv-loop d₀ channel past₀ lines used₀ d past used = (used ≤ length past₀) × (length past ≡ length past₀)
 
 abbrev μ-loop : tie.MeasureT-loop
-μ-loop d₀ past₀ lines used₀ d past used = length past₀ - used
+μ-loop d₀ channel past₀ lines used₀ d past used = length past₀ - used
 
 pub keep-run-spec : {M : Type 1} → statement M
 keep-run-spec =
