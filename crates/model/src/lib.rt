@@ -5,6 +5,9 @@
 pub mod access;
 
 ghost use mathlib.Core.Path.{_≡_};
+ghost use Prim.Native.Nat.{_+_, _≤_};
+ghost use lib.Dec.{ltb};
+ghost use Rattle.folds.specs.Fold.{pick};
 ghost use Rattle.model.specs.Answer.{numberOf};
 
 // What a port carries: nothing, the accelerator or the lower interconnect of this number.
@@ -101,9 +104,9 @@ pub enum Refusal {
     NoJob,
 }
 
-// The number of a refusal in the papers' tables.
-pub fn number(r: Refusal) -> u8
-    ensures { λ n. ⌜ n ≡ numberOf r ⌝ }
+// The place of a refusal among these, from 1 on. It rises by one, so that no table is compiled for it.
+fn place(r: Refusal) -> u8
+    ensures { λ n. ⌜ (numberOf r ≡ pick (ltb 11 n) (n + 2) n) × (n ≤ 12) ⌝ }
 {
     match r {
         Refusal::Shape => 1,
@@ -117,6 +120,17 @@ pub fn number(r: Refusal) -> u8
         Refusal::Budget => 9,
         Refusal::LastSlot => 10,
         Refusal::Rules => 11,
-        Refusal::NoJob => 14,
+        Refusal::NoJob => 12,
     }
+}
+
+// The number of a refusal in the papers' tables. 12 and 13 are none of these: they refuse a wait and the text of a tree.
+pub fn number(r: Refusal) -> u8
+    ensures { λ n. ⌜ n ≡ numberOf r ⌝ }
+{
+    let n = place(r);
+    if 11 < n {
+        return n + 2;
+    }
+    n
 }
