@@ -1,5 +1,5 @@
-/* Calls the static library from C: the report of a tree, the bounds of each accelerator, a run, a wait, the tree written back, and
- * a refusal.
+/* Calls the static library from C: the report of a tree, the bounds of each accelerator, a run on each channel, a wait, the tree
+ * written back, and a refusal.
  *
  *     cc -Iinclude include/example.c target/staticlib/librazhikum.a -o example
  */
@@ -14,32 +14,38 @@ static const char TREE[] =
     "int\t0\t-\t-\t1\n"
     "acc\t1\t0\t3\t4\t2\t1\t0\t0\t100\n"
     "acc\t0\t0\t0\t4\t2\t10\t5\t1000\t2000\n";
+/* Accelerator 1 only reads: as a trace of reads this is done, as one of writes its request stays held. */
 static const char TRACE[] = "o\t0\t0\t2\no\t0\t1\t1\n";
 
 static void show_bounds(const uint8_t *tree, size_t tree_bytes) {
     razhikum_counted count = razhikum_count(tree, tree_bytes);
     for (uint8_t a = 0; a < count.accelerators; a++) {
         razhikum_row row = razhikum_bound(tree, tree_bytes, a);
-        printf("accelerator %u: response %" PRIu64 ", period %" PRIu64 ", %s\n", a, row.response, row.period,
-               row.meets ? "meets" : "late");
+        printf("accelerator %u: shares %" PRIu64 " and %" PRIu64 ", response %" PRIu64 ", period %" PRIu64 ", %s\n", a,
+               row.sr, row.sw, row.response, row.period, row.meets ? "meets" : "late");
     }
 }
 
-static void show_run(const uint8_t *tree, size_t tree_bytes) {
+static void show_run(const uint8_t *tree, size_t tree_bytes, enum razhikum_channel channel) {
     uint8_t served[4];
     razhikum_outcome run =
-        razhikum_run(tree, tree_bytes, (const uint8_t *)TRACE, strlen(TRACE), served, sizeof served);
+        razhikum_run(tree, tree_bytes, (uint8_t)channel, (const uint8_t *)TRACE, strlen(TRACE), served, sizeof served);
+    puts(channel == RAZHIKUM_READ ? "reads" : "writes");
     for (uint32_t slot = 0; slot < run.slots; slot++) {
-        printf("slot %" PRIu32 ": accelerator %u\n", slot, served[slot]);
+        if (served[slot] == RAZHIKUM_IDLE) {
+            printf("slot %" PRIu32 ": idle\n", slot);
+        } else {
+            printf("slot %" PRIu32 ": accelerator %u\n", slot, served[slot]);
+        }
     }
-    printf("%s\n", run.kind == RAZHIKUM_DONE ? "done" : "stopped or refused");
+    puts(run.kind == RAZHIKUM_DONE ? "done" : run.kind == RAZHIKUM_STOPPED ? "stopped" : "refused");
 }
 
-/* Why the second transaction of accelerator 0 waited. */
+/* Why the second read of accelerator 0 waited. */
 static void show_wait(const uint8_t *tree, size_t tree_bytes) {
     uint8_t list[8];
-    razhikum_wait wait =
-        razhikum_why(tree, tree_bytes, (const uint8_t *)TRACE, strlen(TRACE), 0, 2, list, sizeof list);
+    razhikum_wait wait = razhikum_why(tree, tree_bytes, RAZHIKUM_READ, (const uint8_t *)TRACE, strlen(TRACE), 0, 2, list,
+                                      sizeof list);
     for (uint32_t i = 0; i < wait.count && 2 * i + 1 < sizeof list; i++) {
         uint8_t met = list[2 * i + 1];
         printf("slot %" PRIu32 ": waited for accelerator %u", wait.slot + i, list[2 * i]);
@@ -70,7 +76,8 @@ int main(void) {
     razhikum_page report = razhikum_report(tree, tree_bytes, page);
     fwrite(page, 1, report.bytes, stdout);
     show_bounds(tree, tree_bytes);
-    show_run(tree, tree_bytes);
+    show_run(tree, tree_bytes, RAZHIKUM_READ);
+    show_run(tree, tree_bytes, RAZHIKUM_WRITE);
     show_wait(tree, tree_bytes);
     show_text(tree, tree_bytes);
 

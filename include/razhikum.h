@@ -8,13 +8,18 @@
  * A file is passed as its bytes and their number. A file of more than RAZHIKUM_LIMIT bytes is refused like any other. The bus line of
  * a tree file may have an eleventh field, the return delay, 0 to 15 slots; a tree without it has the delay 0.
  *
+ * A channel is reads or writes. They travel apart, each on a machine of its own with the same tree and budgets, so a run or a wait is of
+ * one channel: the call names it after the tree, and the trace holds the requests of that one. A trace has no mark of its channel. The
+ * machine of a channel admits nothing of an accelerator whose job has 0 transactions there. That is no refusal of the trace: such
+ * requests stay held to the end, so that a run with one of them is stopped.
+ *
  * Any number of threads may call at the same time, also on the same files: the archive has no writable data and no heap. It
  * calls nothing outside but memcpy and memset, and writes nothing but its caller's stack, its answer and `out`. Two calls at the
  * same time must not have the same `out`.
  *
  * In every answer `number` is the number of a refusal (enum razhikum_refusal), or 0 where nothing is refused, and `line` its
- * line, counted from 1, or 0 where it has none (the size of a file or of a buffer; 7, 11, 12 and 13 of a call). A refusal leaves
- * every `out` as it was.
+ * line, counted from 1, or 0 where it has none (the size of a file or of a buffer; a channel; 7, 11, 12 and 13 of a call). A refusal
+ * leaves every `out` as it was.
  */
 #ifndef RAZHIKUM_H
 #define RAZHIKUM_H
@@ -27,8 +32,8 @@
 extern "C" {
 #endif
 
-/* The version of this header: 10000 for each first figure, 100 for each second, 1 for each third. 10300 is 1.3.0. */
-#define RAZHIKUM_VERSION 10300
+/* The version of this header: 10000 for each first figure, 100 for each second, 1 for each third. 20000 is 2.0.0. */
+#define RAZHIKUM_VERSION 20000
 
 /* The version of the archive. Where it is not RAZHIKUM_VERSION, header and archive do not belong together. */
 uint32_t razhikum_version(void);
@@ -52,13 +57,17 @@ uint32_t razhikum_version(void);
 /* The second byte of a slot of a wait in which the same accelerator is served. */
 #define RAZHIKUM_OWN 255
 
-/* The number of a refusal (docs/FORMAT.md, F45). A tree file is refused by 1 to 5, a trace file by 1, 2, 6 or 7, a bound and
- * a wait by 7 where the tree has no such accelerator, a wait then by 12, the text of a tree by 2 or 13 for its buffer. 8 to 10
- * answer calls of the machine, which are not exported; 11 answers a configuration that no file gives. */
+/* The channel of a run or a wait. Any other value is refused by RAZHIKUM_RANGE before everything else, the tree included: the kind is
+ * RAZHIKUM_CALL_REFUSED, and `line` is 0. */
+enum razhikum_channel { RAZHIKUM_READ = 0, RAZHIKUM_WRITE = 1 };
+
+/* The number of a refusal (docs/FORMAT.md, F45). A tree file is refused by 1 to 5, a trace file by 1, 2, 6 or 7, a channel that is
+ * neither by 2, a bound and a wait by 7 where the tree has no such accelerator, a wait then by 12, the text of a tree by 2 or 13 for its
+ * buffer. 8 to 10 and 14 answer calls of the machine, which are not exported; 11 answers a configuration that no file gives. */
 enum razhikum_refusal {
     RAZHIKUM_ACCEPTED = 0,
     RAZHIKUM_SHAPE = 1,       /* a line of wrong shape: name, count of fields, a malformed number, a missing last LF */
-    RAZHIKUM_RANGE = 2,       /* a value, a total or a size outside its limits */
+    RAZHIKUM_RANGE = 2,       /* a value, a total, a size or a channel outside its limits */
     RAZHIKUM_ORDER = 3,       /* a record out of order, misnumbered, on an unknown interconnect, or missing */
     RAZHIKUM_PORT_TAKEN = 4,  /* a port already taken */
     RAZHIKUM_LEVEL = 5,       /* a level above 4 */
@@ -69,23 +78,26 @@ enum razhikum_refusal {
     RAZHIKUM_LAST_SLOT = 10,  /* the slot count is at its end */
     RAZHIKUM_BROKEN = 11,     /* the configuration or the state breaks its rules */
     RAZHIKUM_NOT_SERVED = 12, /* the number of a transaction is 0, or the run serves fewer of its accelerator */
-    RAZHIKUM_TOO_SHORT = 13   /* the buffer is shorter than the text */
+    RAZHIKUM_TOO_SHORT = 13,  /* the buffer is shorter than the text */
+    RAZHIKUM_NO_JOB = 14      /* the accelerator's job has 0 transactions on this channel */
 };
 
 /* razhikum_reading.file: which file is refused. */
 enum razhikum_file { RAZHIKUM_FILE_NONE = 0, RAZHIKUM_FILE_TREE = 1, RAZHIKUM_FILE_TRACE = 2 };
 
-/* razhikum_outcome.kind: how a run ended. The last stands for a refused trace and for a buffer that is too large. */
+/* razhikum_outcome.kind: how a run ended. RAZHIKUM_TRACE_REFUSED stands for a refused trace and for a buffer that is too large,
+ * RAZHIKUM_CALL_REFUSED for a channel that is neither. */
 enum razhikum_kind {
     RAZHIKUM_DONE = 0,
     RAZHIKUM_STOPPED = 1,
     RAZHIKUM_TREE_REFUSED = 2,
-    RAZHIKUM_TRACE_REFUSED = 3
+    RAZHIKUM_TRACE_REFUSED = 3,
+    RAZHIKUM_CALL_REFUSED = 4
 };
 
-/* razhikum_wait.kind, besides RAZHIKUM_TREE_REFUSED and RAZHIKUM_TRACE_REFUSED of a run: the wait is told; or both files are accepted,
- * and the accelerator or the transaction that the call names is refused. */
-enum razhikum_wait_kind { RAZHIKUM_TOLD = 0, RAZHIKUM_CALL_REFUSED = 4 };
+/* razhikum_wait.kind, besides the three last ones of a run: the wait is told. RAZHIKUM_CALL_REFUSED stands here also for an accelerator
+ * or a transaction that the call names and is not there, with both files accepted. */
+enum razhikum_wait_kind { RAZHIKUM_TOLD = 0 };
 
 /* What a reader answers. */
 typedef struct {
@@ -108,7 +120,14 @@ typedef struct {
     uint32_t line;
 } razhikum_page;
 
-/* How a run ended. `slots` is the number of slots used, 0 on a refusal. */
+/* How a run ended. `slots` is the number of slots used, 0 on a refusal. They are slots of the run's channel. By kind:
+ *
+ *     kind                              number          line                                           slots
+ *     RAZHIKUM_DONE, RAZHIKUM_STOPPED   0               0                                              as above
+ *     RAZHIKUM_TREE_REFUSED             1 to 5          of the tree file, 0 for its size               0
+ *     RAZHIKUM_TRACE_REFUSED            1, 2, 6 or 7    of the trace file, 0 for its size or `out`'s   0
+ *     RAZHIKUM_CALL_REFUSED             2, channel      0                                              0
+ */
 typedef struct {
     uint8_t kind;
     uint8_t number;
@@ -124,7 +143,7 @@ typedef struct {
  *     RAZHIKUM_TOLD             0               0                                              as above
  *     RAZHIKUM_TREE_REFUSED     1 to 5          of the tree file, 0 for its size               0
  *     RAZHIKUM_TRACE_REFUSED    1, 2, 6 or 7    of the trace file, 0 for its size or `out`'s   0
- *     RAZHIKUM_CALL_REFUSED     7 or 12         0                                              0
+ *     RAZHIKUM_CALL_REFUSED     2, 7 or 12      0                                              0
  */
 typedef struct {
     uint8_t kind;
@@ -134,15 +153,21 @@ typedef struct {
     uint32_t slot;
 } razhikum_wait;
 
-/* The bounds of an accelerator, by the names of the report's columns: its level, whether it meets its period, its share, the
- * interference of its reads (yr) and of its writes (yw) in slots, its response and its period in clock cycles. On a refusal
- * all of these are 0. */
+/* The bounds of an accelerator, by the names of the report's columns: its level, whether it meets its period, its share on the read
+ * channel (sr) and on the write channel (sw), the interference of its reads (yr) and of its writes (yw) in slots of that channel, its
+ * response and its period in clock cycles. On a refusal all of these are 0.
+ *
+ * A share is a number of slots of its channel: a transaction with none of its own before it is served within so many, counted from its
+ * admission. It is the product, over the interconnects on the way to memory, of 1 + D, and D adds up, over the other ports there, the
+ * smaller of the granularity and the phi of those accelerators under the port whose job has transactions on this channel. One whose job
+ * has 0 there counts 0, since the machine of this channel admits none of it. Its own share is given on both channels all the same. */
 typedef struct {
     uint8_t number;
     uint32_t line;
     uint8_t level;
     bool meets;
-    uint64_t share;
+    uint64_t sr;
+    uint64_t sw;
     uint64_t yr;
     uint64_t yw;
     uint64_t response;
@@ -158,11 +183,11 @@ enum razhikum_stack {
     RAZHIKUM_STACK_READ_TREE = 18432,
     RAZHIKUM_STACK_READ_TRACE = 18432,
     RAZHIKUM_STACK_COUNT = 18432,
-    RAZHIKUM_STACK_REPORT = 21504,
+    RAZHIKUM_STACK_REPORT = 22528,
     RAZHIKUM_STACK_REWRITE = 24576,
     RAZHIKUM_STACK_RUN = 18432,
     RAZHIKUM_STACK_WHY = 84992,
-    RAZHIKUM_STACK_BOUND = 20480
+    RAZHIKUM_STACK_BOUND = 21504
 };
 
 /* Reads a tree file: accepted, or refused by 1 to 5. */
@@ -188,29 +213,33 @@ razhikum_page razhikum_report(const uint8_t *tree, size_t tree_bytes, uint8_t *o
  * where it is shorter than the text. */
 razhikum_page razhikum_rewrite(const uint8_t *tree, size_t tree_bytes, uint8_t *out, size_t out_bytes);
 
-/* Runs a trace on a tree and writes one byte a slot into `out`: the number of the accelerator served, or RAZHIKUM_IDLE. The
- * bytes past the slots used keep their contents, and on a refusal all do. With a return delay of r a transaction that is served in
- * slot s counts among the phi outstanding ones of its accelerator until slot s + 1 + r starts. A run is done where no line is left,
- * none is held and none waits, though some may still be returning. */
+/* Runs a trace on a tree, on one channel (enum razhikum_channel), and writes one byte a slot into `out`: the number of the accelerator
+ * served, or RAZHIKUM_IDLE. The bytes past the slots used keep their contents, and on a refusal all do. With a return delay of r a
+ * transaction that is served in slot s counts among the phi outstanding ones of its accelerator until slot s + 1 + r starts. A run is
+ * done where no line is left, none is held and none waits, though some may still be returning. It is stopped where `out` is full
+ * before; so it always is where the trace asks for an accelerator whose job has 0 transactions on the channel.
+ *
+ * Checked in this order: the channel (2), the tree (1 to 5), the size of `out` (2), the trace (1, 2, 6, 7). */
 razhikum_outcome razhikum_run(
-    const uint8_t *tree, size_t tree_bytes, const uint8_t *trace, size_t trace_bytes, uint8_t *out, size_t out_bytes);
+    const uint8_t *tree, size_t tree_bytes, uint8_t channel, const uint8_t *trace, size_t trace_bytes, uint8_t *out,
+    size_t out_bytes);
 
 /* Lists why a transaction waited: that of this `number`, counted from 1, among those of the accelerator that the run serves. The
- * run is that of razhikum_run with a buffer of RAZHIKUM_SLOTS bytes, whatever `out_bytes` is. Each slot from that of the admission
- * up to the one before the service, oldest first, takes two bytes of `out`: the number of the accelerator that was served, then the
- * deepest interconnect that the paths of both accelerators cross, or RAZHIKUM_OWN where it was an earlier transaction of the same
- * accelerator. None of these slots is idle. Pair i, counted from 0, is of slot `slot + i`. The time for which a request was held
- * before its admission is not in the list, nor is its way home after the service.
+ * run is that of razhikum_run on the same channel with a buffer of RAZHIKUM_SLOTS bytes, whatever `out_bytes` is. Each slot from that
+ * of the admission up to the one before the service, oldest first, takes two bytes of `out`: the number of the accelerator that was
+ * served, then the deepest interconnect that the paths of both accelerators cross, or RAZHIKUM_OWN where it was an earlier transaction
+ * of the same accelerator. None of these slots is idle. Pair i, counted from 0, is of slot `slot + i`. The time for which a request was
+ * held before its admission is not in the list, nor is its way home after the service.
  *
  * A list of `count` slots has 2 * `count` bytes. Where `out` is shorter, the oldest slots fill it in whole pairs, and `count` still
  * counts all; `out_bytes` may be 0. The bytes past the list keep their contents, and on a refusal all do.
  *
- * Checked in this order: the tree (1 to 5), the size of `out` (2), the trace (1, 2, 6, 7), the accelerator (7), the number of the
- * transaction (12: it is 0, or the run serves fewer). Each call makes the run anew, and takes about as long as razhikum_run with a
- * buffer of RAZHIKUM_SLOTS bytes. */
+ * Checked in this order: the channel (2), the tree (1 to 5), the size of `out` (2), the trace (1, 2, 6, 7), the accelerator (7), the
+ * number of the transaction (12: it is 0, or the run serves fewer; where the job has 0 transactions on the channel it serves none). Each
+ * call makes the run anew, and takes about as long as razhikum_run with a buffer of RAZHIKUM_SLOTS bytes. */
 razhikum_wait razhikum_why(
-    const uint8_t *tree, size_t tree_bytes, const uint8_t *trace, size_t trace_bytes, uint8_t accelerator, uint32_t number,
-    uint8_t *out, size_t out_bytes);
+    const uint8_t *tree, size_t tree_bytes, uint8_t channel, const uint8_t *trace, size_t trace_bytes, uint8_t accelerator,
+    uint32_t number, uint8_t *out, size_t out_bytes);
 
 /* The bounds of an accelerator of a tree file: refused as the tree is, or by 7 where the tree has no such accelerator. They do not
  * depend on the return delay. */

@@ -1,7 +1,7 @@
 /* Measures the stack that each call uses, its caller's frame included: on a full tree, a small one, one with the longest numbers and
- * one with a level too many, each whole and cut short. The call is made on a thread that has painted its stack below the caller's
- * frame, and the lowest byte that has lost its paint says how deep the call went. Prints for each call the most that was used and
- * what the header says, and fails where the first is more.
+ * one with a level too many, each whole and cut short, runs and waits on both channels and on one that is neither. The call is made on
+ * a thread that has painted its stack below the caller's frame, and the lowest byte that has lost its paint says how deep the call
+ * went. Prints for each call the most that was used and what the header says, and fails where the first is more.
  *
  *     cc -pthread -Iinclude include/stack.c target/staticlib/librazhikum.a -o stack && ./stack examples
  */
@@ -13,7 +13,7 @@
 
 #include "razhikum.h"
 
-enum { STACK = 1 << 18, UNPAINTED = 256, PAINT = 0xa5, FILE_ROOM = 1 << 17 };
+enum { STACK = 1 << 18, UNPAINTED = 256, PAINT = 0xa5, FILE_ROOM = 1 << 17, NEITHER = RAZHIKUM_WRITE + 1 };
 
 enum call { VERSION, READ_TREE, READ_TRACE, COUNT, REPORT, REWRITE, RUN, WHY, BOUND, CALLS };
 
@@ -48,15 +48,23 @@ static void make_call(void) {
     case COUNT: answered = razhikum_count(tree.text, tree.bytes).line; break;
     case REPORT: answered = razhikum_report(tree.text, tree.bytes, page).bytes; break;
     case REWRITE: answered = razhikum_rewrite(tree.text, tree.bytes, page, sizeof page).bytes; break;
-    case RUN: answered = razhikum_run(tree.text, tree.bytes, trace.text, trace.bytes, served, sizeof served).slots; break;
+    case RUN:
+        for (uint8_t c = RAZHIKUM_READ; c <= NEITHER; c++) {
+            answered =
+                razhikum_run(tree.text, tree.bytes, c, trace.text, trace.bytes, served, sizeof served).slots;
+        }
+        break;
     case WHY:
         for (uint8_t a = 0; a <= 32; a += 8) {
-            answered = razhikum_why(tree.text, tree.bytes, trace.text, trace.bytes, a, 1, served, sizeof served).count;
+            for (uint8_t c = RAZHIKUM_READ; c <= NEITHER; c++) {
+                answered =
+                    razhikum_why(tree.text, tree.bytes, c, trace.text, trace.bytes, a, 1, served, sizeof served).count;
+            }
         }
         break;
     case BOUND:
         for (uint8_t a = 0; a <= 32; a++) {
-            answered = razhikum_bound(tree.text, tree.bytes, a).share;
+            answered = razhikum_bound(tree.text, tree.bytes, a).sr;
         }
         break;
     case CALLS: break;
@@ -148,6 +156,7 @@ int main(int arguments, char **words) {
         {"full.tree", "full.trace"},
         {"scanner30.tree", "scanner30-read.trace"},
         {"board100-budget64.tree", "board100-write.trace"},
+        {"scanner30.tree", "scanner30-readback-read.trace"},
     };
     for (size_t i = 0; i < sizeof pairs / sizeof pairs[0]; i++) {
         load(&tree, words[1], pairs[i][0]);

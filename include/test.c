@@ -1,6 +1,6 @@
 /* Holds header and archive together: the layout of each struct by offsets, the version, every number that a file can be refused by,
- * and the values that the archive answers in each field, so that two columns exchanged would be seen. Compiled as C and as C++.
- * include/test.sh builds and runs it.
+ * runs and waits on both channels and on none, and the values that the archive answers in each field, so that two columns exchanged
+ * would be seen. Compiled as C and as C++. include/test.sh builds and runs it.
  */
 #include <assert.h>
 #include <stdio.h>
@@ -41,12 +41,13 @@ FIELD(razhikum_row, number, 0, 1);
 FIELD(razhikum_row, line, 4, 4);
 FIELD(razhikum_row, level, 8, 1);
 FIELD(razhikum_row, meets, 9, 1);
-FIELD(razhikum_row, share, 16, 8);
-FIELD(razhikum_row, yr, 24, 8);
-FIELD(razhikum_row, yw, 32, 8);
-FIELD(razhikum_row, response, 40, 8);
-FIELD(razhikum_row, period, 48, 8);
-static_assert(sizeof(razhikum_row) == 56, "razhikum_row has another size");
+FIELD(razhikum_row, sr, 16, 8);
+FIELD(razhikum_row, sw, 24, 8);
+FIELD(razhikum_row, yr, 32, 8);
+FIELD(razhikum_row, yw, 40, 8);
+FIELD(razhikum_row, response, 48, 8);
+FIELD(razhikum_row, period, 56, 8);
+static_assert(sizeof(razhikum_row) == 64, "razhikum_row has another size");
 
 static unsigned long compared;
 
@@ -65,6 +66,8 @@ typedef struct {
 } file;
 
 static file tree, trace, written;
+/* The channel of the runs and waits that come next. */
+static uint8_t channel = RAZHIKUM_READ;
 static uint8_t page[RAZHIKUM_PAGE], served[RAZHIKUM_SLOTS + 1];
 
 static void load(file *into, const char *folder, const char *name) {
@@ -86,12 +89,14 @@ static void spaced(file *into, const char *text) {
     }
 }
 
-static void is_row(unsigned a, unsigned level, unsigned share, unsigned yr, unsigned yw, unsigned response, unsigned period) {
+static void is_row(
+    unsigned a, unsigned level, unsigned sr, unsigned sw, unsigned yr, unsigned yw, unsigned response, unsigned period) {
     razhikum_row r = razhikum_bound(tree.text, tree.bytes, (uint8_t)a);
     same("row number", r.number, RAZHIKUM_ACCEPTED);
     same("row line", r.line, 0);
     same("level", r.level, level);
-    same("share", r.share, share);
+    same("sr", r.sr, sr);
+    same("sw", r.sw, sw);
     same("yr", r.yr, yr);
     same("yw", r.yw, yw);
     same("response", r.response, response);
@@ -103,7 +108,7 @@ static void is_row_refused(unsigned a, unsigned number, unsigned line) {
     razhikum_row r = razhikum_bound(tree.text, tree.bytes, (uint8_t)a);
     same("row number", r.number, number);
     same("row line", r.line, line);
-    same("figures of a refused row", r.level + r.share + r.yr + r.yw + r.response + r.period + r.meets, 0);
+    same("figures of a refused row", r.level + r.sr + r.sw + r.yr + r.yw + r.response + r.period + r.meets, 0);
 }
 
 /* The number at this place of a report's line, which is then behind the tab after it. */
@@ -118,6 +123,8 @@ static unsigned long long number_at(const char **at) {
     return value;
 }
 
+#define HEAD "acc\tlevel\tsr\tsw\tyr\tyw\tresp\tperiod\tverdict\n"
+
 /* Each line of the report says what the row of the same accelerator says. */
 static void rows_are_the_report(void) {
     razhikum_page report = razhikum_report(tree.text, tree.bytes, page);
@@ -128,12 +135,14 @@ static void rows_are_the_report(void) {
     razhikum_counted count = razhikum_count(tree.text, tree.bytes);
     same("count's number", count.number, RAZHIKUM_ACCEPTED);
     same("count's line", count.line, 0);
-    const char *at = strchr((const char *)page, '\n') + 1;
+    same("the report's head line", (unsigned long long)strncmp((const char *)page, HEAD, strlen(HEAD)), 0);
+    const char *at = (const char *)page + strlen(HEAD);
     for (unsigned a = 0; a < count.accelerators; a++) {
         razhikum_row r = razhikum_bound(tree.text, tree.bytes, (uint8_t)a);
         same("acc", number_at(&at), a);
         same("level", r.level, number_at(&at));
-        same("share", r.share, number_at(&at));
+        same("sr", r.sr, number_at(&at));
+        same("sw", r.sw, number_at(&at));
         same("yr", r.yr, number_at(&at));
         same("yw", r.yw, number_at(&at));
         same("response", r.response, number_at(&at));
@@ -147,7 +156,7 @@ static void rows_are_the_report(void) {
 
 static void is_outcome(size_t room, unsigned kind, unsigned number, unsigned line, unsigned slots) {
     memset(served, 99, sizeof served);
-    razhikum_outcome o = razhikum_run(tree.text, tree.bytes, trace.text, trace.bytes, served, room);
+    razhikum_outcome o = razhikum_run(tree.text, tree.bytes, channel, trace.text, trace.bytes, served, room);
     same("kind", o.kind, kind);
     same("number", o.number, number);
     same("line", o.line, line);
@@ -159,8 +168,8 @@ static void is_outcome(size_t room, unsigned kind, unsigned number, unsigned lin
 
 static void is_wait_refused(unsigned a, unsigned long which, size_t room, unsigned kind, unsigned number, unsigned line) {
     memset(served, 99, sizeof served);
-    razhikum_wait w =
-        razhikum_why(tree.text, tree.bytes, trace.text, trace.bytes, (uint8_t)a, (uint32_t)which, served, room);
+    razhikum_wait w = razhikum_why(tree.text, tree.bytes, channel, trace.text, trace.bytes, (uint8_t)a, (uint32_t)which,
+                                   served, room);
     same("kind of a refused wait", w.kind, kind);
     same("number of a refused wait", w.number, number);
     same("line of a refused wait", w.line, line);
@@ -174,7 +183,8 @@ static void is_wait_refused(unsigned a, unsigned long which, size_t room, unsign
 static void is_wait_in(size_t room, unsigned a, unsigned which, unsigned slot, unsigned count, const uint8_t *list) {
     size_t listed = room / 2 < count ? room / 2 : count;
     memset(served, 99, sizeof served);
-    razhikum_wait w = razhikum_why(tree.text, tree.bytes, trace.text, trace.bytes, (uint8_t)a, which, served, room);
+    razhikum_wait w =
+        razhikum_why(tree.text, tree.bytes, channel, trace.text, trace.bytes, (uint8_t)a, which, served, room);
     same("kind of a wait", w.kind, RAZHIKUM_TOLD);
     same("number of a wait", w.number, RAZHIKUM_ACCEPTED);
     same("line of a wait", w.line, 0);
@@ -247,6 +257,22 @@ static void is_trace(unsigned which, unsigned number, unsigned line) {
     same("line", r.line, line);
 }
 
+/* A channel that is neither is refused before a tree or a trace of any bytes is read, an accelerator or a number looked at, or the
+ * buffer measured. */
+static void other_channels_are_refused(void) {
+    static const unsigned others[] = {2, 3, 127, 128, 254, 255};
+    uint8_t before = channel;
+    for (size_t i = 0; i < sizeof others / sizeof others[0]; i++) {
+        channel = (uint8_t)others[i];
+        is_outcome(8, RAZHIKUM_CALL_REFUSED, RAZHIKUM_RANGE, 0, 0);
+        is_outcome(0, RAZHIKUM_CALL_REFUSED, RAZHIKUM_RANGE, 0, 0);
+        is_outcome(RAZHIKUM_SLOTS + 1, RAZHIKUM_CALL_REFUSED, RAZHIKUM_RANGE, 0, 0);
+        is_wait_refused(0, 1, 8, RAZHIKUM_CALL_REFUSED, RAZHIKUM_RANGE, 0);
+        is_wait_refused(255, 0, RAZHIKUM_SLOTS + 1, RAZHIKUM_CALL_REFUSED, RAZHIKUM_RANGE, 0);
+    }
+    channel = before;
+}
+
 /* Every call refuses the tree alike, and the report leaves its page as it was. */
 static void tree_is_refused(unsigned number, unsigned line) {
     razhikum_reading r = razhikum_read_tree(tree.text, tree.bytes);
@@ -254,8 +280,12 @@ static void tree_is_refused(unsigned number, unsigned line) {
     same("number", r.number, number);
     same("line", r.line, line);
     is_trace(RAZHIKUM_FILE_TREE, number, line);
-    is_outcome(8, RAZHIKUM_TREE_REFUSED, number, line, 0);
-    is_wait_refused(0, 1, 8, RAZHIKUM_TREE_REFUSED, number, line);
+    for (channel = RAZHIKUM_READ; channel <= RAZHIKUM_WRITE; channel++) {
+        is_outcome(8, RAZHIKUM_TREE_REFUSED, number, line, 0);
+        is_wait_refused(0, 1, 8, RAZHIKUM_TREE_REFUSED, number, line);
+    }
+    channel = RAZHIKUM_READ;
+    other_channels_are_refused();
     is_text_refused(0, number, line);
     is_text_refused(RAZHIKUM_SLOTS + 1, number, line);
     is_row_refused(0, number, line);
@@ -322,6 +352,7 @@ static void traces(void) {
     spaced(&trace, "o 5 0 1\no 5 2 1\n");
     is_trace(RAZHIKUM_FILE_TRACE, RAZHIKUM_UNKNOWN, 2);
     is_outcome(8, RAZHIKUM_TRACE_REFUSED, RAZHIKUM_UNKNOWN, 2, 0);
+    other_channels_are_refused();
 }
 
 /* Three interconnects beneath each other, four accelerators (docs/MODEL.md, M73 and M74). The run serves 0 1 0 2 0 1 0 3, and
@@ -358,6 +389,63 @@ static void is_served(unsigned slots, const uint8_t *expected) {
     }
 }
 
+/* The run serves these and is then idle, in a buffer of every length from theirs on and in the largest: something stays held. */
+static void is_stopped(unsigned slots, const uint8_t *expected) {
+    for (unsigned room = slots; room <= slots + 5; room++) {
+        unsigned length = room == slots + 5 ? RAZHIKUM_SLOTS : room;
+        is_outcome(length, RAZHIKUM_STOPPED, RAZHIKUM_ACCEPTED, 0, length);
+        for (unsigned i = 0; i < length; i++) {
+            same("a slot of a stopped run", served[i], i < slots ? expected[i] : RAZHIKUM_IDLE);
+        }
+    }
+}
+
+/* Four accelerators on one interconnect, g 2: 0 reads and writes, 1 only reads, 2 only writes, 3 neither. */
+#define APART                                                                                            \
+    BUS "int 0 - - 2\nacc 0 0 0 4 8 10 5 0 2000\nacc 1 0 1 4 8 1 0 0 100\nacc 2 0 2 1 8 0 3 0 1000\n" \
+        "acc 3 0 3 4 8 0 0 0 1\n"
+
+static void channels(void) {
+    static const uint8_t reads[] = {0, 0, 1, 1}, writes[] = {0, 0, 2};
+    static const uint8_t at_root[] = {0, 0, 0, 0}, then_own[] = {0, 0, 0, 0, 1, RAZHIKUM_OWN};
+    spaced(&tree, APART);
+    is_row(0, 1, 3, 2, 20, 5, 1930, 2000);
+    is_row(1, 1, 3, 4, 2, 0, 147, 100);
+    is_row(2, 1, 5, 3, 0, 6, 405, 1000);
+    is_row(3, 1, 5, 4, 0, 0, 0, 1);
+    rows_are_the_report();
+
+    /* 1 is served on the read channel alone. */
+    spaced(&trace, "o 0 0 2\no 0 1 2\n");
+    channel = RAZHIKUM_READ;
+    is_served(4, reads);
+    is_wait(1, 1, 0, 2, at_root);
+    channel = RAZHIKUM_WRITE;
+    is_stopped(2, writes);
+    is_wait_refused(1, 1, 8, RAZHIKUM_CALL_REFUSED, RAZHIKUM_NOT_SERVED, 0);
+    /* 2 on the write channel alone. */
+    spaced(&trace, "o 0 0 2\no 0 2 1\n");
+    is_served(3, writes);
+    is_wait(2, 1, 0, 2, at_root);
+    channel = RAZHIKUM_READ;
+    is_stopped(2, reads);
+    is_wait_refused(2, 1, 8, RAZHIKUM_CALL_REFUSED, RAZHIKUM_NOT_SERVED, 0);
+    /* 3 on neither, though the trace is accepted; the others are served as if it were not there. */
+    spaced(&trace, "o 0 0 2\no 0 1 2\no 0 2 1\no 0 3 1\n");
+    is_trace(RAZHIKUM_FILE_NONE, RAZHIKUM_ACCEPTED, 0);
+    is_stopped(4, reads);
+    is_wait(1, 2, 0, 3, then_own);
+    channel = RAZHIKUM_WRITE;
+    is_stopped(3, writes);
+    is_wait(2, 1, 0, 2, at_root);
+    /* A line that no slot of the buffer comes to, and an empty buffer. */
+    spaced(&trace, "o 9 3 1\n");
+    is_stopped(0, NULL);
+    channel = RAZHIKUM_READ;
+    is_stopped(0, NULL);
+    other_channels_are_refused();
+}
+
 /* Two accelerators with phi 1 and 4 (docs/MODEL.md, M95): with a return delay of 2 the first offers again in slots 3 and 6. The
  * shares are the same. */
 static void returns(void) {
@@ -367,12 +455,12 @@ static void returns(void) {
     spaced(&tree, DELAYED("2") PAIR);
     is_served(7, late);
     is_wait(0, 2, 3, 0, NULL);
-    is_row(0, 1, 2, 1, 1, 192, 1);
+    is_row(0, 1, 2, 2, 1, 1, 192, 1);
     spaced(&tree, DELAYED("0") PAIR);
     is_served(6, at_once);
     spaced(&tree, BUS PAIR);
     is_served(6, at_once);
-    is_row(0, 1, 2, 1, 1, 192, 1);
+    is_row(0, 1, 2, 2, 1, 1, 192, 1);
 }
 
 /* The tree with the longest text: every field is as long as it can be, all accelerators are on interconnects of two digits, and so
@@ -426,15 +514,15 @@ static void texts(const char *folder) {
 static void examples(const char *folder) {
     spaced(&tree, BUS ROOT ACCS);
     same("accelerators", razhikum_count(tree.text, tree.bytes).accelerators, 2);
-    is_row(0, 1, 2, 10, 5, 2460, 2000);
-    is_row(1, 1, 2, 1, 0, 100, 100);
+    is_row(0, 1, 2, 1, 10, 0, 2245, 2000);
+    is_row(1, 1, 2, 2, 1, 0, 100, 100);
     rows_are_the_report();
     load(&tree, folder, "scanner30.tree");
     load(&trace, folder, "scanner30-read.trace");
     same("accelerators", razhikum_count(tree.text, tree.bytes).accelerators, 3);
-    is_row(0, 2, 15, 1120, 0, 59360, 30000);
-    is_row(1, 1, 3, 16, 0, 1676, 20000);
-    is_row(2, 2, 15, 0, 336, 16768, 100000);
+    is_row(0, 2, 3, 5, 160, 0, 14240, 30000);
+    is_row(1, 1, 3, 3, 16, 0, 1676, 20000);
+    is_row(2, 2, 15, 1, 0, 0, 2320, 100000);
     rows_are_the_report();
     is_trace(RAZHIKUM_FILE_NONE, RAZHIKUM_ACCEPTED, 0);
     /* The laser's tenth waits for two of the camera's and its own ninth; the camera's 65th is held until the second window. */
@@ -442,12 +530,35 @@ static void examples(const char *folder) {
     is_wait(1, 10, 128, 3, laser);
     is_wait(0, 65, 128, 0, NULL);
     is_wait_refused(1, 25, 8, RAZHIKUM_CALL_REFUSED, RAZHIKUM_NOT_SERVED, 0);
+    is_outcome(RAZHIKUM_SLOTS, RAZHIKUM_DONE, RAZHIKUM_ACCEPTED, 0, 432);
+    /* Neither camera nor laser writes, so the map's 24 bursts of a window are served as they come. */
+    load(&trace, folder, "scanner30-write.trace");
+    channel = RAZHIKUM_WRITE;
+    is_outcome(RAZHIKUM_SLOTS, RAZHIKUM_DONE, RAZHIKUM_ACCEPTED, 0, 344);
+    static const uint8_t map[] = {2, RAZHIKUM_OWN, 2, RAZHIKUM_OWN, 2, RAZHIKUM_OWN};
+    is_wait(2, 4, 0, 3, map);
+    channel = RAZHIKUM_READ;
+    is_outcome(RAZHIKUM_SLOTS, RAZHIKUM_STOPPED, RAZHIKUM_ACCEPTED, 0, RAZHIKUM_SLOTS);
+    same("a slot of the map on the read channel", memchr(served, 2, RAZHIKUM_SLOTS) != NULL, 0);
+    /* A map that also reads counts in the read shares of the others, and the trace that asks for its reads is done. */
+    load(&trace, folder, "scanner30-readback-read.trace");
+    is_outcome(RAZHIKUM_SLOTS, RAZHIKUM_STOPPED, RAZHIKUM_ACCEPTED, 0, RAZHIKUM_SLOTS);
+    is_wait_refused(2, 1, 8, RAZHIKUM_CALL_REFUSED, RAZHIKUM_NOT_SERVED, 0);
+    load(&tree, folder, "scanner30-readback.tree");
+    is_row(0, 2, 15, 5, 1120, 0, 59360, 30000);
+    is_row(1, 1, 3, 3, 16, 0, 1676, 20000);
+    is_row(2, 2, 15, 1, 336, 0, 19528, 100000);
+    rows_are_the_report();
+    is_outcome(RAZHIKUM_SLOTS, RAZHIKUM_DONE, RAZHIKUM_ACCEPTED, 0, 432);
     load(&tree, folder, "full.tree");
     load(&trace, folder, "full.trace");
     same("accelerators", razhikum_count(tree.text, tree.bytes).accelerators, 32);
     rows_are_the_report();
-    is_outcome(RAZHIKUM_SLOTS, RAZHIKUM_STOPPED, RAZHIKUM_ACCEPTED, 0, RAZHIKUM_SLOTS);
-    same("an idle slot of the full tree", memchr(served, RAZHIKUM_IDLE, RAZHIKUM_SLOTS) != NULL, 0);
+    for (channel = RAZHIKUM_READ; channel <= RAZHIKUM_WRITE; channel++) {
+        is_outcome(RAZHIKUM_SLOTS, RAZHIKUM_STOPPED, RAZHIKUM_ACCEPTED, 0, RAZHIKUM_SLOTS);
+        same("an idle slot of the full tree", memchr(served, RAZHIKUM_IDLE, RAZHIKUM_SLOTS) != NULL, 0);
+    }
+    channel = RAZHIKUM_READ;
 }
 
 int main(int arguments, char **words) {
@@ -460,6 +571,7 @@ int main(int arguments, char **words) {
     traces();
     waits();
     returns();
+    channels();
     texts(words[1]);
     refused_trees();
     printf("%lu values, no difference\n", compared);

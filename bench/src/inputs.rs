@@ -1,6 +1,7 @@
 //! Random and damaged files for the comparison, and busy trees for the timing. All are made from a seed.
 use crate::peer::machine::Machine;
 use crate::peer::read::{read_tree, Tree};
+use razhikum::Channel;
 
 /// A xorshift generator.
 pub struct Random(u64);
@@ -107,6 +108,17 @@ fn random_ints(random: &mut Random, most: u64, lines: &mut Lines) -> Vec<Place> 
     free
 }
 
+/// Reads and writes of a job: often only one of them, or none.
+fn random_job(random: &mut Random) -> [u64; 2] {
+    let (reads, writes) = (random.within(0, 65_535), random.within(0, 65_535));
+    match random.below(8) {
+        0 => [reads, 0],
+        1 => [0, writes],
+        2 => [0, 0],
+        _ => [reads, writes],
+    }
+}
+
 /// A sound tree of at most so many interconnects and accelerators, whose lines come in any order.
 pub fn random_tree(random: &mut Random, ints: u64, accs: u64) -> Lines {
     let mut lines = vec![random_bus(random)];
@@ -117,10 +129,9 @@ pub fn random_tree(random: &mut Random, ints: u64, accs: u64) -> Lines {
         let at = random.below(numbers.len() as u64) as usize;
         let number = numbers.swap_remove(at);
         let (interconnect, port) = take_place(random, &mut free);
-        let mut acc = vec![number, interconnect, port];
-        for (low, high) in [(1, 16), (1, 1_024), (0, 65_535), (0, 65_535), (0, U32), (1, U32)] {
-            acc.push(random.within(low, high));
-        }
+        let mut acc = vec![number, interconnect, port, random.within(1, 16), random.within(1, 1_024)];
+        acc.extend(random_job(random));
+        acc.extend([random.within(0, U32), random.within(1, U32)]);
         lines.push(fields("acc", &acc));
     }
     lines
@@ -145,15 +156,15 @@ pub fn another_file(random: &mut Random, file: &[u8]) -> Vec<u8> {
     [&bus, &b"\n"[..], &lines[1..].concat()].concat()
 }
 
-/// A sound trace of at most so many lines, with slots close together.
-pub fn random_trace(random: &mut Random, accelerators: u64, lines: u64) -> Lines {
+/// A sound trace of at most so many lines that asks for these accelerators, with slots close together.
+pub fn random_trace(random: &mut Random, accelerators: &[u64], lines: u64) -> Lines {
     let mut slot = 0;
     let step = 1 + random.below(6);
     let most = 1 + random.below(16);
     (0..random.below(lines + 1))
         .map(|_| {
             slot += random.below(step);
-            let a = random.below(accelerators);
+            let a = *random.pick(accelerators);
             let count = 1 + random.below(most);
             fields("o", &[slot, a, count])
         })
@@ -273,7 +284,7 @@ pub fn damage_bytes(random: &mut Random, text: &mut Vec<u8>) {
 }
 
 /// A tree for the timing, without a return delay: one bus line, interconnects as (parent, port), and the interconnect of each
-/// accelerator, which takes the next free port there.
+/// accelerator, which takes the next free port there. Every job reads and writes.
 pub fn tree_of(window: u64, parents: &[(u64, u64)], homes: &[u64]) -> Vec<u8> {
     let mut lines = vec![fields("bus", &[window, 1, 4, 2, 2, 30, 25, 1, 1, 16])];
     lines.push(vec!["int".into(), "0".into(), "-".into(), "-".into(), "4".into()]);
@@ -311,6 +322,21 @@ pub fn full_tree() -> Vec<u8> {
     tree_of(64, &parents, &homes)
 }
 
+/// The same tree with jobs apart: of eight accelerators in a row the second only reads, the fourth only writes, and the sixth does neither.
+pub fn jobs_apart(tree: &[u8]) -> Vec<u8> {
+    let tree = std::str::from_utf8(tree).expect("plain text");
+    let mut lines: Lines = tree.lines().map(|line| line.split('\t').map(str::to_string).collect()).collect();
+    for line in lines.iter_mut().filter(|line| line[0] == "acc") {
+        match line[1].parse::<u64>().expect("a number") % 8 {
+            1 => line[7] = "0".into(),
+            3 => line[6] = "0".into(),
+            5 => line[6..8].fill("0".into()),
+            _ => {}
+        }
+    }
+    text(&lines)
+}
+
 /// The same tree with a return delay.
 pub fn delayed(tree: &[u8], delay: u64) -> Vec<u8> {
     let end = tree.iter().position(|&b| b == b'\n').expect("a bus line");
@@ -345,11 +371,11 @@ pub fn deep_tree(levels: u64) -> Vec<u8> {
     tree_of(64, &parents, &[levels - 1; 8])
 }
 
-/// A trace under which every accelerator holds requests in each of so many slots: it is found by running the machine, with
-/// 16 more requested where less than 24 are pending.
-pub fn busy_trace(tree: &[u8], slots: u32) -> Vec<u8> {
+/// A trace under which every accelerator holds requests in each of so many slots of a channel: it is found by running the machine, with
+/// 16 more requested where less than 24 are pending. Those without a job on the channel hold their first ones to the end.
+pub fn busy_trace(tree: &[u8], channel: Channel, slots: u32) -> Vec<u8> {
     let tree: Tree = read_tree(tree).expect("a sound tree");
-    let mut machine = Machine::fresh(&tree);
+    let mut machine = Machine::fresh(&tree, channel);
     let mut lines = Lines::new();
     for slot in 0..slots {
         for a in 0..tree.accelerators.len() as u8 {

@@ -1,7 +1,7 @@
-//! Times library and peer side by side, and how the times grow.
-use razhikum::{PAGE, TREE_TEXT};
+//! Times library and peer side by side, on both channels, and how the times grow.
+use razhikum::{Channel, PAGE, TREE_TEXT};
 use razhikum_bench::inputs::{
-    busy_trace, deep_tree, delayed, full_tree, longest_tree, middle_tree, small_tree, wide_tree,
+    busy_trace, deep_tree, delayed, full_tree, jobs_apart, longest_tree, middle_tree, small_tree, wide_tree,
 };
 use razhikum_bench::peer;
 use std::hint::black_box;
@@ -11,6 +11,8 @@ use std::time::{Duration, Instant};
 
 const SAMPLES: usize = 9;
 const SLOTS: u32 = 65_536;
+/// The most that a run on the full tree may take on either channel, as a ratio to the peer.
+const MOST: f64 = 1.3;
 
 #[repr(C)]
 struct Timespec {
@@ -150,46 +152,59 @@ fn rewrite_row(what: &str, tree: &[u8]) -> f64 {
     )
 }
 
-/// A run of so many slots under a trace that keeps every accelerator busy. Both read the tree and the trace in the call.
-fn run_row(what: &str, tree: &[u8], slots: u32) -> f64 {
-    let trace = busy_trace(tree, slots);
+/// What is timed, and on which channel.
+fn on_channel(what: &str, channel: Channel) -> String {
+    format!("{what}, {channel}")
+}
+
+/// A run of so many slots of a channel under a trace that keeps every accelerator with a job there busy. Both read the tree and the trace
+/// in the call.
+fn run_row(what: &str, tree: &[u8], channel: Channel, slots: u32) -> f64 {
+    let trace = busy_trace(tree, channel, slots);
     let (mut ours, mut theirs) = (vec![0; slots as usize], vec![0; slots as usize]);
-    let ending = razhikum::run(tree, &trace, &mut ours).expect("a sound trace");
-    assert_eq!(Ok(ending), peer::run::run(tree, &trace, &mut theirs));
+    let ending = razhikum::run(tree, channel, &trace, &mut ours).expect("a sound trace");
+    assert_eq!(Ok(ending), peer::run::run(tree, channel, &trace, &mut theirs));
     assert_eq!(ours, theirs);
     assert!(!ours.contains(&255), "an idle slot");
     row(
-        what,
+        &on_channel(what, channel),
         &mut || {
-            let _ = black_box(razhikum::run(black_box(tree), black_box(&trace), &mut ours));
+            let _ = black_box(razhikum::run(black_box(tree), channel, black_box(&trace), &mut ours));
         },
         &mut || {
-            let _ = black_box(peer::run::run(black_box(tree), black_box(&trace), &mut theirs));
+            let _ = black_box(peer::run::run(black_box(tree), channel, black_box(&trace), &mut theirs));
         },
     )
 }
 
+/// The same on both channels.
+fn run_rows(what: &str, tree: &[u8]) -> [f64; 2] {
+    Channel::BOTH.map(|channel| run_row(what, tree, channel, SLOTS))
+}
+
 /// The accelerator that the last slot of a run serves, and the number of the transaction.
-fn last_served(tree: &[u8], trace: &[u8]) -> (u8, u32) {
+fn last_served(tree: &[u8], channel: Channel, trace: &[u8]) -> (u8, u32) {
     let mut served = vec![0; SLOTS as usize];
-    razhikum::run(tree, trace, &mut served).expect("a sound trace");
+    razhikum::run(tree, channel, trace, &mut served).expect("a sound trace");
     let last = *served.last().expect("a slot");
     (last, served.iter().filter(|&&b| b == last).count() as u32)
 }
 
-/// Why a transaction waited. Both read the tree and the trace in the call.
-fn wait_row(what: &str, tree: &[u8], trace: &[u8], (accelerator, number): (u8, u32)) -> f64 {
+/// Why a transaction of a channel waited. Both read the tree and the trace in the call.
+fn wait_row(what: &str, tree: &[u8], channel: Channel, trace: &[u8], (accelerator, number): (u8, u32)) -> f64 {
     let (mut ours, mut theirs) = (vec![0; SLOTS as usize], vec![0; SLOTS as usize]);
-    let wait = razhikum::why(tree, trace, accelerator, number, &mut ours);
+    let wait = razhikum::why(tree, channel, trace, accelerator, number, &mut ours);
     assert!(wait.is_ok(), "{wait:?}");
-    assert_eq!(wait, peer::why::why(tree, trace, accelerator, number, &mut theirs));
+    assert_eq!(wait, peer::why::why(tree, channel, trace, accelerator, number, &mut theirs));
     row(
-        what,
+        &on_channel(what, channel),
         &mut || {
-            let _ = black_box(razhikum::why(black_box(tree), black_box(trace), accelerator, number, &mut ours));
+            let (tree, trace) = (black_box(tree), black_box(trace));
+            let _ = black_box(razhikum::why(tree, channel, trace, accelerator, number, &mut ours));
         },
         &mut || {
-            let _ = black_box(peer::why::why(black_box(tree), black_box(trace), accelerator, number, &mut theirs));
+            let (tree, trace) = (black_box(tree), black_box(trace));
+            let _ = black_box(peer::why::why(tree, channel, trace, accelerator, number, &mut theirs));
         },
     )
 }
@@ -220,25 +235,33 @@ fn program_row(program: &str, arguments: &[&str], input: Option<&str>) {
     println!("{:<58}{:>14}", format!("{program} {given}"), shown(time));
 }
 
-/// `cargo run --release -- examples` writes the full tree and its trace instead.
+/// `cargo run --release -- examples` writes the full tree and its trace instead. Every job of it reads and writes, so that one trace does
+/// for either channel.
 fn write_examples() {
     let folder = Path::new(env!("CARGO_MANIFEST_DIR")).join("../examples");
     let tree = full_tree();
-    std::fs::write(folder.join("full.trace"), busy_trace(&tree, SLOTS)).expect("written");
+    let [reads, writes] = Channel::BOTH.map(|channel| busy_trace(&tree, channel, SLOTS));
+    assert_eq!(reads, writes);
+    std::fs::write(folder.join("full.trace"), reads).expect("written");
     std::fs::write(folder.join("full.tree"), tree).expect("written");
 }
 
 /// A ratio that the last lines repeat.
-type Target = (&'static str, f64);
+type Target = (String, f64);
+
+/// The ratios of both channels.
+fn on_both(what: &str, ratios: [f64; 2]) -> Vec<Target> {
+    Channel::BOTH.into_iter().zip(ratios).map(|(channel, ratio)| (on_channel(what, channel), ratio)).collect()
+}
 
 fn time_reading(small: &[u8], middle: &[u8], full: &[u8]) -> Vec<Target> {
     let long_trace = b"o\t0\t0\t1\n".repeat(8_192);
     heading("reading and bounds");
-    reading_row("small tree, read", small);
-    reading_row("middle tree, read", middle);
-    let reading = reading_row("full tree, read", full);
-    let trace = trace_row("trace of 65,536 bytes, 8,192 lines, read", full, &long_trace);
-    trace_row("trace of the full tree, read", full, &busy_trace(full, SLOTS));
+    reading_row("small tree read", small);
+    reading_row("middle tree read", middle);
+    let reading = reading_row("full tree read", full);
+    let trace = trace_row("trace of 65,536 bytes, 8,192 lines read", full, &long_trace);
+    trace_row("trace of the full tree read", full, &busy_trace(full, Channel::Read, SLOTS));
     bounds_row("small tree, bounds of all", small);
     bounds_row("middle tree, bounds of all", middle);
     let bounds = bounds_row("full tree, bounds of all", full);
@@ -246,10 +269,10 @@ fn time_reading(small: &[u8], middle: &[u8], full: &[u8]) -> Vec<Target> {
     report_row("middle tree, report", middle);
     let report = report_row("full tree, report", full);
     vec![
-        ("full tree, read", reading),
-        ("trace of 65,536 bytes, read", trace),
-        ("full tree, bounds of all", bounds),
-        ("full tree, report", report),
+        ("full tree read".into(), reading),
+        ("trace of 65,536 bytes read".into(), trace),
+        ("full tree, bounds of all".into(), bounds),
+        ("full tree, report".into(), report),
     ]
 }
 
@@ -259,50 +282,57 @@ fn time_texts(small: &[u8], middle: &[u8], full: &[u8]) -> Vec<Target> {
     rewrite_row("middle tree", middle);
     let of_full = rewrite_row("full tree", full);
     rewrite_row("the longest text, 1,973 bytes", &longest_tree());
-    vec![("full tree, written back", of_full)]
+    vec![("full tree, written back".into(), of_full)]
 }
 
-fn time_runs(small: &[u8], middle: &[u8], full: &[u8]) -> Vec<Target> {
-    heading("65,536 slots");
-    let of_small = run_row("small tree: 1 interconnect, 2 accelerators", small, SLOTS);
-    let of_middle = run_row("middle tree: 4 and 12, 3 levels", middle, SLOTS);
-    let of_full = run_row("full tree: 15 and 32, 4 levels", full, SLOTS);
-    let at_once = run_row("full tree, return delay 0", &delayed(full, 0), SLOTS);
-    let late = run_row("full tree, return delay 15", &delayed(full, 15), SLOTS);
-    vec![
+/// The ratios of the full tree on both channels, and those that the last lines repeat besides.
+fn time_runs(small: &[u8], middle: &[u8], full: &[u8]) -> ([f64; 2], Vec<Target>) {
+    heading("65,536 slots of a channel");
+    let of_small = run_rows("small tree: 1 and 2", small);
+    let of_middle = run_rows("middle tree: 4 and 12, 3 levels", middle);
+    let of_full = run_rows("full tree: 15 and 32, 4 levels", full);
+    let apart = run_rows("full tree, jobs apart", &jobs_apart(full));
+    let at_once = run_rows("full tree, return delay 0", &delayed(full, 0));
+    let late = run_rows("full tree, return delay 15", &delayed(full, 15));
+    let rows = [
         ("small tree, 65,536 slots", of_small),
         ("middle tree, 65,536 slots", of_middle),
-        ("full tree, 65,536 slots", of_full),
+        ("full tree, jobs apart, 65,536 slots", apart),
         ("full tree, return delay 0, 65,536 slots", at_once),
         ("full tree, return delay 15, 65,536 slots", late),
-    ]
+        ("full tree, 65,536 slots", of_full),
+    ];
+    (of_full, rows.into_iter().flat_map(|(what, ratios)| on_both(what, ratios)).collect())
 }
 
 fn time_waits(small: &[u8], middle: &[u8], full: &[u8]) -> Vec<Target> {
     let last = |what: &str, tree: &[u8]| {
-        let trace = busy_trace(tree, SLOTS);
-        wait_row(what, tree, &trace, last_served(tree, &trace))
+        Channel::BOTH.map(|channel| {
+            let trace = busy_trace(tree, channel, SLOTS);
+            wait_row(what, tree, channel, &trace, last_served(tree, channel, &trace))
+        })
     };
-    heading("why, 65,536 slots");
+    heading("why, 65,536 slots of a channel");
     last("small tree, of the last slot", small);
     last("middle tree, of the last slot", middle);
     let of_full = last("full tree, of the last slot", full);
-    wait_row("full tree, of the first slot", full, &busy_trace(full, SLOTS), (0, 1));
-    vec![("full tree, why of the last slot", of_full)]
+    let trace = busy_trace(full, Channel::Read, SLOTS);
+    wait_row("full tree, of the first slot", full, Channel::Read, &trace, (0, 1));
+    on_both("full tree, why of the last slot", of_full)
 }
 
 fn time_growth(full: &[u8]) {
     heading("growth with slots, full tree");
     for slots in [8_192, 16_384, 32_768, 65_536] {
-        run_row(&format!("{slots} slots"), full, slots);
+        run_row(&format!("{slots} slots"), full, Channel::Read, slots);
     }
     heading("growth with accelerators, 2 levels");
     for n in [4, 8, 16, 32] {
-        run_row(&format!("{n} accelerators"), &wide_tree(n), SLOTS);
+        run_row(&format!("{n} accelerators"), &wide_tree(n), Channel::Read, SLOTS);
     }
     heading("growth with levels, 8 accelerators");
     for levels in 1..=4 {
-        run_row(&format!("level {levels}"), &deep_tree(levels), SLOTS);
+        run_row(&format!("level {levels}"), &deep_tree(levels), Channel::Read, SLOTS);
     }
 }
 
@@ -314,17 +344,23 @@ fn main() {
     println!("Processor time, median of {SAMPLES} samples each. A ratio above 1 says that the library takes longer.");
     let mut targets = time_reading(&small, &middle, &full);
     targets.extend(time_texts(&small, &middle, &full));
-    targets.extend(time_runs(&small, &middle, &full));
+    let (ratios, of_runs) = time_runs(&small, &middle, &full);
+    targets.extend(of_runs);
     targets.extend(time_waits(&small, &middle, &full));
     time_growth(&full);
 
     println!("\nprograms, from start to end by the wall clock");
     program_row("report", &[], Some("examples/full.tree"));
     program_row("rewrite", &[], Some("examples/full.tree"));
-    program_row("simulate", &["examples/full.tree", "examples/full.trace"], None);
+    for channel in Channel::BOTH {
+        program_row("simulate", &[&channel.to_string(), "examples/full.tree", "examples/full.trace"], None);
+    }
 
     println!();
     for (what, ratio) in targets {
         println!("{what}: library/peer {ratio:.2}");
     }
+    let [read, write] = ratios;
+    let verdict = if read.max(write) <= MOST { "at most 1.3 on both channels" } else { "above 1.3" };
+    println!("\nfull tree, 65,536 slots: read {read:.2}, write {write:.2}: {verdict}");
 }

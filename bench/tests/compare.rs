@@ -1,13 +1,14 @@
-//! Compares the library with the peer on random and damaged files, runs and waits also with the simple simulator, and texts with lines
-//! put in order. The seed is fixed. A difference prints the input and ends the test.
+//! Compares the library with the peer on random and damaged files, runs and waits of both channels also with the simple simulator, shares
+//! with sums taken anew, and texts with lines put in order. The seed is fixed. A difference prints the input and ends the test.
 mod common;
 
-use common::simple::{self, Making, Rule};
+use common::shares::{share, Sharing};
+use common::simple::{self, Making, Rule, Service};
 use common::written::{self, Writing};
-use razhikum::{Ending, FileRefused, Refused, Wait, WaitRefused, LIMIT, OWN, PAGE, TREE_TEXT};
+use razhikum::{Bound, Channel, Ending, FileRefused, Refused, Wait, WaitRefused, IDLE, LIMIT, OWN, PAGE, TREE_TEXT};
 use razhikum_bench::inputs::{another_file, damage_bytes, damage_lines, random_trace, random_tree, text, Random};
 use razhikum_bench::peer;
-use razhikum_bench::peer::read::{read_trace, read_tree, Interconnect, Port, Tree};
+use razhikum_bench::peer::read::{read_trace, read_tree, Interconnect, Port, Request, Tree};
 use std::collections::BTreeMap;
 
 const TREES: usize = 1_000_000;
@@ -60,14 +61,72 @@ fn tree_file(random: &mut Random) -> Vec<u8> {
     file
 }
 
-fn compare_tree(file: &[u8], random: &mut Random, counts: &mut Counts, page: &mut [u8; PAGE]) {
+/// Shares that the comparison must find wrong.
+const WRONG_SHARES: [Sharing; 7] = [
+    Sharing::WholePhi,
+    Sharing::OtherChannel,
+    Sharing::JobOfEither,
+    Sharing::OnOwnPort,
+    Sharing::OnlyBeneath,
+    Sharing::OneWithoutJob,
+    Sharing::CutBelow,
+];
+
+/// The counts of a comparison of trees: the answers, what was met, and for each wrong share how many rows would differ.
+#[derive(Default)]
+struct TreeCounts {
+    answers: Counts,
+    kinds: BTreeMap<&'static str, usize>,
+    differing: [usize; WRONG_SHARES.len()],
+}
+
+/// What the comparison of bounds must meet in an accelerator, and whether this one does.
+fn job_kinds(tree: &Tree, a: u8, bound: &Bound) -> [(&'static str, bool); 8] {
+    let job = &tree.accelerators[a as usize];
+    let no_other = |job_of: fn(&peer::read::Accelerator) -> u64| {
+        let others = tree.accelerators.iter().enumerate().filter(|&(b, _)| b != a as usize);
+        others.clone().count() > 0 && others.map(|(_, other)| job_of(other)).all(|n| n == 0)
+    };
+    [
+        ("an accelerator that only reads", job.reads > 0 && job.writes == 0),
+        ("an accelerator that only writes", job.reads == 0 && job.writes > 0),
+        (
+            "an accelerator that does neither, with a share of both",
+            job.reads + job.writes == 0 && bound.sr > 1 && bound.sw > 1,
+        ),
+        ("a read share below the write share", bound.sr < bound.sw),
+        ("a write share below the read share", bound.sw < bound.sr),
+        ("a read share of 1 beside others", bound.sr == 1 && no_other(|other| other.reads)),
+        ("a write share of 1 beside others", bound.sw == 1 && no_other(|other| other.writes)),
+        ("interference on one channel alone", (bound.yr == 0) != (bound.yw == 0)),
+    ]
+}
+
+/// The shares of a bound, against sums taken anew.
+fn compare_shares(file: &[u8], a: u8, bound: &Bound, counts: &mut TreeCounts) {
+    let tree = read_tree(file).expect("read before");
+    let shares = |sharing| Channel::BOTH.map(|channel| share(&tree, channel, a, sharing));
+    let library = [bound.sr, bound.sw];
+    check("shares", library, shares(Sharing::AsWritten), &[file]);
+    for (count, sharing) in counts.differing.iter_mut().zip(WRONG_SHARES) {
+        *count += usize::from(shares(sharing) != library);
+    }
+    for (kind, met) in job_kinds(&tree, a, bound) {
+        *counts.kinds.entry(kind).or_default() += usize::from(met);
+    }
+}
+
+fn compare_tree(file: &[u8], random: &mut Random, counts: &mut TreeCounts, page: &mut [u8; PAGE]) {
     let tree = read_tree(file);
     let read = tree.as_ref().map(|_| ()).map_err(|e| *e);
     check("tree reader", razhikum::read_tree(file), read, &[file]);
     check("count", razhikum::count(file), tree.map(|t| t.accelerators.len() as u8), &[file]);
     let a = if random.one_in(4) { random.below(256) } else { random.below(8) } as u8;
-    let of_peer = peer::bounds::bound(file, a);
-    check("bound", razhikum::bound(file, a), of_peer, &[file]);
+    let bound = razhikum::bound(file, a);
+    check("bound", bound, peer::bounds::bound(file, a), &[file]);
+    if let Ok(bound) = bound {
+        compare_shares(file, a, &bound, counts);
+    }
 
     // The bytes past the text keep what was there: of most pages the next few thousand are compared, of some all.
     let filled = random.below(256) as u8;
@@ -79,7 +138,7 @@ fn compare_tree(file: &[u8], random: &mut Random, counts: &mut Counts, page: &mu
     check("report", answer, of_peer.map(|()| expected.len()), &[file]);
     expected.resize(room, filled);
     check("report's text", &page[..room], &expected[..], &[file]);
-    counts.add(match read {
+    counts.answers.add(match read {
         Ok(()) => "accepted".into(),
         Err(refused) => format!("refused {}", refused.cause.number()),
     });
@@ -87,23 +146,42 @@ fn compare_tree(file: &[u8], random: &mut Random, counts: &mut Counts, page: &mu
 
 fn compare_trees() -> usize {
     let mut random = Random::new(1);
-    let mut counts = Counts::default();
+    let mut counts = TreeCounts::default();
     let mut page = Box::new([0; PAGE]);
     for _ in 0..TREES {
         let file = tree_file(&mut random);
         compare_tree(&file, &mut random, &mut counts, &mut page);
     }
-    counts.print("tree files: reader, count, a bound, the report");
+    counts.answers.print("tree files: reader, count, a bound, the report");
+    for (kind, count) in counts.kinds {
+        println!("  {kind}: {count}");
+        assert!(count > 0, "no input has {kind}");
+    }
+    for (sharing, count) in WRONG_SHARES.iter().zip(counts.differing) {
+        println!("  shares by {sharing:?} would differ in {count} of them");
+        assert!(count > 0, "the comparison does not find {sharing:?}");
+    }
     TREES
 }
 
-/// A tree, a trace and the length of a buffer, few of them damaged.
-fn run_files(random: &mut Random) -> (Vec<u8>, Vec<u8>, usize) {
+/// Whom a trace of a channel asks for: mostly those with a job there, else any.
+fn asked(random: &mut Random, tree: &[u8], channel: Channel) -> Vec<u64> {
+    let tree = read_tree(tree).expect("a sound tree");
+    let all = 0..tree.accelerators.len() as u64;
+    let with_job: Vec<u64> = all.clone().filter(|&a| tree.accelerators[a as usize].job(channel) > 0).collect();
+    if with_job.is_empty() || random.one_in(6) {
+        return all.collect();
+    }
+    with_job
+}
+
+/// A tree, a trace of a channel and the length of a buffer, few of them damaged.
+fn run_files(random: &mut Random, channel: Channel) -> (Vec<u8>, Vec<u8>, usize) {
     let (ints, accs) = *random.pick(&[(1, 3), (3, 5), (5, 12), (15, 32)]);
     let mut tree = text(&random_tree(random, ints, accs));
-    let known = read_tree(&tree).map_or(1, |t| t.accelerators.len() as u64);
+    let asked = asked(random, &tree, channel);
     let lines = *random.pick(&[4, 12, 12, 40]);
-    let mut requests = random_trace(random, known, lines);
+    let mut requests = random_trace(random, &asked, lines);
     if random.one_in(6) {
         damage_lines(random, &mut requests);
     }
@@ -136,22 +214,93 @@ fn run_answer(answer: &Result<Ending, FileRefused>) -> String {
 }
 
 /// Ways to make a run that the comparison must find wrong.
-const WRONG_RUNS: [Making; 6] = [
+const WRONG_RUNS: [Making; 10] = [
     Making::BudgetOfWholeRun,
     Making::HomeAtOnce,
     Making::HomeOneSlotEarly,
     Making::HomeOneSlotLate,
     Making::HomeWithWindow,
     Making::DoneWhenHome,
+    Making::AdmitsWithoutJob,
+    Making::OtherChannel,
+    Making::JobOfEither,
+    Making::DropsWithoutJob,
 ];
 
-/// The counts of a comparison of runs: the answers, and for each wrong way how many runs would differ.
+/// The counts of a comparison of runs: the answers on each channel, what was met, for each wrong way how many runs would differ, and in how
+/// many runs that admit what has no job on the channel a transaction waits longer than its share allows.
 #[derive(Default)]
 struct RunCounts {
-    answers: Counts,
+    answers: [Counts; 2],
+    kinds: BTreeMap<&'static str, usize>,
     differing: [usize; WRONG_RUNS.len()],
+    too_late: usize,
 }
 
+/// Whether each transaction is served within its share of the channel, times one more than those of its own before it.
+fn is_in_time(tree: &Tree, channel: Channel, services: &[Service]) -> bool {
+    services.iter().all(|s| {
+        let share = share(tree, channel, s.accelerator, Sharing::AsWritten);
+        ((s.served - s.admitted) as u64) < (s.before as u64 + 1) * share
+    })
+}
+
+/// What the comparison of runs must meet on a channel, and whether this one does.
+fn run_kinds(tree: &Tree, channel: Channel, requests: &[Request], ending: Ending) -> [(&'static str, bool); 8] {
+    let job = |request: &Request| {
+        let job = &tree.accelerators[request.accelerator as usize];
+        match channel {
+            Channel::Read => (job.reads > 0, job.writes > 0),
+            Channel::Write => (job.writes > 0, job.reads > 0),
+        }
+    };
+    let asks = |which| requests.iter().any(|request| job(request) == which);
+    let only_asks = |which| !requests.is_empty() && requests.iter().all(|request| job(request) == which);
+    let stopped = matches!(ending, Ending::Stopped(_));
+    let of_reads = channel == Channel::Read;
+    [
+        ("reads asked of one that only writes", of_reads && asks((false, true))),
+        ("writes asked of one that only reads", !of_reads && asks((false, true))),
+        ("reads of one that only reads", of_reads && asks((true, false)) && !stopped),
+        ("writes of one that only writes", !of_reads && asks((true, false)) && !stopped),
+        ("asked of one that does neither", asks((false, false))),
+        ("nothing asked but of those that do neither", only_asks((false, false)) && stopped),
+        ("a run done, all with jobs on this channel alone", only_asks((true, false)) && !stopped),
+        ("a run stopped by what has no job, in no slot", asks((false, true)) && ending == Ending::Stopped(0)),
+    ]
+}
+
+/// A run of one channel, with every byte of its buffer: the ending and the bytes.
+type Run = (Result<Ending, FileRefused>, Vec<u8>);
+
+/// A run against the simple one, and whether the wrong ways would differ.
+fn compare_made(
+    tree: &Tree,
+    channel: Channel,
+    requests: &[Request],
+    filled: u8,
+    library: &Run,
+    counts: &mut RunCounts,
+) {
+    let made = |making| {
+        let mut out = vec![filled; library.1.len()];
+        let (ending, services) = simple::run(tree, channel, requests, &mut out, making);
+        ((Ok(ending), out), services)
+    };
+    let (run, services) = made(Making::AsWritten);
+    let what = format!("run on the {channel} channel against the simple one");
+    check(&what, library, &run, &[&peer::write::tree_text(tree), format!("{requests:?}").as_bytes()]);
+    assert!(is_in_time(tree, channel, &services), "the bound on waits: {tree:?} {requests:?}");
+    for (count, making) in counts.differing.iter_mut().zip(WRONG_RUNS) {
+        let (run, services) = made(making);
+        *count += usize::from(run != *library);
+        if making == Making::AdmitsWithoutJob {
+            counts.too_late += usize::from(!is_in_time(tree, channel, &services));
+        }
+    }
+}
+
+/// On both channels, whichever the trace was made for.
 fn compare_run(tree: &[u8], trace: &[u8], slots: usize, counts: &mut RunCounts) {
     let read = read_tree(tree)
         .map_err(FileRefused::Tree)
@@ -160,26 +309,29 @@ fn compare_run(tree: &[u8], trace: &[u8], slots: usize, counts: &mut RunCounts) 
     let reading = read.as_ref().map(|_| ()).map_err(|e| *e);
     check("trace reader", razhikum::read_trace(tree, trace), reading, &files);
     let filled = (slots % 256) as u8;
-    let (mut ours, mut theirs) = (vec![filled; slots], vec![filled; slots]);
-    let answer = razhikum::run(tree, trace, &mut ours);
-    check("run", answer, peer::run::run(tree, trace, &mut theirs), &files);
-    check("run's bytes", &ours, &theirs, &files);
-    counts.answers.add(run_answer(&answer));
-    let (Ok(ending), Ok(requests), Ok(tree)) = (answer, read, read_tree(tree)) else {
+    let runs = Channel::BOTH.map(|channel| {
+        let (mut ours, mut theirs) = (vec![filled; slots], vec![filled; slots]);
+        let answer = razhikum::run(tree, channel, trace, &mut ours);
+        let what = format!("run on the {channel} channel");
+        check(&what, answer, peer::run::run(tree, channel, trace, &mut theirs), &files);
+        check(&what, &ours, &theirs, &files);
+        counts.answers[usize::from(channel.number())].add(run_answer(&answer));
+        (answer, ours)
+    });
+    let served = runs.each_ref().map(|(_, out)| out.iter().any(|&b| b != filled && b != IDLE));
+    let kind = "channels that serve differently, both some";
+    *counts.kinds.entry(kind).or_default() += usize::from(served == [true; 2] && runs[0] != runs[1]);
+    let (Ok(requests), Ok(tree)) = (read, read_tree(tree)) else {
         return;
     };
-    if slots > 400 {
-        return;
-    }
-    let made = |making| {
-        let mut out = vec![filled; slots];
-        let (ending, _) = simple::run(&tree, &requests, &mut out, making);
-        (ending, out)
-    };
-    let library = (ending, ours);
-    check("run against the simple one", &library, &made(Making::AsWritten), &files);
-    for (count, making) in counts.differing.iter_mut().zip(WRONG_RUNS) {
-        *count += usize::from(made(making) != library);
+    for (channel, run) in Channel::BOTH.into_iter().zip(&runs) {
+        let Ok(ending) = run.0 else { continue };
+        for (kind, met) in run_kinds(&tree, channel, &requests, ending) {
+            *counts.kinds.entry(kind).or_default() += usize::from(met);
+        }
+        if slots <= 400 {
+            compare_made(&tree, channel, &requests, filled, run, counts);
+        }
     }
 }
 
@@ -187,14 +339,23 @@ fn compare_runs() -> usize {
     let mut random = Random::new(2);
     let mut counts = RunCounts::default();
     for _ in 0..RUNS {
-        let (tree, trace, slots) = run_files(&mut random);
+        let channel = *random.pick(&Channel::BOTH);
+        let (tree, trace, slots) = run_files(&mut random, channel);
         compare_run(&tree, &trace, slots, &mut counts);
     }
-    counts.answers.print("runs: trace reader, run with every byte of the buffer");
+    for (channel, answers) in Channel::BOTH.iter().zip(&counts.answers) {
+        answers.print(&format!("runs on the {channel} channel: trace reader, run with every byte of the buffer"));
+    }
+    for (kind, count) in counts.kinds {
+        println!("  {kind}: {count}");
+        assert!(count > 0, "no input has {kind}");
+    }
     for (making, count) in WRONG_RUNS.iter().zip(counts.differing) {
         println!("  a run by {making:?} would differ in {count} of them");
         assert!(count > 0, "the comparison does not find {making:?}");
     }
+    println!("  a run by AdmitsWithoutJob would break the bound on waits in {} of them", counts.too_late);
+    assert!(counts.too_late > 0, "the smaller shares need no machine that admits less");
     RUNS
 }
 
@@ -252,16 +413,16 @@ const WRONG: [Rule; 6] = [
 ];
 
 /// A wait against the simple simulator, where the run is done within 400 slots. Counts for each wrong rule whether it would differ.
-fn compare_simple(files: [&[u8]; 2], a: u8, number: u32, differing: &mut [usize; WRONG.len()]) {
+fn compare_simple(files: [&[u8]; 2], channel: Channel, a: u8, number: u32, differing: &mut [usize; WRONG.len()]) {
     let mut short = [0; 400];
-    if !matches!(razhikum::run(files[0], files[1], &mut short), Ok(Ending::Done(_))) {
+    if !matches!(razhikum::run(files[0], channel, files[1], &mut short), Ok(Ending::Done(_))) {
         return;
     }
     let tree = read_tree(files[0]).expect("read before");
     let requests = read_trace(tree.accelerators.len(), files[1]).expect("read before");
-    let (_, services) = simple::run(&tree, &requests, &mut short, Making::AsWritten);
+    let (_, services) = simple::run(&tree, channel, &requests, &mut short, Making::AsWritten);
     let mut list = [0; 800];
-    let library = razhikum::why(files[0], files[1], a, number, &mut list).ok();
+    let library = razhikum::why(files[0], channel, files[1], a, number, &mut list).ok();
     let library = library.map(|wait| (wait.slot as usize, wait.pairs.to_vec()));
     let told = |rule| simple::why(&tree, &services, a, number, rule);
     check("wait against the simple one", &library, &told(Rule::AsWritten), &files);
@@ -270,27 +431,40 @@ fn compare_simple(files: [&[u8]; 2], a: u8, number: u32, differing: &mut [usize;
     }
 }
 
-/// A wait that is asked for: the number of the transaction and the length of the buffer; the tree's window and return delay, how many
-/// transactions of the accelerator the run serves, and whether the run is stopped.
+/// A wait that is asked for: the channel, the number of the transaction and the length of the buffer; the tree's window and return delay,
+/// the accelerator's job on this channel and on the other, how many of its transactions the run serves, and whether the run is stopped.
 struct Asked {
+    channel: Channel,
     number: u32,
     room: usize,
     window: u32,
     delay: u32,
+    job: Option<(u64, u64)>,
     most: u32,
     stopped: bool,
 }
 
 /// What the comparison of waits must meet, and whether this one does.
-fn kinds(asked: &Asked, answer: &Told) -> [(&'static str, bool); 20] {
-    let &Asked { number, room, window, delay, most, stopped } = asked;
+fn kinds(asked: &Asked, answer: &Told) -> [(&'static str, bool); 27] {
+    let &Asked { channel, number, room, window, delay, job, most, stopped } = asked;
     let refused = |by| matches!(answer, Err(WaitRefused::Call(r)) if r.cause.number() == by);
     let wait = answer.ok();
     let told = wait.is_some();
     let entry = |is: fn(u8) -> bool| wait.is_some_and(|w| w.pairs.iter().any(|pair| is(pair[1])));
     let list = wait.map_or(0, |w| 2 * w.count as usize);
     let windows = wait.map_or((0, 0), |w| (w.slot / window, (w.slot + w.count) / window));
+    let of_reads = channel == Channel::Read;
     [
+        ("a list of the read channel", list > 0 && of_reads),
+        ("a list of the write channel", list > 0 && !of_reads),
+        ("a list of a stopped run", list > 0 && stopped),
+        ("a list of one that only reads", list > 0 && of_reads && job.is_some_and(|job| job.1 == 0)),
+        ("a list of one that only writes", list > 0 && !of_reads && job.is_some_and(|job| job.1 == 0)),
+        (
+            "number 1 of one with a job on the other channel alone",
+            refused(12) && number == 1 && matches!(job, Some((0, 1..))),
+        ),
+        ("number 1 of one without a job", refused(12) && number == 1 && job == Some((0, 0))),
         ("a slot of the same accelerator", entry(|met| met == OWN)),
         ("a meeting at the root", entry(|met| met == 0)),
         ("a meeting below the root", entry(|met| met != 0 && met != OWN)),
@@ -322,30 +496,56 @@ struct WaitCounts {
     differing: [usize; WRONG.len()],
 }
 
+/// The reads and the writes of an accelerator's job, those of this channel first.
+fn job(tree: &Tree, channel: Channel, a: u8) -> Option<(u64, u64)> {
+    let job = tree.accelerators.get(usize::from(a))?;
+    Some(match channel {
+        Channel::Read => (job.reads, job.writes),
+        Channel::Write => (job.writes, job.reads),
+    })
+}
+
+/// A whole list is shorter than the share of the channel, times one more than the own ones in it, and has at most as many others.
+fn is_within_share(tree: &[u8], channel: Channel, a: u8, wait: &Wait) -> bool {
+    let bound = razhikum::bound(tree, a).expect("a bound");
+    let share = match channel {
+        Channel::Read => bound.sr,
+        Channel::Write => bound.sw,
+    };
+    let own = wait.pairs.iter().filter(|pair| pair[1] == OWN).count() as u64;
+    let others = wait.pairs.len() as u64 - own;
+    u64::from(wait.count) < (own + 1) * share && others <= (own + 1) * (share - 1)
+}
+
 fn compare_wait(random: &mut Random, counts: &mut WaitCounts) {
-    let (tree, trace, _) = run_files(random);
+    let channel = *random.pick(&Channel::BOTH);
+    let (tree, trace, _) = run_files(random, channel);
     let files = [&tree[..], &trace[..]];
     let mut served = vec![255; LIMIT];
-    let ending = razhikum::run(&tree, &trace, &mut served);
+    let ending = razhikum::run(&tree, channel, &trace, &mut served);
     served.retain(|&b| b != 255);
-    let (known, window, delay) =
-        read_tree(&tree).map_or((1, 1, 0), |t| (t.accelerators.len(), t.bus.window, t.bus.delay));
+    let read = read_tree(&tree).unwrap_or_default();
+    let known = read.accelerators.len().max(1);
     let (a, number) = question(random, known as u64, &served);
-    let count = peer::why::why(&tree, &trace, a, number, &mut []).map_or(0, |wait| wait.count);
+    let count = peer::why::why(&tree, channel, &trace, a, number, &mut []).map_or(0, |wait| wait.count);
     let (room, filled) = (room(random, count), random.below(256) as u8);
     let (mut ours, mut theirs) = (vec![filled; room], vec![filled; room]);
-    let answer = razhikum::why(&tree, &trace, a, number, &mut ours);
+    let answer = razhikum::why(&tree, channel, &trace, a, number, &mut ours);
     counts.answers.add(wait_answer(&answer));
     let most = served.iter().filter(|&&b| b == a).count() as u32;
     let stopped = matches!(ending, Ok(Ending::Stopped(_)));
-    for (kind, met) in kinds(&Asked { number, room, window, delay, most, stopped }, &answer) {
+    let (window, delay, job) = (read.bus.window.max(1), read.bus.delay, job(&read, channel, a));
+    for (kind, met) in kinds(&Asked { channel, number, room, window, delay, job, most, stopped }, &answer) {
         *counts.kinds.entry(kind).or_default() += usize::from(met);
     }
-    let what = format!("wait of accelerator {a}, number {number}, in {room} bytes");
-    check(&what, answer, peer::why::why(&tree, &trace, a, number, &mut theirs), &files);
+    let what = format!("wait of accelerator {a} on the {channel} channel, number {number}, in {room} bytes");
+    check(&what, answer, peer::why::why(&tree, channel, &trace, a, number, &mut theirs), &files);
+    if let Some(wait) = answer.ok().filter(|wait| wait.pairs.len() == wait.count as usize) {
+        check(&what, is_within_share(&tree, channel, a, &wait), true, &files);
+    }
     check(&what, &ours, &theirs, &files);
     if ending.is_ok() && usize::from(a) < known {
-        compare_simple(files, a, number, &mut counts.differing);
+        compare_simple(files, channel, a, number, &mut counts.differing);
     }
 }
 

@@ -1,8 +1,12 @@
-//! Figures of document 01 ("Figures to check by"), waits on them, return delays, trees written back, and the limits on sizes, by library
-//! and peer alike.
-use razhikum::{Ending, FileRefused, Refused, Wait, WaitRefused, LIMIT, OWN, PAGE, TREE_TEXT};
-use razhikum_bench::inputs::longest_tree;
+//! Figures of document 01 ("Figures to check by"), waits on them, return delays, trees written back, both channels, and the limits on
+//! sizes, by library and peer alike; and the peer's single calls.
+use razhikum::{Bound, Channel, Ending, FileRefused, Refused, Wait, WaitRefused, IDLE, LIMIT, OWN, PAGE, TREE_TEXT};
+use razhikum_bench::inputs::{longest_tree, random_trace, random_tree, text, Random};
 use razhikum_bench::peer;
+use razhikum_bench::peer::calls::{fresh, State};
+use razhikum_bench::peer::read::{read_trace, read_tree, Request, Tree};
+use std::collections::BTreeSet;
+use Channel::{Read, Write};
 
 const BUS: &str = "bus 16 1 4 2 2 30 25 1 1 16\nint 0 - - 1\n";
 
@@ -10,20 +14,41 @@ fn file(spaced: &str) -> Vec<u8> {
     spaced.replace(' ', "\t").into_bytes()
 }
 
-fn shares(tree: &[u8], expected: &[u64]) {
-    for (a, share) in expected.iter().enumerate() {
-        let bound = razhikum::bound(tree, a as u8).expect("a bound");
-        assert_eq!(bound.share, *share);
-        assert_eq!(Ok(bound), peer::bounds::bound(tree, a as u8));
+fn bound(tree: &[u8], a: u8) -> Bound {
+    let bound = razhikum::bound(tree, a).expect("a bound");
+    assert_eq!(Ok(bound), peer::bounds::bound(tree, a));
+    bound
+}
+
+/// The shares of each accelerator, reads first.
+fn shares_apart(tree: &[u8], expected: &[(u64, u64)]) {
+    for (a, shares) in (0..).zip(expected) {
+        let bound = bound(tree, a);
+        assert_eq!((bound.sr, bound.sw), *shares, "accelerator {a}");
     }
 }
 
-fn run(tree: &[u8], trace: &[u8], slots: usize) -> (Result<Ending, FileRefused>, Vec<u8>) {
+/// Where every job reads and writes, the share of each accelerator is the same on both channels.
+fn shares(tree: &[u8], expected: &[u64]) {
+    shares_apart(tree, &expected.iter().map(|&share| (share, share)).collect::<Vec<_>>());
+}
+
+/// The ending of a run and the bytes of its buffer.
+type Run = (Result<Ending, FileRefused>, Vec<u8>);
+
+fn run_on(tree: &[u8], channel: Channel, trace: &[u8], slots: usize) -> Run {
     let (mut out, mut other) = (vec![99; slots], vec![99; slots]);
-    let ending = razhikum::run(tree, trace, &mut out);
-    assert_eq!(ending, peer::run::run(tree, trace, &mut other));
+    let ending = razhikum::run(tree, channel, trace, &mut out);
+    assert_eq!(ending, peer::run::run(tree, channel, trace, &mut other));
     assert_eq!(out, other);
     (ending, out)
+}
+
+/// Where every job reads and writes, a run is the same on both channels.
+fn run(tree: &[u8], trace: &[u8], slots: usize) -> Run {
+    let [reads, writes] = Channel::BOTH.map(|channel| run_on(tree, channel, trace, slots));
+    assert_eq!(reads, writes);
+    reads
 }
 
 #[test]
@@ -37,12 +62,22 @@ fn cases_1_and_2() {
     assert_eq!(out[..9], [0, 1, 0, 2, 0, 1, 0, 3, 99]);
 }
 
-fn wait(tree: &[u8], trace: &[u8], a: u8, number: u32, expected: Result<(u32, u32, &[[u8; 2]]), Refused>) {
+/// The slot of admission, the count and the list of a wait, or its refusal.
+type Told<'a> = Result<(u32, u32, &'a [[u8; 2]]), Refused>;
+
+fn wait_on(tree: &[u8], channel: Channel, trace: &[u8], a: u8, number: u32, expected: Told) {
     let expected = expected.map(|(slot, count, pairs)| Wait { count, slot, pairs }).map_err(WaitRefused::Call);
     let (mut out, mut other) = (vec![99; LIMIT], vec![99; LIMIT]);
-    assert_eq!(razhikum::why(tree, trace, a, number, &mut out), expected);
-    assert_eq!(peer::why::why(tree, trace, a, number, &mut other), expected);
+    assert_eq!(razhikum::why(tree, channel, trace, a, number, &mut out), expected);
+    assert_eq!(peer::why::why(tree, channel, trace, a, number, &mut other), expected);
     assert_eq!(out, other);
+}
+
+/// Where every job reads and writes, a wait is the same on both channels.
+fn wait(tree: &[u8], trace: &[u8], a: u8, number: u32, expected: Told) {
+    for channel in Channel::BOTH {
+        wait_on(tree, channel, trace, a, number, expected);
+    }
 }
 
 #[test]
@@ -78,9 +113,9 @@ fn a_list_longer_than_the_largest_buffer() {
     }
     let (tree, trace) = (file(&tree), file(&trace));
     let (mut out, mut other) = (vec![99; LIMIT], vec![99; LIMIT]);
-    let wait = razhikum::why(&tree, &trace, 28, 1, &mut out).expect("a wait");
-    assert_eq!(Ok(wait), peer::why::why(&tree, &trace, 28, 1, &mut other));
-    let share = razhikum::bound(&tree, 28).expect("a bound").share;
+    let wait = razhikum::why(&tree, Read, &trace, 28, 1, &mut out).expect("a wait");
+    assert_eq!(Ok(wait), peer::why::why(&tree, Read, &trace, 28, 1, &mut other));
+    let share = bound(&tree, 28).sr;
     assert!(wait.count > 32_768 && u64::from(wait.count) < share, "{} of {share}", wait.count);
     assert_eq!((wait.slot, wait.pairs.len()), (0, 32_768));
     assert_eq!(wait.pairs[..17], [&[[0, 0]; 16][..], &[[1, 0]]].concat());
@@ -101,7 +136,7 @@ fn cases_3_and_4() {
 fn the_report() {
     let tree = file("bus 8 1 4 2 2 30 25 1 1 16\nint 0 - - 1\nacc 0 0 0 4 2 10 5 1000 2000\nacc 1 0 3 4 2 1 0 0 100\n");
     let expected = file(
-        "acc level share yr yw resp period verdict\n0 1 2 10 5 2460 2000 late\n1 1 2 1 0 100 100 meets\nall late\n",
+        "acc level sr sw yr yw resp period verdict\n0 1 2 1 10 0 2245 2000 late\n1 1 2 2 1 0 100 100 meets\nall late\n",
     );
     let mut page = Box::new([0; PAGE]);
     assert_eq!(razhikum::report(&tree, &mut page), Ok(&expected[..]));
@@ -219,6 +254,152 @@ fn refused_trees_are_not_written() {
         is_written_in(&tree, room, Err(Refused::by(2, 3)));
         is_written_in(b"", room, Err(Refused::by(3, 1)));
     }
+}
+
+/// One interconnect, g 2: accelerator 0 reads and writes, 1 only reads, 2 only writes, 3 does neither. Capacities are 4, 4, 0, 0 for reads and
+/// 4, 0, 1, 0 for writes.
+fn apart(delay: &str) -> Vec<u8> {
+    let accs = "acc 0 0 0 4 8 10 5 0 2000\nacc 1 0 1 4 8 1 0 0 100\nacc 2 0 2 1 8 0 3 0 1000\nacc 3 0 3 4 8 0 0 0 1\n";
+    file(&format!("bus 16 1 4 2 2 30 25 1 1 16{delay}\nint 0 - - 2\n{accs}"))
+}
+
+#[test]
+fn channels_apart() {
+    let tree = apart("");
+    shares_apart(&tree, &[(3, 2), (3, 4), (5, 3), (5, 4)]);
+    let of_0 = bound(&tree, 0);
+    assert_eq!((of_0.yr, of_0.yw, of_0.response, of_0.meets), (20, 5, 1_930, true));
+    let trace = file("o 0 0 2\no 0 1 2\no 0 2 1\no 0 3 1\n");
+    let idle = [IDLE; 4];
+    let (ending, out) = run_on(&tree, Read, &trace, 8);
+    assert_eq!((ending, &out[..]), (Ok(Ending::Stopped(8)), &[&[0, 0, 1, 1], &idle[..]].concat()[..]));
+    let (ending, out) = run_on(&tree, Write, &trace, 7);
+    assert_eq!((ending, &out[..]), (Ok(Ending::Stopped(7)), &[&[0, 0, 2], &idle[..]].concat()[..]));
+    wait_on(&tree, Read, &trace, 1, 2, Ok((0, 3, &[[0, 0], [0, 0], [1, OWN]])));
+    wait_on(&tree, Write, &trace, 2, 1, Ok((0, 2, &[[0, 0], [0, 0]])));
+    for (channel, a) in [(Write, 1), (Read, 2), (Read, 3), (Write, 3)] {
+        wait_on(&tree, channel, &trace, a, 1, Err(Refused::by(12, 0)));
+    }
+    let of_reads = file("o 0 0 2\no 0 1 2\n");
+    assert_eq!(run_on(&tree, Read, &of_reads, 8).0, Ok(Ending::Done(4)));
+    assert_eq!(run_on(&tree, Write, &of_reads, 8).0, Ok(Ending::Stopped(8)));
+    // In a buffer of 0 bytes, and where the slot of the line does not come.
+    assert_eq!(run_on(&tree, Write, &of_reads, 0).0, Ok(Ending::Stopped(0)));
+    assert_eq!(run_on(&tree, Read, &file("o 9 3 1\n"), 8), (Ok(Ending::Stopped(8)), vec![IDLE; 8]));
+}
+
+/// Two levels: the port of interconnect 1 counts for those beneath it that have the channel in their jobs. Accelerator 0 is on the root, 1
+/// (phi 3, only writes) and 2 (phi 2, reads and writes) are beneath; g is 4 and 16.
+#[test]
+fn shares_beneath_an_interconnect() {
+    let ints = BUS.replace("- - 1", "- - 4");
+    let accs = "acc 0 0 0 4 8 1 1 0 1\nacc 1 1 0 3 8 0 1 0 1\nacc 2 1 1 2 8 1 1 0 1\n";
+    // 0: 1 + min(4, 2), 1 + min(4, 5). 1: (1 + 2) * (1 + 4) on both. 2: (1 + 0) * (1 + 4), (1 + 3) * (1 + 4).
+    shares_apart(&file(&format!("{ints}int 1 0 1 16\n{accs}")), &[(3, 5), (15, 15), (5, 20)]);
+    // Nobody beneath reads: for the reads of 0 the port counts 0.
+    let accs = accs.replace("acc 2 1 1 2 8 1 1", "acc 2 1 1 2 8 0 1");
+    shares_apart(&file(&format!("{ints}int 1 0 1 16\n{accs}")), &[(1, 5), (5, 15), (5, 20)]);
+}
+
+/// The peer's answer to an offer and to a slot, on a state that stays as it was where it is refused.
+fn refused_call(tree: &Tree, state: &State, a: u8) -> [Option<u8>; 2] {
+    let (mut offered, mut served) = (state.clone(), state.clone());
+    let refusals = [offered.offer(tree, a).err(), served.serve(tree).err()];
+    for (refusal, after) in refusals.iter().zip([&offered, &served]) {
+        assert!(refusal.is_none() || after == state);
+    }
+    refusals
+}
+
+/// "14 for an offer on a channel where the accelerator has 0 transactions, after 7 and before 8." A state in which such a one has waiting or
+/// returning transactions is 11, so that 8 cannot be due there; 9 can, since what was admitted is not looked at.
+#[test]
+fn refusals_of_single_calls() {
+    let tree = read_tree(&apart(" 2")).expect("a sound tree");
+    for channel in Channel::BOTH {
+        let sound = fresh(&tree, channel);
+        assert!(sound.keeps_rules(&tree));
+        let without = if channel == Read { 2 } else { 1 };
+        let with = 3 - without;
+        for (a, refusal) in [(0, None), (with, None), (without, Some(14)), (3, Some(14)), (4, Some(7)), (255, Some(7))]
+        {
+            assert_eq!(refused_call(&tree, &sound, a), [refusal, None], "accelerator {a} on the {channel} channel");
+        }
+        let mut used = sound.clone();
+        used.admitted[..4].fill(8);
+        assert!(used.keeps_rules(&tree));
+        for (a, refusal) in [(0, 9), (with, 9), (without, 14), (3, 14), (4, 7)] {
+            assert_eq!(refused_call(&tree, &used, a), [Some(refusal), None]);
+        }
+        let mut over = sound.clone();
+        over.admitted[without as usize] = 9;
+        assert_eq!(refused_call(&tree, &over, 4), [Some(11); 2]);
+        for a in [without, 3] {
+            let (mut waiting, mut returning) = (sound.clone(), sound.clone());
+            waiting.waiting[a as usize] = 1;
+            returning.returning[a as usize] = 2;
+            for broken in [waiting, returning] {
+                assert!(!broken.keeps_rules(&tree));
+                assert_eq!([a, 0, 4].map(|a| refused_call(&tree, &broken, a)), [[Some(11); 2]; 3]);
+                // On the other channel it is sound for the one that has a job there, and broken for 3.
+                let other = State { channel: if channel == Read { Write } else { Read }, ..broken };
+                assert_eq!(other.keeps_rules(&tree), a == without);
+            }
+        }
+        let mut full = sound.clone();
+        (full.waiting[0], full.returning[0]) = (2, 6);
+        assert_eq!(refused_call(&tree, &full, 0), [Some(8), None]);
+        full.admitted[0] = 8;
+        assert_eq!(refused_call(&tree, &full, 0), [Some(8), None]);
+        let last = State { slot: u32::MAX, ..sound };
+        assert_eq!(refused_call(&tree, &last, without), [Some(14), Some(10)]);
+    }
+}
+
+/// Makes a run as calls from the fresh state: before each slot each accelerator in turn offers what it holds until one is refused. The
+/// slots serve what the run says, it is done exactly if nothing is left, and each number by which an offer was refused is added.
+fn is_list_of_calls(tree: &Tree, channel: Channel, requests: &[Request], run: &Run, refusals: &mut BTreeSet<u8>) {
+    let (Ok(Ending::Done(slots)) | Ok(Ending::Stopped(slots))) = run.0 else {
+        panic!("a sound run: {run:?}");
+    };
+    let mut state = fresh(tree, channel);
+    let mut held = vec![0; tree.accelerators.len()];
+    let mut left = requests.iter().peekable();
+    for &byte in &run.1[..slots as usize] {
+        while let Some(request) = left.next_if(|request| request.slot <= state.slot) {
+            held[request.accelerator as usize] += u32::from(request.count);
+        }
+        for (a, held) in (0..).zip(&mut held) {
+            while *held > 0 {
+                if let Err(refusal) = state.offer(tree, a) {
+                    refusals.insert(refusal);
+                    break;
+                }
+                *held -= 1;
+            }
+        }
+        assert_eq!(state.serve(tree).map(|served| served.unwrap_or(IDLE)), Ok(byte));
+    }
+    let is_done = left.next().is_none() && held.iter().all(|&n| n == 0) && state.waiting == [0; 32];
+    assert_eq!(run.0 == Ok(Ending::Done(slots)), is_done);
+}
+
+#[test]
+fn runs_are_lists_of_calls() {
+    let mut random = Random::new(5);
+    let mut refusals = BTreeSet::new();
+    for _ in 0..4_000 {
+        let file = text(&random_tree(&mut random, 6, 12));
+        let tree = read_tree(&file).expect("a sound tree");
+        let all: Vec<u64> = (0..tree.accelerators.len() as u64).collect();
+        let trace = text(&random_trace(&mut random, &all, 20));
+        let requests = read_trace(all.len(), &trace).expect("a sound trace");
+        for channel in Channel::BOTH {
+            let run = run_on(&file, channel, &trace, 60);
+            is_list_of_calls(&tree, channel, &requests, &run, &mut refusals);
+        }
+    }
+    assert_eq!(refusals, BTreeSet::from([8, 9, 14]));
 }
 
 /// 65,536 bytes are read, one more is refused by 2 with line 0; the 65,536th transaction of one accelerator by 2.

@@ -1,5 +1,5 @@
 //! Prints which accelerators of a tree file are late, and by how many clock cycles:
-//! `cargo run --release --example bounds -- ../examples/scanner30.tree`
+//! `cargo run --release --example bounds -- ../examples/scanner30-readback.tree`
 use std::error::Error;
 
 fn main() -> Result<(), Box<dyn Error>> {

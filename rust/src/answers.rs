@@ -1,8 +1,44 @@
 //! What the planner answers, in the terms of `docs/FORMAT.md` and `docs/MODEL.md`.
 use core::fmt;
 
-/// Why a file or a call is refused (`docs/FORMAT.md`, F45). Each cause has a number: [`Cause::number`], and back by `from`.
+/// Reads or writes. They travel apart, each on a machine of its own with the same tree and budgets: a run or a wait is of one of them,
+/// and a trace holds the requests of that one. The machine of a channel admits nothing of an accelerator whose job has 0 transactions
+/// there.
 #[derive(Clone, Copy, Debug, PartialEq, Eq, Hash)]
+pub enum Channel {
+    /// The reads of the jobs.
+    Read,
+    /// The writes of the jobs.
+    Write,
+}
+
+impl Channel {
+    /// Both, reads first.
+    pub const BOTH: [Channel; 2] = [Channel::Read, Channel::Write];
+
+    /// The number of this channel, as the archive takes it.
+    pub const fn number(self) -> u8 {
+        match self {
+            Channel::Read => 0,
+            Channel::Write => 1,
+        }
+    }
+}
+
+impl fmt::Display for Channel {
+    /// The word by which the programs take it.
+    fn fmt(&self, f: &mut fmt::Formatter<'_>) -> fmt::Result {
+        f.write_str(match self {
+            Channel::Read => "read",
+            Channel::Write => "write",
+        })
+    }
+}
+
+/// Why a file or a call is refused (`docs/FORMAT.md`, F45). Each cause has a number: [`Cause::number`], and back by `from`. Later
+/// versions may have more causes.
+#[derive(Clone, Copy, Debug, PartialEq, Eq, Hash)]
+#[non_exhaustive]
 pub enum Cause {
     /// 1: a line of wrong shape: record name, count of fields, a malformed number, a missing last LF.
     Shape,
@@ -30,6 +66,8 @@ pub enum Cause {
     NotServed,
     /// 13: the buffer is shorter than the text.
     TooShort,
+    /// 14: the accelerator's job has 0 transactions on this channel. No function here answers it.
+    NoJob,
     /// A number that is none of these, so that every number has its cause. The archive of this version answers none.
     Other(u8),
 }
@@ -50,6 +88,7 @@ impl From<u8> for Cause {
             11 => Cause::Broken,
             12 => Cause::NotServed,
             13 => Cause::TooShort,
+            14 => Cause::NoJob,
             other => Cause::Other(other),
         }
     }
@@ -72,6 +111,7 @@ impl Cause {
             Cause::Broken => 11,
             Cause::NotServed => 12,
             Cause::TooShort => 13,
+            Cause::NoJob => 14,
             Cause::Other(other) => other,
         }
     }
@@ -93,6 +133,7 @@ impl fmt::Display for Cause {
             Cause::Broken => "a configuration or a state that breaks its rules",
             Cause::NotServed => "the run serves no transaction of this number",
             Cause::TooShort => "a buffer shorter than the text",
+            Cause::NoJob => "no transactions on this channel in the accelerator's job",
             Cause::Other(_) => "an unknown cause",
         })
     }
@@ -187,7 +228,8 @@ pub struct Wait<'a> {
 pub enum Ending {
     /// Everything that the trace asks for is served.
     Done(u32),
-    /// The buffer is full, and something is left.
+    /// The buffer is full, and something is left. So it always is where the trace asks for an accelerator whose job has 0 transactions
+    /// on the channel: such requests stay held.
     Stopped(u32),
 }
 
@@ -196,11 +238,14 @@ pub enum Ending {
 pub struct Bound {
     /// The level of the interconnect that it is on; the root has level 1.
     pub level: u8,
-    /// Within how many slots a transaction with none of its own before it is served.
-    pub share: u64,
-    /// The interference of its reads, in slots.
+    /// Its share of the read channel: within how many slots of that channel, counted from its admission, a read with none of its own
+    /// before it is served. An accelerator whose job has no reads counts 0 in the `sr` of others; its own is given all the same.
+    pub sr: u64,
+    /// Its share of the write channel, likewise.
+    pub sw: u64,
+    /// The interference of its reads, in slots of the read channel.
     pub yr: u64,
-    /// The interference of its writes, in slots.
+    /// The interference of its writes, in slots of the write channel.
     pub yw: u64,
     /// The response of a job, in clock cycles: an upper bound on its time, waiting for a new window left out.
     pub response: u64,

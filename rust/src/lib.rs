@@ -1,6 +1,6 @@
 //! The Razhikum planner for Rust: whether the blocks of a tree of interconnects meet their periods, which block is served in
-//! which slot, and why a burst waited; and a tree written back. The work is done by the proved static library `librazhikum.a`,
-//! which `rt staticlib razhikum` writes for x86-64; this package wraps it: slices in, enums and structs out.
+//! which slot of a channel, and why a burst waited; and a tree written back. The work is done by the proved static library
+//! `librazhikum.a`, which `rt staticlib razhikum` writes for x86-64; this package wraps it: slices in, enums and structs out.
 //!
 //! No function of the library has a condition on the values that it is given, so every call is safe and answers every input,
 //! files of any bytes included. What C passes as a pointer and a length comes from a slice here. Files are those of
@@ -16,16 +16,20 @@
 //!              acc\t1\t0\t3\t4\t2\t1\t0\t0\t100\n";
 //! assert_eq!(razhikum::count(tree)?, 2);
 //! let camera = razhikum::bound(tree, 0)?;
-//! assert_eq!((camera.share, camera.yr, camera.yw), (2, 10, 5));
-//! assert_eq!((camera.response, camera.period, camera.meets), (2460, 2000, false));
+//! assert_eq!((camera.sr, camera.sw, camera.yr, camera.yw), (2, 1, 10, 0));
+//! assert_eq!((camera.response, camera.period, camera.meets), (2245, 2000, false));
 //!
+//! use razhikum::{Channel, Ending};
+//! let trace = b"o\t0\t0\t2\no\t0\t1\t1\n";
 //! let mut served = [0; 4];
-//! let ending = razhikum::run(tree, b"o\t0\t0\t2\no\t0\t1\t1\n", &mut served)?;
-//! assert_eq!(ending, razhikum::Ending::Done(3));
+//! assert_eq!(razhikum::run(tree, Channel::Read, trace, &mut served)?, Ending::Done(3));
 //! assert_eq!(served[..3], [0, 1, 0]);
+//! // Accelerator 1 never writes: as a trace of writes this is stopped, with its request still held.
+//! assert_eq!(razhikum::run(tree, Channel::Write, trace, &mut served)?, Ending::Stopped(4));
+//! assert_eq!(served, [0, 0, razhikum::IDLE, razhikum::IDLE]);
 //!
 //! let mut list = [0; 16];
-//! let wait = razhikum::why(tree, b"o\t0\t0\t2\no\t0\t1\t1\n", 0, 2, &mut list)?;
+//! let wait = razhikum::why(tree, Channel::Read, trace, 0, 2, &mut list)?;
 //! assert_eq!((wait.slot, wait.count), (0, 2));
 //! assert_eq!(wait.pairs, [[0, razhikum::OWN], [1, 0]]);
 //!
@@ -42,10 +46,10 @@
 mod answers;
 mod raw;
 
-pub use answers::{Bound, Cause, Ending, FileRefused, Refused, Wait, WaitRefused};
+pub use answers::{Bound, Cause, Channel, Ending, FileRefused, Refused, Wait, WaitRefused};
 
 /// The version of this wrapper: 10,000 for each first figure, 100 for each second, 1 for each third.
-pub const VERSION: u32 = 10_300;
+pub const VERSION: u32 = 20_000;
 
 /// The size of the page that a report is put on, in bytes.
 pub const PAGE: usize = 65_536;
@@ -118,14 +122,17 @@ pub fn rewrite<'a>(tree: &[u8], out: &'a mut [u8]) -> Result<&'a [u8], Refused> 
     Ok(&out[..r.bytes])
 }
 
-/// Runs a trace on a tree and writes one byte a slot into `out`: the accelerator's number, or [`IDLE`]. The bytes past the slots
-/// used keep their contents; on a refusal all do. With a return delay of r, the last field of the tree's bus line, a transaction
-/// served in slot s is outstanding until slot s + 1 + r starts; a run may be done before that.
-pub fn run(tree: &[u8], trace: &[u8], out: &mut [u8]) -> Result<Ending, FileRefused> {
+/// Runs a trace on a tree, on one channel, and writes one byte a slot into `out`: the accelerator's number, or [`IDLE`]. The bytes
+/// past the slots used keep their contents; on a refusal all do. With a return delay of r, the last field of the tree's bus line, a
+/// transaction served in slot s is outstanding until slot s + 1 + r starts; a run may be done before that. Requests of an accelerator
+/// whose job has 0 transactions on the channel stay held, so that such a run is stopped.
+pub fn run(tree: &[u8], channel: Channel, trace: &[u8], out: &mut [u8]) -> Result<Ending, FileRefused> {
+    let (room, bytes) = (out.as_mut_ptr(), out.len());
     let r = unsafe {
-        raw::razhikum_run(tree.as_ptr(), tree.len(), trace.as_ptr(), trace.len(), out.as_mut_ptr(), out.len())
+        raw::razhikum_run(tree.as_ptr(), tree.len(), channel.number(), trace.as_ptr(), trace.len(), room, bytes)
     };
     let why = Refused::by(r.number, r.line);
+    // Kind 4, a channel that is neither, cannot come back.
     match r.kind {
         0 => Ok(Ending::Done(r.slots)),
         1 => Ok(Ending::Stopped(r.slots)),
@@ -135,23 +142,24 @@ pub fn run(tree: &[u8], trace: &[u8], out: &mut [u8]) -> Result<Ending, FileRefu
 }
 
 /// Lists why a transaction waited: that of this `number`, counted from 1, among those of the accelerator that the run serves. The
-/// run is that of [`run`] with a buffer of [`LIMIT`] bytes, whatever the length of `out`. The list is written into `out`, two
-/// bytes a slot, oldest first, in whole pairs as far as they fit: [`Wait::pairs`] are these. The bytes past it keep their
-/// contents; on a refusal all do.
+/// run is that of [`run`] on the same channel with a buffer of [`LIMIT`] bytes, whatever the length of `out`. The list is written
+/// into `out`, two bytes a slot, oldest first, in whole pairs as far as they fit: [`Wait::pairs`] are these. The bytes past it keep
+/// their contents; on a refusal all do.
 ///
 /// Refused as a run is, then by [`Cause::Unknown`] where the tree has no such accelerator, then by [`Cause::NotServed`] where the
 /// number is 0 or the run serves fewer. Each call makes the run anew, and keeps its bytes on the stack: of all calls it needs
 /// the most.
 pub fn why<'a>(
     tree: &[u8],
+    channel: Channel,
     trace: &[u8],
     accelerator: u8,
     number: u32,
     out: &'a mut [u8],
 ) -> Result<Wait<'a>, WaitRefused> {
-    let (room, bytes) = (out.as_mut_ptr(), out.len());
+    let (room, bytes, c) = (out.as_mut_ptr(), out.len(), channel.number());
     let r = unsafe {
-        raw::razhikum_why(tree.as_ptr(), tree.len(), trace.as_ptr(), trace.len(), accelerator, number, room, bytes)
+        raw::razhikum_why(tree.as_ptr(), tree.len(), c, trace.as_ptr(), trace.len(), accelerator, number, room, bytes)
     };
     let why = Refused::by(r.number, r.line);
     match r.kind {
@@ -173,7 +181,8 @@ pub fn bound(tree: &[u8], accelerator: u8) -> Result<Bound, Refused> {
     refusal(r.number, r.line)?;
     Ok(Bound {
         level: r.level,
-        share: r.share,
+        sr: r.sr,
+        sw: r.sw,
         yr: r.yr,
         yw: r.yw,
         response: r.response,

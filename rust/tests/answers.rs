@@ -1,8 +1,9 @@
 //! Each function on accepted and refused files, with figures worked out by hand from `docs/MODEL.md`.
 use razhikum::{
-    bound, count, read_trace, read_tree, report, rewrite, run, why, Bound, Cause, Ending, FileRefused, Refused, Wait,
-    WaitRefused, IDLE, LIMIT, OWN, PAGE, TREE_TEXT,
+    bound, count, read_trace, read_tree, report, rewrite, run, why, Bound, Cause, Channel, Ending, FileRefused,
+    Refused, Wait, WaitRefused, IDLE, LIMIT, OWN, PAGE, TREE_TEXT,
 };
+use Channel::{Read, Write};
 
 const SMALL: &str = "bus 8 1 4 2 2 30 25 1 1 16\nint 0 - - 1\nacc 0 0 0 4 2 10 5 1000 2000\nacc 1 0 3 4 2 1 0 0 100\n";
 
@@ -19,18 +20,28 @@ fn example(name: &str) -> Vec<u8> {
 fn bounds_of_an_example() {
     let tree = example("scanner30.tree");
     assert_eq!(count(&tree), Ok(3));
-    let camera = Bound { level: 2, share: 15, yr: 1120, yw: 0, response: 59_360, period: 30_000, meets: false };
-    let laser = Bound { level: 1, share: 3, yr: 16, yw: 0, response: 1_676, period: 20_000, meets: true };
-    let map = Bound { level: 2, share: 15, yr: 0, yw: 336, response: 16_768, period: 100_000, meets: true };
+    let camera = Bound { level: 2, sr: 3, sw: 5, yr: 160, yw: 0, response: 14_240, period: 30_000, meets: true };
+    let laser = Bound { level: 1, sr: 3, sw: 3, yr: 16, yw: 0, response: 1_676, period: 20_000, meets: true };
+    let map = Bound { level: 2, sr: 15, sw: 1, yr: 0, yw: 0, response: 2_320, period: 100_000, meets: true };
     assert_eq!([bound(&tree, 0), bound(&tree, 1), bound(&tree, 2)], [Ok(camera), Ok(laser), Ok(map)]);
     assert_eq!(bound(&tree, 3), Err(Refused { cause: Cause::Unknown, line: 0 }));
+}
+
+/// The same scanner with a map that also reads: it counts in the read shares of the others, and the camera is late.
+#[test]
+fn bounds_with_a_map_that_reads() {
+    let tree = example("scanner30-readback.tree");
+    let camera = Bound { level: 2, sr: 15, sw: 5, yr: 1120, yw: 0, response: 59_360, period: 30_000, meets: false };
+    let laser = Bound { level: 1, sr: 3, sw: 3, yr: 16, yw: 0, response: 1_676, period: 20_000, meets: true };
+    let map = Bound { level: 2, sr: 15, sw: 1, yr: 336, yw: 0, response: 19_528, period: 100_000, meets: true };
+    assert_eq!([bound(&tree, 0), bound(&tree, 1), bound(&tree, 2)], [Ok(camera), Ok(laser), Ok(map)]);
 }
 
 #[test]
 fn a_report_and_the_bytes_past_it() {
     let mut page = Box::new([99; PAGE]);
     let text = file(
-        "acc level share yr yw resp period verdict\n0 1 2 10 5 2460 2000 late\n1 1 2 1 0 100 100 meets\nall late\n",
+        "acc level sr sw yr yw resp period verdict\n0 1 2 1 10 0 2245 2000 late\n1 1 2 2 1 0 100 100 meets\nall late\n",
     );
     assert_eq!(report(&file(SMALL), &mut page), Ok(&text[..]));
     assert!(page[text.len()..].iter().all(|&b| b == 99));
@@ -96,16 +107,70 @@ fn runs() {
     let (tree, trace) = (file(SMALL), file("o 0 0 2\no 0 1 1\n"));
     assert_eq!(read_trace(&tree, &trace), Ok(()));
     let mut out = [99; 4];
-    assert_eq!(run(&tree, &trace, &mut out), Ok(Ending::Done(3)));
+    assert_eq!(run(&tree, Read, &trace, &mut out), Ok(Ending::Done(3)));
     assert_eq!(out, [0, 1, 0, 99]);
-    assert_eq!(run(&tree, &trace, &mut out[..2]), Ok(Ending::Stopped(2)));
-    let falling = FileRefused::Trace(Refused { cause: Cause::Falling, line: 2 });
-    assert_eq!(run(&tree, &file("o 5 0 1\no 4 0 1\n"), &mut out), Err(falling));
-    let too_large = FileRefused::Trace(Refused { cause: Cause::Range, line: 0 });
-    assert_eq!(run(&tree, &trace, &mut vec![0; LIMIT + 1]), Err(too_large));
-    let no_tree = FileRefused::Tree(Refused { cause: Cause::Order, line: 1 });
-    assert_eq!((read_trace(b"", &trace), run(b"", &trace, &mut out)), (Err(no_tree), Err(no_tree)));
+    assert_eq!(run(&tree, Read, &trace, &mut out[..2]), Ok(Ending::Stopped(2)));
+    for channel in Channel::BOTH {
+        let falling = FileRefused::Trace(Refused { cause: Cause::Falling, line: 2 });
+        assert_eq!(run(&tree, channel, &file("o 5 0 1\no 4 0 1\n"), &mut out), Err(falling));
+        let too_large = FileRefused::Trace(Refused { cause: Cause::Range, line: 0 });
+        assert_eq!(run(&tree, channel, &trace, &mut vec![0; LIMIT + 1]), Err(too_large));
+        let no_tree = FileRefused::Tree(Refused { cause: Cause::Order, line: 1 });
+        assert_eq!((read_trace(b"", &trace), run(b"", channel, &trace, &mut out)), (Err(no_tree), Err(no_tree)));
+    }
     assert_eq!(out, [0, 1, 0, 99]);
+}
+
+/// Four accelerators on one interconnect with g 2: 0 reads and writes, 1 only reads, 2 only writes, 3 does neither. Of those without a
+/// job on the channel nothing is admitted, and the others are served as if they were not there.
+#[test]
+fn channels() {
+    let tree = file(
+        "bus 8 1 4 2 2 30 25 1 1 16\nint 0 - - 2\nacc 0 0 0 4 8 10 5 0 2000\nacc 1 0 1 4 8 1 0 0 100\n\
+         acc 2 0 2 1 8 0 3 0 1000\nacc 3 0 3 4 8 0 0 0 1\n",
+    );
+    let shares = [0, 1, 2, 3].map(|a| bound(&tree, a).map(|b| (b.sr, b.sw)));
+    assert_eq!(shares, [Ok((3, 2)), Ok((3, 4)), Ok((5, 3)), Ok((5, 4))]);
+    let served = |channel, trace: &str| {
+        let mut out = [99; 6];
+        (run(&tree, channel, &file(trace), &mut out), out)
+    };
+    let of_1 = "o 0 0 2\no 0 1 2\n";
+    assert_eq!(served(Read, of_1), (Ok(Ending::Done(4)), [0, 0, 1, 1, 99, 99]));
+    assert_eq!(served(Write, of_1), (Ok(Ending::Stopped(6)), [0, 0, IDLE, IDLE, IDLE, IDLE]));
+    let of_2 = "o 0 0 2\no 0 2 1\n";
+    assert_eq!(served(Read, of_2), (Ok(Ending::Stopped(6)), [0, 0, IDLE, IDLE, IDLE, IDLE]));
+    assert_eq!(served(Write, of_2), (Ok(Ending::Done(3)), [0, 0, 2, 99, 99, 99]));
+    let of_all = "o 0 0 2\no 0 1 2\no 0 2 1\no 0 3 1\n";
+    assert_eq!(read_trace(&tree, &file(of_all)), Ok(()));
+    assert_eq!(served(Read, of_all), (Ok(Ending::Stopped(6)), [0, 0, 1, 1, IDLE, IDLE]));
+    assert_eq!(served(Write, of_all), (Ok(Ending::Stopped(6)), [0, 0, 2, IDLE, IDLE, IDLE]));
+
+    let mut out = [99; 8];
+    let not_served = Err(WaitRefused::Call(Refused { cause: Cause::NotServed, line: 0 }));
+    for (channel, a) in [(Write, 1), (Read, 2), (Read, 3), (Write, 3)] {
+        assert_eq!(why(&tree, channel, &file(of_all), a, 1, &mut out), not_served);
+    }
+    assert_eq!(out, [99; 8]);
+    let waited = Wait { count: 2, slot: 0, pairs: &[[0, 0], [0, 0]] };
+    for (channel, a) in [(Read, 1), (Write, 2)] {
+        assert_eq!(why(&tree, channel, &file(of_all), a, 1, &mut out), Ok(waited));
+    }
+}
+
+/// The map of an example never reads, so a trace of reads that asks for it is stopped; where it does read, the same trace is done.
+#[test]
+fn a_map_that_does_not_read() {
+    let ended = |tree, channel, trace| {
+        let mut out = vec![99; LIMIT];
+        (run(&example(tree), channel, &example(trace), &mut out), out.iter().filter(|&&b| b == 2).count())
+    };
+    let stopped = Ok(Ending::Stopped(LIMIT as u32));
+    assert_eq!(ended("scanner30.tree", Read, "scanner30-readback-read.trace"), (stopped, 0));
+    assert_eq!(ended("scanner30-readback.tree", Read, "scanner30-readback-read.trace"), (Ok(Ending::Done(432)), 72));
+    assert_eq!(ended("scanner30.tree", Write, "scanner30-write.trace"), (Ok(Ending::Done(344)), 72));
+    assert_eq!(ended("scanner30-readback.tree", Write, "scanner30-write.trace"), (Ok(Ending::Done(344)), 72));
+    assert_eq!(ended("scanner30.tree", Write, "scanner30-read.trace"), (stopped, 0));
 }
 
 /// Two accelerators with phi 1 and 4 (`docs/MODEL.md`, M95): with a return delay of 2 the first offers again in slots 3 and 6.
@@ -119,12 +184,12 @@ fn runs_with_a_return_delay() {
     let trace = file("o 0 0 3\no 0 1 3\n");
     let served = |delay| {
         let mut out = [99; 8];
-        (run(&tree(delay), &trace, &mut out), out)
+        (run(&tree(delay), Read, &trace, &mut out), out)
     };
     assert_eq!(served(" 2"), (Ok(Ending::Done(7)), [0, 1, 1, 0, 1, IDLE, 0, 99]));
     assert_eq!(served(" 0"), (Ok(Ending::Done(6)), [0, 1, 0, 1, 0, 1, 99, 99]));
     assert_eq!(served(""), served(" 0"));
-    assert_eq!(why(&tree(" 2"), &trace, 0, 2, &mut []), Ok(Wait { count: 0, slot: 3, pairs: &[] }));
+    assert_eq!(why(&tree(" 2"), Write, &trace, 0, 2, &mut []), Ok(Wait { count: 0, slot: 3, pairs: &[] }));
     assert_eq!([bound(&tree(" 2"), 0), bound(&tree(" 2"), 1)], [bound(&tree(""), 0), bound(&tree(""), 1)]);
     let refused = |delay| read_tree(&tree(delay)).unwrap_err();
     assert_eq!(refused(" 16"), Refused { cause: Cause::Range, line: 1 });
@@ -138,7 +203,7 @@ fn an_example_with_a_return_delay() {
     let trace = example("scanner15-read.trace");
     let frames = |tree: &[u8]| {
         let mut out = vec![99; LIMIT];
-        let ending = run(tree, &trace, &mut out);
+        let ending = run(tree, Read, &trace, &mut out);
         let camera: Vec<usize> = (0..LIMIT).filter(|&slot| out[slot] == 0).collect();
         (ending, [camera[39], camera[79], camera[119]])
     };
@@ -159,14 +224,15 @@ fn waits() {
     let (tree, trace) = nested();
     let last = [[0, 0], [1, 1], [0, 0], [2, 2], [0, 0], [1, 1], [0, 0]];
     let mut out = [99; 20];
-    assert_eq!(why(&tree, &trace, 3, 1, &mut out), Ok(Wait { count: 7, slot: 0, pairs: &last }));
+    assert_eq!(why(&tree, Read, &trace, 3, 1, &mut out), Ok(Wait { count: 7, slot: 0, pairs: &last }));
     assert_eq!((&out[..14], &out[14..]), (last.as_flattened(), &[99; 6][..]));
-    assert_eq!(why(&tree, &trace, 0, 2, &mut out), Ok(Wait { count: 2, slot: 0, pairs: &[[0, OWN], [1, 0]] }));
-    assert_eq!(why(&tree, &trace, 0, 1, &mut out), Ok(Wait { count: 0, slot: 0, pairs: &[] }));
-    for room in 0..=16 {
+    assert_eq!(why(&tree, Read, &trace, 0, 2, &mut out), Ok(Wait { count: 2, slot: 0, pairs: &[[0, OWN], [1, 0]] }));
+    assert_eq!(why(&tree, Read, &trace, 0, 1, &mut out), Ok(Wait { count: 0, slot: 0, pairs: &[] }));
+    for (room, channel) in (0..=16).flat_map(|room| Channel::BOTH.map(|channel| (room, channel))) {
         let mut out = vec![99; room];
         let listed = (room / 2).min(7);
-        assert_eq!(why(&tree, &trace, 3, 1, &mut out), Ok(Wait { count: 7, slot: 0, pairs: &last[..listed] }));
+        let wait = Wait { count: 7, slot: 0, pairs: &last[..listed] };
+        assert_eq!(why(&tree, channel, &trace, 3, 1, &mut out), Ok(wait));
         assert!(out[2 * listed..].iter().all(|&b| b == 99));
     }
 }
@@ -178,33 +244,36 @@ fn waits_of_an_example() {
     let (tree, trace) = (example("scanner30.tree"), example("scanner30-read.trace"));
     let mut out = vec![99; LIMIT];
     let laser = Wait { count: 3, slot: 128, pairs: &[[0, 0], [0, 0], [1, OWN]] };
-    assert_eq!(why(&tree, &trace, 1, 10, &mut out), Ok(laser));
-    assert_eq!(why(&tree, &trace, 0, 65, &mut out), Ok(Wait { count: 0, slot: 128, pairs: &[] }));
+    assert_eq!(why(&tree, Read, &trace, 1, 10, &mut out), Ok(laser));
+    assert_eq!(why(&tree, Read, &trace, 0, 65, &mut out), Ok(Wait { count: 0, slot: 128, pairs: &[] }));
     let too_many = WaitRefused::Call(Refused { cause: Cause::NotServed, line: 0 });
-    assert_eq!(why(&tree, &trace, 1, 25, &mut out), Err(too_many));
+    assert_eq!(why(&tree, Read, &trace, 1, 25, &mut out), Err(too_many));
+    assert_eq!(why(&tree, Write, &trace, 1, 10, &mut out), Err(too_many));
     assert!(out[6..].iter().all(|&b| b == 99));
 }
 
 #[test]
 fn refused_waits_leave_the_buffer() {
     let (tree, trace) = nested();
-    let mut out = [99; 20];
-    let call = |cause| Err(WaitRefused::Call(Refused { cause, line: 0 }));
-    for number in [0, 5, u32::MAX] {
-        assert_eq!(why(&tree, &trace, 0, number, &mut out), call(Cause::NotServed));
+    for channel in Channel::BOTH {
+        let mut out = [99; 20];
+        let call = |cause| Err(WaitRefused::Call(Refused { cause, line: 0 }));
+        for number in [0, 5, u32::MAX] {
+            assert_eq!(why(&tree, channel, &trace, 0, number, &mut out), call(Cause::NotServed));
+        }
+        for accelerator in [4, 32, 255] {
+            assert_eq!(why(&tree, channel, &trace, accelerator, 0, &mut out), call(Cause::Unknown));
+        }
+        let falling = Err(WaitRefused::Trace(Refused { cause: Cause::Falling, line: 2 }));
+        assert_eq!(why(&tree, channel, &file("o 5 0 1\no 4 0 1\n"), 4, 0, &mut out), falling);
+        let no_tree = Err(WaitRefused::Tree(Refused { cause: Cause::Order, line: 1 }));
+        assert_eq!(why(b"", channel, &trace, 4, 0, &mut out), no_tree);
+        assert_eq!(out, [99; 20]);
+        let mut large = vec![99; LIMIT + 1];
+        let too_large = Err(WaitRefused::Trace(Refused { cause: Cause::Range, line: 0 }));
+        assert_eq!(why(&tree, channel, b"x", 4, 0, &mut large), too_large);
+        assert!(large.iter().all(|&b| b == 99));
     }
-    for accelerator in [4, 32, 255] {
-        assert_eq!(why(&tree, &trace, accelerator, 0, &mut out), call(Cause::Unknown));
-    }
-    let falling = Err(WaitRefused::Trace(Refused { cause: Cause::Falling, line: 2 }));
-    assert_eq!(why(&tree, &file("o 5 0 1\no 4 0 1\n"), 4, 0, &mut out), falling);
-    let no_tree = Err(WaitRefused::Tree(Refused { cause: Cause::Order, line: 1 }));
-    assert_eq!(why(b"", &trace, 4, 0, &mut out), no_tree);
-    assert_eq!(out, [99; 20]);
-    let mut large = vec![99; LIMIT + 1];
-    let too_large = Err(WaitRefused::Trace(Refused { cause: Cause::Range, line: 0 }));
-    assert_eq!(why(&tree, b"x", 4, 0, &mut large), too_large);
-    assert!(large.iter().all(|&b| b == 99));
 }
 
 #[test]
@@ -213,10 +282,13 @@ fn refusals_in_words() {
     assert_eq!(refused.to_string(), "refused by 7: no such accelerator");
     let of_trace = read_trace(&file(SMALL), &file("o 0 0 17\n")).unwrap_err();
     assert_eq!(of_trace.to_string(), "trace refused by 2 at line 1: a value, a total or a size outside its limits");
-    let of_wait = why(&file(SMALL), b"", 0, 1, &mut []).unwrap_err();
+    let of_wait = why(&file(SMALL), Read, b"", 0, 1, &mut []).unwrap_err();
     assert_eq!(of_wait.to_string(), "refused by 12: the run serves no transaction of this number");
     let of_text = rewrite(&file(SMALL), &mut []).unwrap_err();
     assert_eq!(of_text.to_string(), "refused by 13: a buffer shorter than the text");
+    let no_job = Refused { cause: Cause::NoJob, line: 0 };
+    assert_eq!(no_job.to_string(), "refused by 14: no transactions on this channel in the accelerator's job");
+    assert_eq!(Channel::BOTH.map(|channel| channel.to_string()), ["read", "write"]);
 }
 
 /// Threads that run different files at the same time get the answers that each file gets alone.
@@ -233,9 +305,11 @@ fn threads() {
         let written = rewrite(tree, &mut room).expect("a text").to_vec();
         let text = report(tree, &mut page).expect("a report").to_vec();
         let mut list = vec![0; LIMIT];
-        let waits = [1, 2].map(|number| why(tree, trace, 1, number, &mut list).map(|wait| (wait.count, wait.slot)));
+        let mut wait = |channel, number| why(tree, channel, trace, 1, number, &mut list).map(|w| (w.count, w.slot));
+        let waits = Channel::BOTH.map(|channel| [1, 2].map(|number| wait(channel, number)));
         let bounds: Vec<_> = (0..=32).map(|a| bound(tree, a)).collect();
-        (text, written, run(tree, trace, &mut out), out, waits, list, bounds)
+        let runs = Channel::BOTH.map(|channel| (run(tree, channel, trace, &mut out), out.clone()));
+        (text, written, runs, waits, list, bounds)
     };
     let alone = files.each_ref().map(answers);
     std::thread::scope(|scope| {

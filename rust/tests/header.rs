@@ -1,5 +1,5 @@
 //! The header `include/razhikum.h`, the archive and this wrapper say the same.
-use razhikum::{Cause, IDLE, LIMIT, OWN, PAGE, TREE_TEXT, VERSION};
+use razhikum::{Cause, Channel, IDLE, LIMIT, OWN, PAGE, TREE_TEXT, VERSION};
 use std::process::Command;
 
 const HEADER: &str = include_str!("../../include/razhikum.h");
@@ -36,6 +36,12 @@ fn sizes() {
 }
 
 #[test]
+fn channels() {
+    assert_eq!(of_header("RAZHIKUM_READ"), u64::from(Channel::Read.number()));
+    assert_eq!(of_header("RAZHIKUM_WRITE"), u64::from(Channel::Write.number()));
+}
+
+#[test]
 fn causes() {
     let named = [
         ("RAZHIKUM_SHAPE", Cause::Shape),
@@ -51,6 +57,7 @@ fn causes() {
         ("RAZHIKUM_BROKEN", Cause::Broken),
         ("RAZHIKUM_NOT_SERVED", Cause::NotServed),
         ("RAZHIKUM_TOO_SHORT", Cause::TooShort),
+        ("RAZHIKUM_NO_JOB", Cause::NoJob),
     ];
     for (number, (name, cause)) in (1..).zip(named) {
         assert_eq!(of_header(name), u64::from(number));

@@ -1,6 +1,7 @@
-//! The machine with the held requests before it ("Turns"; document 02, item 2). What waits under each port and the set of live
-//! ports of each interconnect are kept, and brought up to date along the one path that an admission or a service touches.
+//! The machine of one channel with the held requests before it ("Turns"; document 02, items 2 and 5). What waits under each port and the
+//! set of live ports of each interconnect are kept, and brought up to date along the one path that an admission or a service touches.
 use crate::peer::read::{Port, Tree};
+use razhikum::Channel;
 
 const IDLE: u8 = 255;
 
@@ -25,7 +26,8 @@ struct Record {
     budget: u16,
     /// What waits and what is returning.
     outstanding: u8,
-    phi: u8,
+    /// How many may be outstanding on this channel: 0 where the job has none, so that none is ever admitted.
+    limit: u8,
     interconnect: u8,
     port: u8,
 }
@@ -53,8 +55,8 @@ fn next_port(live: u8, last: u8) -> u8 {
 }
 
 impl Machine {
-    /// The fresh state: nothing waits, and the last port of every interconnect is 7.
-    pub fn fresh(tree: &Tree) -> Machine {
+    /// The fresh state of a channel: nothing waits, and the last port of every interconnect is 7.
+    pub fn fresh(tree: &Tree, channel: Channel) -> Machine {
         let mut turns = [Turn::default(); 15];
         for (turn, from) in turns.iter_mut().zip(&tree.interconnects) {
             turn.ports = from.ports;
@@ -66,7 +68,7 @@ impl Machine {
         let mut records = [Record::default(); 32];
         for (record, from) in records.iter_mut().zip(&tree.accelerators) {
             record.budget = from.budget;
-            record.phi = from.phi;
+            record.limit = from.limit(channel);
             record.interconnect = from.interconnect;
             record.port = from.port;
         }
@@ -106,7 +108,7 @@ impl Machine {
             let a = self.ready.trailing_zeros();
             self.ready &= self.ready - 1;
             let record = &mut self.records[a as usize];
-            let room = u32::from(record.phi - record.outstanding);
+            let room = u32::from(record.limit - record.outstanding);
             let budget = u32::from(record.budget - record.admitted);
             let count = record.held.min(room).min(budget);
             if count == 0 {

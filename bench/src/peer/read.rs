@@ -1,5 +1,5 @@
 //! The readers of tree and trace files ("The tree on paper", "What is refused"; document 02, item 2, for the return delay).
-use razhikum::{Refused, LIMIT};
+use razhikum::{Channel, Refused, LIMIT};
 
 #[derive(Clone, Copy, Debug, Default, PartialEq, Eq)]
 pub struct Bus {
@@ -45,6 +45,26 @@ pub struct Accelerator {
     pub writes: u64,
     pub computing: u64,
     pub period: u64,
+}
+
+impl Accelerator {
+    /// The transactions of a job on a channel.
+    pub fn job(&self, channel: Channel) -> u64 {
+        match channel {
+            Channel::Read => self.reads,
+            Channel::Write => self.writes,
+        }
+    }
+
+    /// How many may be outstanding on a channel. "On a channel where a job has 0 transactions, the capacity of that accelerator now counts
+    /// 0", and the machine for that channel admits none.
+    pub fn limit(&self, channel: Channel) -> u8 {
+        if self.job(channel) == 0 {
+            0
+        } else {
+            self.phi
+        }
+    }
 }
 
 #[derive(Clone, Debug, Default, PartialEq, Eq)]

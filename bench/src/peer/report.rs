@@ -1,4 +1,5 @@
-//! The text of the report program (the end of "Figures to check by").
+//! The text of the report program (the end of "Figures to check by"; document 02, item 5: "the report's share column becomes two, reads
+//! first, named sr and sw").
 use crate::peer::bounds::bounds;
 use crate::peer::read::read_tree;
 use razhikum::Refused;
@@ -36,11 +37,11 @@ fn verdict(meets: bool) -> &'static [u8] {
 pub fn report(text: &[u8], out: &mut Vec<u8>) -> Result<(), Refused> {
     out.clear();
     let tree = read_tree(text)?;
-    out.extend_from_slice(b"acc\tlevel\tshare\tyr\tyw\tresp\tperiod\tverdict\n");
+    out.extend_from_slice(b"acc\tlevel\tsr\tsw\tyr\tyw\tresp\tperiod\tverdict\n");
     let mut all = true;
     for (a, b) in bounds(&tree).enumerate() {
         let level = b.level.into();
-        let row = [a as u64, level, b.share, b.yr, b.yw, b.response, b.period];
+        let row = [a as u64, level, b.sr, b.sw, b.yr, b.yw, b.response, b.period];
         put_numbers(out, &row);
         out.extend_from_slice(verdict(b.meets));
         all &= b.meets;

@@ -1,7 +1,8 @@
-//! The runner ("Turns", last paragraph).
+//! The runner ("Turns", last paragraph), of one channel. "In a run its held requests stay held, so that run is stopped": they are held by
+//! the machine, which admits none of them, and a run is not done while any are.
 use crate::peer::machine::Machine;
 use crate::peer::read::{read_trace, read_tree, Request, Tree};
-use razhikum::{Ending, FileRefused, Refused, LIMIT};
+use razhikum::{Channel, Ending, FileRefused, Refused, LIMIT};
 
 /// Holds the requests that are due in this slot, and gives those that are left.
 pub fn hold_due<'a>(machine: &mut Machine, mut left: &'a [Request], slot: u32) -> &'a [Request] {
@@ -15,9 +16,9 @@ pub fn hold_due<'a>(machine: &mut Machine, mut left: &'a [Request], slot: u32) -
     left
 }
 
-/// Runs the requests from the fresh state, one byte a slot.
-pub fn run_requests(tree: &Tree, requests: &[Request], out: &mut [u8]) -> Ending {
-    let mut machine = Machine::fresh(tree);
+/// Runs the requests from the fresh state of a channel, one byte a slot.
+pub fn run_requests(tree: &Tree, channel: Channel, requests: &[Request], out: &mut [u8]) -> Ending {
+    let mut machine = Machine::fresh(tree, channel);
     let mut left = requests;
     for (slot, byte) in out.iter_mut().enumerate() {
         if left.is_empty() && machine.nothing_pending() {
@@ -35,11 +36,11 @@ pub fn run_requests(tree: &Tree, requests: &[Request], out: &mut [u8]) -> Ending
 }
 
 /// Runs a trace file on a tree file. "the runner 11, buffer size, trace": a tree that is read keeps its rules.
-pub fn run(tree: &[u8], trace: &[u8], out: &mut [u8]) -> Result<Ending, FileRefused> {
+pub fn run(tree: &[u8], channel: Channel, trace: &[u8], out: &mut [u8]) -> Result<Ending, FileRefused> {
     let tree = read_tree(tree).map_err(FileRefused::Tree)?;
     if out.len() > LIMIT {
         return Err(FileRefused::Trace(Refused::by(2, 0)));
     }
     let requests = read_trace(tree.accelerators.len(), trace).map_err(FileRefused::Trace)?;
-    Ok(run_requests(&tree, &requests, out))
+    Ok(run_requests(&tree, channel, &requests, out))
 }

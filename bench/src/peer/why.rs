@@ -1,8 +1,8 @@
-//! Why a transaction waited (document 02, item 1).
+//! Why a transaction of a channel waited (document 02, items 1 and 5).
 use crate::peer::machine::Machine;
 use crate::peer::read::{read_trace, read_tree, Request, Tree};
 use crate::peer::run::hold_due;
-use razhikum::{Refused, Wait, WaitRefused, LIMIT, OWN};
+use razhikum::{Channel, Refused, Wait, WaitRefused, LIMIT, OWN};
 use std::collections::VecDeque;
 use std::iter::repeat_n;
 
@@ -29,8 +29,8 @@ fn meetings(tree: &Tree, a: u8) -> [u8; 32] {
 }
 
 /// The bytes of the run up to the service of this transaction, and the slot of its admission: none where the run ends before.
-fn until_served(tree: &Tree, requests: &[Request], a: u8, number: u32) -> Option<(Vec<u8>, u32)> {
-    let mut machine = Machine::fresh(tree);
+fn until_served(tree: &Tree, channel: Channel, requests: &[Request], a: u8, number: u32) -> Option<(Vec<u8>, u32)> {
+    let mut machine = Machine::fresh(tree, channel);
     let mut left = requests;
     let mut bytes = Vec::new();
     // The slots of admission of those of accelerator a that wait, oldest first.
@@ -59,6 +59,7 @@ fn until_served(tree: &Tree, requests: &[Request], a: u8, number: u32) -> Option
 /// "after all checks of the runner 7, then 12": what is written is written after these.
 pub fn why<'a>(
     tree: &[u8],
+    channel: Channel,
     trace: &[u8],
     accelerator: u8,
     number: u32,
@@ -72,7 +73,7 @@ pub fn why<'a>(
     if usize::from(accelerator) >= tree.accelerators.len() {
         return Err(WaitRefused::Call(Refused::by(7, 0)));
     }
-    let told = until_served(&tree, &requests, accelerator, number);
+    let told = until_served(&tree, channel, &requests, accelerator, number);
     let (bytes, slot) = told.ok_or(WaitRefused::Call(Refused::by(12, 0)))?;
     let waited = &bytes[slot as usize..];
     let met = meetings(&tree, accelerator);

@@ -1,3 +1,4 @@
 //! What the tests share.
+pub mod shares;
 pub mod simple;
 pub mod written;

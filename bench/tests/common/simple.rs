@@ -1,6 +1,6 @@
 //! A simulator that is plain to see to be right, and slow: queues of single transactions, and every sum taken anew in each
 //! slot.
-use razhikum::{Ending, OWN};
+use razhikum::{Channel, Ending, OWN};
 use razhikum_bench::peer::read::{Port, Request, Tree};
 use std::collections::VecDeque;
 
@@ -18,15 +18,24 @@ pub enum Making {
     HomeWithWindow,
     /// A run goes on until everything is home.
     DoneWhenHome,
+    /// What a job has on the channel is not looked at.
+    AdmitsWithoutJob,
+    /// What a job has on the other channel is looked at.
+    OtherChannel,
+    /// Only a job that is empty on both channels keeps an accelerator from being admitted.
+    JobOfEither,
+    /// What is asked for without a job on the channel goes, and the run may be done.
+    DropsWithoutJob,
 }
 
-/// A transaction that is served, with the slots in which it was requested, admitted and served.
+/// A transaction that is served, with the slots in which it was requested, admitted and served, and how many of its own were before it.
 #[derive(Clone, Copy)]
 pub struct Service {
-    accelerator: u8,
+    pub accelerator: u8,
     requested: usize,
-    admitted: usize,
-    served: usize,
+    pub admitted: usize,
+    pub served: usize,
+    pub before: usize,
 }
 
 /// Which slots of a transaction are listed, and with which meeting point: as document 02 has it, or by a rule that is wrong.
@@ -43,9 +52,10 @@ pub enum Rule {
 
 struct Machine<'a> {
     tree: &'a Tree,
+    channel: Channel,
     making: Making,
-    /// Of each accelerator what waits, oldest first: the slots of request and of admission.
-    queues: Vec<VecDeque<(usize, usize)>>,
+    /// Of each accelerator what waits, oldest first: the slots of request and of admission, and how many waited before it.
+    queues: Vec<VecDeque<(usize, usize, usize)>>,
     /// Of each accelerator what is returning: the slots at whose start it is home.
     returning: Vec<Vec<usize>>,
     admitted: Vec<u16>,
@@ -65,13 +75,32 @@ impl Machine<'_> {
         }
     }
 
+    /// Whether the job has transactions on the channel.
+    fn has_job(&self, a: usize) -> bool {
+        let job = &self.tree.accelerators[a];
+        let (here, there) = match self.channel {
+            Channel::Read => (job.reads, job.writes),
+            Channel::Write => (job.writes, job.reads),
+        };
+        match self.making {
+            Making::AdmitsWithoutJob => true,
+            Making::OtherChannel => there > 0,
+            Making::JobOfEither => here > 0 || there > 0,
+            _ => here > 0,
+        }
+    }
+
     fn offer(&mut self, a: usize, requested: usize, slot: usize) -> bool {
         let limits = &self.tree.accelerators[a];
         let outstanding = self.queues[a].len() + self.returning[a].len();
+        if !self.has_job(a) {
+            return self.making == Making::DropsWithoutJob;
+        }
         if outstanding == limits.phi as usize || self.admitted[a] == limits.budget {
             return false;
         }
-        self.queues[a].push_back((requested, slot));
+        let before = self.queues[a].len();
+        self.queues[a].push_back((requested, slot, before));
         self.admitted[a] += 1;
         true
     }
@@ -98,7 +127,7 @@ impl Machine<'_> {
             return None;
         }
         let a = self.choose(0);
-        let (requested, admitted) = self.queues[a].pop_front().expect("the oldest transaction");
+        let (requested, admitted, before) = self.queues[a].pop_front().expect("the oldest transaction");
         let delay = match self.making {
             Making::HomeAtOnce => 0,
             Making::HomeOneSlotEarly => self.tree.bus.delay.saturating_sub(1),
@@ -106,7 +135,7 @@ impl Machine<'_> {
             _ => self.tree.bus.delay,
         };
         self.returning[a].push(slot + 1 + delay as usize);
-        Some(Service { accelerator: a as u8, requested, admitted, served: slot })
+        Some(Service { accelerator: a as u8, requested, admitted, served: slot, before })
     }
 
     /// What is due at the start of this slot is home.
@@ -132,11 +161,18 @@ impl Machine<'_> {
     }
 }
 
-/// Runs the requests, one byte a slot, and gives what was served besides.
-pub fn run(tree: &Tree, requests: &[Request], out: &mut [u8], making: Making) -> (Ending, Vec<Service>) {
+/// Runs the requests on a channel, one byte a slot, and gives what was served besides.
+pub fn run(
+    tree: &Tree,
+    channel: Channel,
+    requests: &[Request],
+    out: &mut [u8],
+    making: Making,
+) -> (Ending, Vec<Service>) {
     let n = tree.accelerators.len();
     let mut machine = Machine {
         tree,
+        channel,
         making,
         queues: vec![VecDeque::new(); n],
         returning: vec![Vec::new(); n],
@@ -169,7 +205,7 @@ pub fn run(tree: &Tree, requests: &[Request], out: &mut [u8], making: Making) ->
         let service = machine.slot(slot);
         out[slot] = service.map_or(255, |s| s.accelerator);
         services.extend(service);
-        if (slot as u32 + 1) % tree.bus.window == 0 {
+        if (slot as u32 + 1).is_multiple_of(tree.bus.window) {
             machine.open_window();
         }
     }
