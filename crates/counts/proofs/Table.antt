@@ -1,20 +1,19 @@
 -- The table of a configuration by its parts: each test of `entryOf` picks one, and entry i of the list of entries is that of i.
-use Prim.Native.Nat.{ℕ, zero, suc, _+_, _-_, _/_, _%_, _≤_, _<_}
-use mathlib.Core.List.{List, [], _∷_, _++_}
+use Prim.Native.Nat.{ℕ, _+_, _-_, _/_, _%_, _≤_, _<_}
+use mathlib.Core.List.{List}
 use mathlib.Core.Path.{_≡_, refl, sym, _∙_, ap, ap₂, subst}
-use native.Mathlib.Decide.{decLt}
 use native.Mathlib.Omega.{arith}
-use native.Mathlib.Numerals.{add-one}
 use lib.Dec.{ltb}
-use lib.ListN.{getD, set, take, drop, length, length-append, List·getD-append}
-use lib.Seq.{getD-drop, getD-at, take-suc-set}
+use lib.ListN.{getD, drop}
+use lib.Seq.{getD-drop}
 use borrow.Author.Tests.{le-ltb, lt-ltb}
 use Rattle.folds.specs.Fold.{pick}
 use Rattle.folds.proofs.Folds.{picked, passed}
+use Rattle.folds.proofs.Entries.{entries-at}
 use Rattle.model.specs.declared.Tree.{Tree}
 use Rattle.model.specs.declared.Channel.{Channel}
 use Rattle.model.specs.Tree.{portOf, granularityOf, parentOf, parentPortOf, homeOf, homePortOf, limitOf, budgetOf}
-use Rattle.counts.specs.Table.{portNumber, carriedNumber, entryOf, entries, tableOf, granularities, parentPorts, ownPorts, limits, budgets}
+use Rattle.counts.specs.Table.{portNumber, carriedNumber, entryOf, tableOf, granularities, parentPorts, ownPorts, limits, budgets}
 use Rattle.counts.proofs.Steps.{number-interconnect, number-port}
 
 -- entry n of the table, by the part that it lies in
@@ -45,33 +44,6 @@ module _ (t : Tree) (c : Channel) (n : ℕ) where
   pub entry-budget : 214 ≤ n → entryOf t c n ≡ budgetOf t (n - 214)
   unfolding entryOf
   entry-budget a = past 120 _ _ (omega arith) ∙ past 135 _ _ (omega arith) ∙ past 150 _ _ (omega arith) ∙ past 182 _ _ (omega arith) ∙ past 214 _ _ a
-
--- a list of entries, by its places
-entries-size : (n : ℕ) (f : ℕ → ℕ) → length (entries n f) ≡ n
-unfolding entries
-entries-size zero f = refl
-entries-size (suc n) f = length-append (entries n f) (f n ∷ []) ∙ omega (arith, entries-size n f)
-
-entries-at : (n : ℕ) (f : ℕ → ℕ) (i : ℕ) → i < n → getD (entries n f) i 0 ≡ f i
-unfolding entries
-entries-at zero f i h = absurd (omega arith)
-entries-at (suc n) f i h = elim (decLt i n) [
-  | yes l ↦ List·getD-append (entries n f) (f n ∷ []) 0 i (omega (arith, entries-size n f)) ∙ entries-at n f i l
-  | no d ↦
-      let e : i ≡ n = omega arith in
-      getD-at (entries n f) (f n) [] 0 i (entries-size n f ∙ sym e) ∙ ap f (sym e)
-]
-
--- an array that is filled in order: of none, and of one more
-pub entries-none : (f : ℕ → ℕ) → [] ≡ entries 0 f
-unfolding entries
-entries-none f = refl
-
-pub entries-more : (f : ℕ → ℕ) (l : List ℕ) (n x : ℕ) → n < length l → x ≡ f n → take n l ≡ entries n f → take (n + 1) (set l n x) ≡ entries (n + 1) f
-unfolding entries
-entries-more f l n x h e d =
-    ap (λ (i : ℕ). take i (set l n x)) (add-one n) ∙ take-suc-set l n x h ∙ ap₂ (λ (k : List ℕ) (i : ℕ). k ++ i ∷ []) d e
-    ∙ ap (λ (i : ℕ). entries i f) (sym (add-one n))
 
 -- w has what each port of t carries, each interconnect's granularity and the parent's port that carries it, the port that
 -- carries each accelerator, and its budget

@@ -7,14 +7,13 @@
 -- entryOf t c n         entry n of the table of t for channel c: what each port carries; the granularity of each interconnect, and the port
 --                       of its parent that carries it; the port that carries each accelerator, its outstanding limit on the channel
 --                       and its budget
--- entries n f           the numbers f 0, f 1, .. f (n - 1)
 -- tableOf t c           the table of t for channel c
 -- granularities w, parentPorts w, ownPorts w, limits w, budgets w   the parts of the table w after what the ports carry
-use Prim.Native.Nat.{ℕ, zero, suc, _+_, _-_, _*_, _/_, _%_}
-use mathlib.Core.List.{List, [], _∷_, _++_}
+use Prim.Native.Nat.{ℕ, _+_, _-_, _*_, _/_, _%_}
+use mathlib.Core.List.{List}
 use lib.ListN.{drop}
 use lib.Dec.{ltb}
-use Rattle.folds.specs.Fold.{pick}
+use Rattle.folds.specs.Fold.{pick, entries}
 use Rattle.model.specs.declared.Tree.{Tree}
 use Rattle.model.specs.declared.Channel.{Channel}
 use Rattle.model.specs.declared.Port.{Port}
@@ -42,10 +41,6 @@ entryOf t c n =
     (pick (ltb n 150) (portNumber (parentOf t (n - 135)) (parentPortOf t (n - 135)))
     (pick (ltb n 182) (portNumber (homeOf t (n - 150)) (homePortOf t (n - 150)))
     (pick (ltb n 214) (limitOf t c (n - 182)) (budgetOf t (n - 214))))))
-
-unfoldable pub entries : ℕ → (ℕ → ℕ) → List ℕ
-entries zero f = []
-entries (suc n) f = entries n f ++ f n ∷ []
 
 abbrev pub tableOf : Tree → Channel → List ℕ
 tableOf t c = entries 246 (entryOf t c)

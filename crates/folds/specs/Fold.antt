@@ -4,8 +4,11 @@
 -- sum n f        f 0 + f 1 + .. + f (n - 1)
 -- all n f        f holds of every number below n
 -- within l x h   x is at least l and at most h
-use Prim.Native.Nat.{ℕ, zero, suc, _+_}
+-- ceiling n p    n / p, rounded up
+-- entries n f    the numbers f 0, f 1, .. f (n - 1) as a list
+use Prim.Native.Nat.{ℕ, zero, suc, _+_, _-_, _/_}
 use mathlib.Core.Bool.{Bool, true, false, _&&_}
+use mathlib.Core.List.{List, [], _∷_, _++_}
 use lib.Dec.{leb}
 
 abbrev pub pick : {A : Type 0} → Bool → A → A → A
@@ -22,3 +25,10 @@ all (suc n) f = all n f && f n
 
 abbrev pub within : ℕ → ℕ → ℕ → Bool
 within low x high = leb low x && leb x high
+
+abbrev pub ceiling : ℕ → ℕ → ℕ
+ceiling n p = (n + (p - 1)) / p
+
+unfoldable pub entries : ℕ → (ℕ → ℕ) → List ℕ
+entries zero f = []
+entries (suc n) f = entries n f ++ f n ∷ []

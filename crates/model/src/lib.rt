@@ -102,11 +102,13 @@ pub enum Refusal {
     LastSlot,
     Rules,
     NoJob,
+    Burst,
+    Page,
 }
 
 // The place of a refusal among these, from 1 on. It rises by one, so that no table is compiled for it.
 fn place(r: Refusal) -> u8
-    ensures { λ n. ⌜ (numberOf r ≡ pick (ltb 11 n) (n + 2) n) × (n ≤ 12) ⌝ }
+    ensures { λ n. ⌜ (numberOf r ≡ pick (ltb 11 n) (n + 2) n) × (n ≤ 14) ⌝ }
 {
     match r {
         Refusal::Shape => 1,
@@ -121,6 +123,8 @@ fn place(r: Refusal) -> u8
         Refusal::LastSlot => 10,
         Refusal::Rules => 11,
         Refusal::NoJob => 12,
+        Refusal::Burst => 13,
+        Refusal::Page => 14,
     }
 }
 

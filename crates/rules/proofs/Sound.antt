@@ -25,6 +25,7 @@ pub record Sound (t : Tree) : Type 0 where
   pub accs-size : length (t .accelerators) ≡ 32
   pub ports-size : (j : ℕ) → length (interconnectOf t j .ports) ≡ 8
   pub window : 1 ≤ t .bus .window
+  pub burst : 1 ≤ t .bus .burst
   pub delay : delayOf t ≤ 15
   pub some-ints : 1 ≤ t .ints
   pub most-ints : t .ints ≤ 15
@@ -71,6 +72,7 @@ int-carried j (Int k) e = ap Int (sym (eqb-true j k e))
 
 module _ (t : Tree) (e : treeKeeps t ≡ true) where
   counts : (1 ≤ t .ints) × (t .ints ≤ 15) × (1 ≤ t .accs) × (t .accs ≤ 32) × (1 ≤ t .bus .window) × (delayOf t ≤ 15)
+      × (1 ≤ t .bus .burst)
   unfolding treeKeeps busKeeps
   counts = let h = simp tests at e in omega arith
 
@@ -124,6 +126,7 @@ module _ (t : Tree) (e : treeKeeps t ≡ true) where
         accs-size = sizes .1;
         ports-size = all-ports;
         window = counts .4;
+        burst = counts .6;
         delay = counts .5;
         some-ints = counts .0;
         most-ints = counts .1;
