@@ -14,6 +14,9 @@
 -- sameRow x s r          an exported bound: the refusal s, or number and line 0, and all eight figures
 -- samePage x n s         an exported report or writing: n bytes, number and line
 -- sameCount x n s        an exported number of accelerators: n, number and line
+-- sameCut x n s          an exported split: n pieces, number and line
+-- joinNumber c           the number of the joiner's answer c, in which 0 is taken and 255 done: 0 for both
+-- sameJoined x y         an exported answer of the joiner: that number, done exactly at 255, the pieces and how many are answered
 -- sameRequest x s a n    a request: slot s, accelerator a, count n
 -- toldBy n l c s         of a wait: refused by number n at line l, or 0; c slots waited, s the slot of admission
 -- toldOf x               what the library answers on a wait, as these; a refusal without a line has line 0
@@ -32,6 +35,8 @@ use Rattle.lines.specs.Answer.{answerNumber, answerLine}
 use Rattle.bounds.specs.declared.Figures.{Figures}
 use Rattle.trace.specs.declared.Request.{Request}
 use Rattle.answers.specs.declared.Count.{Count}
+use Rattle.answers.specs.declared.Cut.{Cut}
+use Rattle.answers.specs.declared.Joined.{Joined}
 use Rattle.answers.specs.declared.Reading.{Reading}
 use Rattle.answers.specs.declared.Outcome.{Outcome}
 use Rattle.answers.specs.declared.Row.{Row}
@@ -43,6 +48,7 @@ use Rattle.waits.specs.declared.WhyAnswer.the-variants.{Refused, Broken, Unknow
 use Rattle.writer.specs.declared.WriteAnswer.{WriteAnswer}
 use Rattle.writer.specs.declared.WriteAnswer.the-variants as writing
 use Rattle.second.specs.declared.Said.{Said}
+use Rattle.second.specs.declared.bursts.Joined as joining
 use Rattle.second.specs.declared.past.Told.{Told}
 use Rattle.second.specs.declared.queues.Ended.{Ended}
 use Rattle.second.specs.declared.response.Row as expected
@@ -116,6 +122,19 @@ samePage x n s = eqb (x .bytes) n && eqb (x .number) (s .number) && eqb (x .line
 
 abbrev pub sameCount : Count → ℕ → Said → Bool
 sameCount x n s = eqb (x .accelerators) n && eqb (x .number) (s .number) && eqb (x .line) (s .line)
+
+abbrev pub sameCut : Cut → ℕ → Said → Bool
+sameCut x n s = eqb (x .pieces) n && eqb (x .number) (s .number) && eqb (x .line) (s .line)
+
+abbrev pub joinNumber : ℕ → ℕ
+joinNumber c = pick (eqb c 255) 0 c
+
+abbrev pub sameJoined : Joined → joining.Joined → Bool
+sameJoined x y =
+    eqb (x .number) (joinNumber (y .code))
+    && sameFlag (x .done) (eqb (y .code) 255)
+    && eqb (x .pieces) (y .pieces)
+    && eqb (x .answered) (y .answered)
 
 abbrev pub sameRequest : Request → ℕ → ℕ → ℕ → Bool
 sameRequest x s a n = eqb (x .slot) s && eqb (x .accelerator) a && eqb (x .count) n

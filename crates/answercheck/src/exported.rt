@@ -1,19 +1,23 @@
 // What the static library exports, each field of each answer beside what `second` says.
 use crate::same_flag;
 use answers::Count;
+use answers::Cut;
+use answers::Joined as JoinReply;
 use answers::Outcome;
 use answers::Reading;
 use answers::Row;
 use answers::Wait;
 use razhikum::Page;
 use second::Said;
+use second::bursts::DONE;
+use second::bursts::Joined;
 use second::past::Told;
 use second::queues::Ended;
 use second::response::Row as Expected;
 ghost use mathlib.Core.Path.{_≡_};
 ghost use lib.Dec.{eqb};
 ghost use Rattle.folds.specs.Fold.{pick};
-ghost use Rattle.answercheck.specs.Same.{sameReading, kindOf, sameOutcome, kindTold, sameWait, sameRow, samePage, sameCount};
+ghost use Rattle.answercheck.specs.Same.{sameReading, kindOf, sameOutcome, kindTold, sameWait, sameRow, samePage, sameCount, sameCut, joinNumber, sameJoined};
 
 // The file that a reading names: this one if it is refused.
 fn named(file: usize, number: usize) -> usize
@@ -104,4 +108,30 @@ pub fn same_count(x: Count, n: usize, s: Said) -> bool
     ensures { λ r. ⌜ r ≡ sameCount x n s ⌝ }
 {
     (x.accelerators as usize == n) & (x.number as usize == s.number) & (x.line as usize == s.line)
+}
+
+// A split, refused so or into n pieces.
+pub fn same_cut(x: Cut, n: usize, s: Said) -> bool
+    ensures { λ r. ⌜ r ≡ sameCut x n s ⌝ }
+{
+    (x.pieces as usize == n) & (x.number as usize == s.number) & (x.line as usize == s.line)
+}
+
+// The number of what the joiner says: 0 for taken and for done.
+fn join_number(code: usize) -> usize
+    ensures { λ r. ⌜ r ≡ joinNumber code ⌝ }
+{
+    if code == DONE {
+        return 0;
+    }
+    code
+}
+
+pub fn same_joined(x: JoinReply, y: Joined) -> bool
+    ensures { λ r. ⌜ r ≡ sameJoined x y ⌝ }
+{
+    (x.number as usize == join_number(y.code))
+        & same_flag(x.done, y.code == DONE)
+        & (x.pieces as usize == y.pieces)
+        & (x.answered as usize == y.answered)
 }

@@ -1,4 +1,4 @@
--- What a reader, a run, a wait and a bound answer, as numbers, from the definitions of documents 01 and 02 that the libraries
+-- What a reader, a run, a wait, a bound, the splitter and the joiner answer, as numbers, from the definitions of documents 01 and 02 that the libraries
 -- below cite.
 --
 -- channelNumber c       the number of channel c: 0 reads, 1 writes; channelOf n: the channel of number n, writes for any but 0
@@ -16,6 +16,9 @@
 -- unbounded n l         no bounds, refused by number n at line l
 -- rowOf x               what a bound answers, as numbers; sr and sw are the shares of its reads and of its writes, yr and yw their interference; 7 and 11
 --                       have no line
+-- cutOf x               what a tree file and a burst are answered, as numbers
+-- joinNumber x          the number of what the joiner answers, 0 where it refuses nothing; isDone x: it says done
+-- joinedOf x            what the joiner answers, with the joiner that comes back, as numbers
 use Prim.Native.Nat.{ℕ}
 use lib.Dec.{eqb}
 use mathlib.Core.Bool.{Bool, true, false}
@@ -28,11 +31,16 @@ use Rattle.lines.specs.declared.FileAnswer.the-variants.{Accepted, Refused, Bro
 use Rattle.runner.specs.Run.{Ending, refusedAt, broken, done, stopped}
 use Rattle.waits.specs.Why.{Why, refusedAt as atLine, denied, waited}
 use Rattle.bounds.specs.Bounds.{BoundResult, refused, analysed}
+use Rattle.burst.specs.Joiner.{Joining, taken, done as joinDone, notJoined, Joined as JoinedWith}
+use Rattle.splitting.specs.declared.Reply.{Reply}
+use Rattle.splitting.specs.declared.Reply.the-variants.{Refused as CutRefused, Pieces}
 use Rattle.answers.specs.declared.Reading.{Reading}
 use Rattle.answers.specs.declared.Count.{Count}
 use Rattle.answers.specs.declared.Outcome.{Outcome}
 use Rattle.answers.specs.declared.Wait.{Wait}
 use Rattle.answers.specs.declared.Row.{Row}
+use Rattle.answers.specs.declared.Cut.{Cut}
+use Rattle.answers.specs.declared.Joined.{Joined}
 
 abbrev pub channelNumber : Channel → ℕ
 channelNumber Read = 0
@@ -97,3 +105,25 @@ rowOf (analysed r) =
       response = r .response;
       period = r .period;
     }
+
+abbrev pub cutOf : Reply → Cut
+cutOf (CutRefused p n l) = record { number = n; line = l; pieces = 0 }
+cutOf (Pieces k) = record { number = 0; line = 0; pieces = k }
+
+abbrev pub joinNumber : Joining → ℕ
+joinNumber taken = 0
+joinNumber joinDone = 0
+joinNumber (notJoined m) = m
+
+abbrev pub isDone : Joining → Bool
+isDone taken = false
+isDone joinDone = true
+isDone (notJoined m) = false
+
+abbrev pub joinedOf : JoinedWith → Joined
+joinedOf x = record {
+  number = joinNumber (x .answer);
+  done = isDone (x .answer);
+  pieces = x .joiner .pieces;
+  answered = x .joiner .answered;
+}

@@ -1,21 +1,25 @@
-// What a reader, a run, a wait and a bound answer, as numbers: an enum cannot cross to C, so each exported function of
-// `razhikum` answers a struct of these.
+// What a reader, a run, a wait, a bound, the splitter and the joiner answer, as numbers: an enum cannot cross to C, so each exported
+// function of `razhikum` answers a struct of these.
 //
 // Every answer carries document 01's number of a refusal, 0 where nothing is refused, and the refusal's line, 0 where it
 // has none.
 use bounds::BoundAnswer;
+use burst::joiner::JoinAnswer;
+use burst::joiner::JoinReply;
 use lines::FileAnswer;
 use lines::answer_line;
 use lines::answer_number;
 use model::Channel;
 use model::number;
 use runner::RunAnswer;
+use splitting::Reply;
 use waits::WhyAnswer;
 ghost use mathlib.Core.Path.{_≡_};
 ghost use Rattle.runner.specs.Answers.{runMeans};
 ghost use Rattle.waits.specs.Answers.{whyMeans};
 ghost use Rattle.bounds.specs.Bounds.{meaningOf};
-ghost use Rattle.answers.specs.Numbers.{channelNumber, channelOf, isAccepted, fileRefused, readingOf, acceptedCount, countOf, outcomeOf, refusedBy, treeRefused, noWait, waitOf, rowOf, unbounded};
+ghost use Rattle.burst.specs.Answers.{joinOutcome};
+ghost use Rattle.answers.specs.Numbers.{channelNumber, channelOf, isAccepted, fileRefused, readingOf, acceptedCount, countOf, outcomeOf, refusedBy, treeRefused, noWait, waitOf, rowOf, unbounded, cutOf, joinedOf};
 
 // What a reader answers. `file` says which file is refused: 0 neither, 1 the tree, 2 the trace.
 #[repr(C)]
@@ -60,6 +64,24 @@ pub struct Row {
     pub yw: u64,
     pub response: u64,
     pub period: u64,
+}
+
+// How a burst is cut: the count of its pieces, 0 on a refusal.
+#[repr(C)]
+pub struct Cut {
+    pub number: u8,
+    pub line: u32,
+    pub pieces: u32,
+}
+
+// What the joiner answers to the answer of a piece: `number` is 11 where it is refused, and `done` says that it was the last. The other
+// two are the joiner that comes back.
+#[repr(C)]
+pub struct Joined {
+    pub number: u8,
+    pub done: bool,
+    pub pieces: u32,
+    pub answered: u32,
 }
 
 // How many accelerators a tree has: 0 on a refusal.
@@ -262,5 +284,47 @@ pub fn row_of(answer: BoundAnswer) -> Row
             response: f.response.0,
             period: f.period.0,
         },
+    }
+}
+
+// How a burst is cut.
+pub fn cut_of(reply: Reply) -> Cut
+    ensures { λ r. ⌜ r ≡ cutOf reply ⌝ }
+{
+    match reply {
+        Reply::Refused(_, number, at) => Cut {
+            number: number,
+            line: at,
+            pieces: 0,
+        },
+        Reply::Pieces(k) => Cut {
+            number: 0,
+            line: 0,
+            pieces: k,
+        },
+    }
+}
+
+// What the joiner answers, with the joiner that comes back.
+pub fn joined_of(reply: JoinReply) -> Joined
+    ensures { λ r. ⌜ r ≡ joinedOf (joinOutcome reply) ⌝ }
+{
+    let answer = reply.answer;
+    let mut joined = Joined {
+        number: 0,
+        done: false,
+        pieces: reply.joiner.pieces,
+        answered: reply.joiner.answered,
+    };
+    match answer {
+        JoinAnswer::Taken => joined,
+        JoinAnswer::Done => {
+            joined.done = true;
+            joined
+        }
+        JoinAnswer::Refused(r) => {
+            joined.number = number(r);
+            joined
+        }
     }
 }

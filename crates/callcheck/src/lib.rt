@@ -150,7 +150,7 @@ fn same_channel(c: Channel, d: &[usize; 16384]) -> bool
 }
 
 // Is each entry of the library's state, on a tree with this return delay, what the store has?
-fn same_state(s: State, delay: u8, d: &[usize; 16384]) -> bool
+pub fn same_state(s: State, delay: u8, d: &[usize; 16384]) -> bool
     ensures { λ r. ⌜ r ≡ sameState s delay (now (d .entry)) ⌝ }
 {
     let c = s.channel;

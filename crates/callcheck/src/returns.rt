@@ -84,7 +84,7 @@ fn give(x: u32, a: usize, n: u32, delay: u8, d: &mut [usize; 16384]) {
 }
 
 // All returns of the library's state, on a tree with this return delay, given to the second machine.
-pub(crate) fn give_all(s: State, delay: u8, d: &mut [usize; 16384]) {
+pub fn give_all(s: State, delay: u8, d: &mut [usize; 16384]) {
     for a in 0..32u8 {
         give(returns_of(s, a), a as usize, s.slot, delay, d);
     }

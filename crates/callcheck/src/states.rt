@@ -54,7 +54,7 @@ pub(crate) fn of_other_channel(s: State, d: &mut [usize; 16384]) -> State {
 }
 
 // The state with n in entry i of a part.
-fn altered(s: State, which: usize, i: usize, n: u16) -> State {
+pub fn altered(s: State, which: usize, i: usize, n: u16) -> State {
     let mut next = s;
     let a = i % 32;
     let j = i % 15;

@@ -1,6 +1,7 @@
-// The library's readers, machine, runner, bounds, waits and writer, run beside those of `second` on the generated and the listed
+// The library's readers, machine, runner, bounds, waits, writer and bursts, run beside those of `second` on the generated and the listed
 // inputs of `generator`. It writes how many inputs of each kind there were, how often each of several wrong rules, followed on
 // purpose, was seen, and last how many differences there are.
+mod bursts;
 mod compare;
 mod edges;
 mod exports;
@@ -10,6 +11,7 @@ mod walked;
 mod whys;
 mod writings;
 
+use crate::bursts::try_bursts;
 use crate::edges::try_case_11;
 use crate::edges::try_delays;
 use crate::edges::try_listed;
@@ -74,5 +76,6 @@ fn main() {
     let n = io::read_full(STDIN_FILENO, &mut page);
     try_listed(&page[..n], &mut d, &mut out);
     try_long(&mut page, &mut d, &mut out);
+    try_bursts(&mut d);
     show(&d);
 }

@@ -6,6 +6,14 @@ use alter::tangle::INTERCONNECT_TWICE;
 use alter::tangle::UNUSED_ACCELERATOR;
 use alter::tangle::UNUSED_INTERCONNECT;
 use alter::tangle::UNUSED_PORT;
+use burstcheck::joins::JOINS;
+use burstcheck::offers::ADMITTED;
+use burstcheck::offers::IN_PART;
+use burstcheck::offers::OFFERED;
+use burstcheck::offers::RESUMED;
+use burstcheck::splits::AT_END;
+use burstcheck::splits::PIECES;
+use burstcheck::splits::SPLITS;
 use callcheck::BROKEN;
 use callcheck::CHANGED;
 use callcheck::HELD_BACK;
@@ -28,14 +36,21 @@ use callcheck::states::ONE_RETURNS;
 use callcheck::states::ONE_WAITS;
 use libc::STDOUT_FILENO;
 use second::ADMITTED_LATE;
+use second::AFTER_LAST;
 use second::AS_READ;
 use second::BOTH_COUNT;
 use second::BUDGET_FIRST;
+use second::BURST_FIRST;
+use second::BY_LENGTH;
 use second::BY_NUMBER;
 use second::DONE_AT_HOME;
+use second::DONE_EARLY;
 use second::DONE_HOLDING;
 use second::DUE_NOW;
+use second::END_CROSSES;
+use second::ENTRIES_LEFT;
 use second::FALLING_FIRST;
+use second::FROM_FIRST;
 use second::FROM_ZERO;
 use second::GROWING;
 use second::HALF_PAIR;
@@ -47,20 +62,26 @@ use second::JOB_LAST;
 use second::JOBLESS_ADMITTED;
 use second::JOBLESS_KEPT;
 use second::LAST_FIRST;
+use second::LAST_FULL;
 use second::LONG_FIRST;
 use second::LOWER_RESET;
 use second::NESTED;
 use second::NO_PORT_7;
 use second::NOT_OUTSTANDING;
+use second::NOT_ROUNDED;
 use second::NUMBER_FIRST;
+use second::ONE_OFFER;
 use second::ORDER_FIRST;
 use second::OTHER_CHANNEL;
 use second::OWN_MEETS;
 use second::OWN_PORT;
+use second::PAGE_FIRST;
+use second::REFUSED_COUNTED;
 use second::ROOT_MEETS;
 use second::SERVICE_LISTED;
 use second::SHORT_FIRST;
 use second::SIZE_FIRST;
+use second::THREE_BYTES;
 use second::TRACE_FIRST;
 use second::UNKNOWN_FIRST;
 use second::WHOLE_RUN;
@@ -182,8 +203,14 @@ pub const NO_CHANNEL: usize = 3447;
 // Listed inputs whose turn chose the channel.
 pub const CHANNEL_TURNS: usize = 3448;
 
+// Exported splits by the number of their answer on an accepted tree; at 1 those refused by the tree.
+pub const CUTS: usize = 3552;
+
+// Exported answers of a joiner.
+pub const JOINED: usize = 3576;
+
 // What the program writes: a label to each line,
-const LABELS: [u8; 4847] = *b"trees accepted\n\
+const LABELS: [u8; 6168] = *b"trees accepted\n\
     trees accepted, 1 level\n\
     trees accepted, 2 levels\n\
     trees accepted, 3 levels\n\
@@ -284,6 +311,26 @@ const LABELS: [u8; 4847] = *b"trees accepted\n\
     writings refused by 2\n\
     writings refused by 11\n\
     writings refused by 13\n\
+    bursts split\n\
+    bursts split, ending on the last byte of a page\n\
+    pieces of the bursts split\n\
+    bursts refused by 11\n\
+    bursts refused by 15\n\
+    bursts refused by 16\n\
+    joiner: answers taken\n\
+    joiner: answers taken, done\n\
+    joiner: answers refused by 11\n\
+    bursts offered, none refused\n\
+    bursts offered, admitted in part\n\
+    bursts offered, begun with a later piece\n\
+    pieces admitted\n\
+    bursts offered, refused by 7\n\
+    bursts offered, refused by 8\n\
+    bursts offered, refused by 9\n\
+    bursts offered, refused by 11\n\
+    bursts offered, refused by 14\n\
+    bursts offered, refused by 15\n\
+    bursts offered, refused by 16\n\
     exports: readings\n\
     exports: bounds\n\
     exports: reports\n\
@@ -297,6 +344,11 @@ const LABELS: [u8; 4847] = *b"trees accepted\n\
     exports: writings refused by 2\n\
     exports: writings refused by 13\n\
     exports: writings refused by the tree\n\
+    exports: bursts split\n\
+    exports: bursts refused by 15\n\
+    exports: bursts refused by 16\n\
+    exports: bursts refused by the tree\n\
+    exports: answers to a joiner\n\
     wrong: 3 tested before 2, trees seen\n\
     wrong: 6 tested before 7, traces seen\n\
     wrong: budgets over the whole run, runs seen\n\
@@ -336,10 +388,23 @@ const LABELS: [u8; 4847] = *b"trees accepted\n\
     wrong: the other channel's job, offers and runs seen\n\
     wrong: admitted without a job, runs seen\n\
     wrong: done though held without a job, runs seen\n\
+    wrong: the last piece with B beats, bursts seen\n\
+    wrong: a later start not rounded down, bursts seen\n\
+    wrong: a page test by length only, bursts seen\n\
+    wrong: ending on the last byte of a page refused, bursts seen\n\
+    wrong: 16 tested before 15, bursts seen\n\
+    wrong: 15 and 16 tested before 11, bursts seen\n\
+    wrong: beats of 3 bytes, bursts seen\n\
+    wrong: entries past the last piece left, bursts seen\n\
+    wrong: done one answer early, answers seen\n\
+    wrong: the answer after the last taken, answers seen\n\
+    wrong: a burst offered as one, bursts seen\n\
+    wrong: begun with the first piece, bursts seen\n\
+    wrong: the refused piece counted, bursts seen\n\
     differences\n";
 
 // and where its count stands.
-const PLACES: [usize; 154] = [
+const PLACES: [usize; 192] = [
     TREES,
     LEVELS + 1,
     LEVELS + 2,
@@ -441,6 +506,26 @@ const PLACES: [usize; 154] = [
     WRITINGS + 2,
     WRITINGS + 11,
     WRITINGS + 13,
+    SPLITS,
+    AT_END,
+    PIECES,
+    SPLITS + 11,
+    SPLITS + 15,
+    SPLITS + 16,
+    JOINS,
+    JOINS + 1,
+    JOINS + 11,
+    OFFERED,
+    IN_PART,
+    RESUMED,
+    ADMITTED,
+    OFFERED + 7,
+    OFFERED + 8,
+    OFFERED + 9,
+    OFFERED + 11,
+    OFFERED + 14,
+    OFFERED + 15,
+    OFFERED + 16,
     EXPORTS,
     EXPORTS + 1,
     EXPORTS + 2,
@@ -454,6 +539,11 @@ const PLACES: [usize; 154] = [
     REWRITINGS + 2,
     REWRITINGS + 13,
     REWRITINGS + 1,
+    CUTS,
+    CUTS + 15,
+    CUTS + 16,
+    CUTS + 1,
+    JOINED,
     WRONG + ORDER_FIRST,
     WRONG + FALLING_FIRST,
     WRONG + WHOLE_RUN,
@@ -493,6 +583,19 @@ const PLACES: [usize; 154] = [
     WRONG + OTHER_CHANNEL,
     WRONG + JOBLESS_ADMITTED,
     WRONG + DONE_HOLDING,
+    WRONG + LAST_FULL,
+    WRONG + NOT_ROUNDED,
+    WRONG + BY_LENGTH,
+    WRONG + END_CROSSES,
+    WRONG + PAGE_FIRST,
+    WRONG + BURST_FIRST,
+    WRONG + THREE_BYTES,
+    WRONG + ENTRIES_LEFT,
+    WRONG + DONE_EARLY,
+    WRONG + AFTER_LAST,
+    WRONG + ONE_OFFER,
+    WRONG + FROM_FIRST,
+    WRONG + REFUSED_COUNTED,
     DIFFERENCES,
 ];
 
@@ -516,7 +619,7 @@ fn show_line(labels: &[u8], from: usize, n: usize) -> usize {
 pub fn show(d: &[usize; 16384]) {
     let labels = LABELS;
     let mut from = 0;
-    for i in 0..154 {
+    for i in 0..192 {
         from = show_line(&labels, from, get(d, PLACES[i], 0));
     }
 }

@@ -1,7 +1,8 @@
 // The files that both implementations are run on: made at random from a fixed seed, damaged, at a limit, listed, or other texts of
-// a tree.
+// a tree; and bursts.
 //
 // Test code, without contracts: it is proved that each function is safe and ends.
+pub mod bursts;
 mod damage;
 mod generate;
 pub mod limits;

@@ -12,3 +12,4 @@ pub mod Homecoming
 pub mod AtOnce
 pub mod Consequences
 pub mod Instances
+pub mod Bursts

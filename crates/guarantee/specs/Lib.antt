@@ -3,3 +3,4 @@ pub mod Consequences
 pub mod Homecoming
 pub mod AtOnce
 pub mod Instances
+pub mod Bursts

@@ -1,6 +1,6 @@
 -- What the exported functions answer, as numbers, from the definitions of documents 01 and 02 that the libraries below cite.
 --
--- version               2.0.0 as one number: 10,000 for the first figure, 100 for the second, 1 for the third
+-- version               2.1.0 as one number: 10,000 for the first figure, 100 for the second, 1 for the third
 -- pageOf x              what `plan` answers, as the static library says it
 -- treeReading q         the reading q of a tree file as numbers
 -- traceReading q s      the same for the trace s on that tree: a refused tree comes first
@@ -14,6 +14,7 @@
 -- listFrom q c s a k d  the buffer d after it: a refused tree leaves it as it was
 -- waitOn n q s a k d, listOn n q s a k d   the same for the channel of number n, refused as for a run
 -- rowFrom q a           the bounds of accelerator a on the tree of reading q
+-- burstOf x k z         the burst of k beats of z bytes from address x on
 use Prim.Native.Nat.{ℕ, _+_, _*_}
 use mathlib.Core.List.{List}
 use lib.ListN.{length}
@@ -26,6 +27,7 @@ use Rattle.placing.specs.declared.TreeRead.{TreeRead}
 use Rattle.runner.specs.Run.{ranOf, bufferAfter}
 use Rattle.waits.specs.Why.{whyOf, whyBuffer}
 use Rattle.bounds.specs.Bounds.{boundOf}
+use Rattle.burst.specs.declared.Burst.{Burst}
 use Rattle.plan.specs.declared.Printed.{Printed}
 use Rattle.razhikum.specs.declared.Page.{Page}
 use Rattle.answers.specs.declared.Reading.{Reading}
@@ -36,7 +38,7 @@ use Rattle.answers.specs.declared.Row.{Row}
 use Rattle.answers.specs.Numbers.{channelOf, isAccepted, readingOf, countOf, outcomeOf, refusedBy, treeRefused, noWait, waitOf, unbounded, rowOf}
 
 abbrev pub version : ℕ
-version = 2 * 10000 + 0 * 100 + 0
+version = 2 * 10000 + 1 * 100 + 0
 
 abbrev pub pageOf : Printed → Page
 pageOf x = record { bytes = x .bytes; number = x .number; line = x .line }
@@ -78,3 +80,6 @@ listOn n q s a k d = pick (ltb 1 n) d (listFrom q (channelOf n) s a k d)
 
 abbrev pub rowFrom : TreeRead → ℕ → Row
 rowFrom q a = pick (isAccepted (q .answer)) (rowOf (boundOf (q .tree) a)) (unbounded (answerNumber (q .answer)) (answerLine (q .answer)))
+
+abbrev pub burstOf : ℕ → ℕ → ℕ → Burst
+burstOf x k z = record { start = x; beats = k; size = z }

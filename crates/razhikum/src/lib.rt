@@ -2,13 +2,17 @@
 // `requires`: each answers every input, by a struct of numbers (`answers`). The header include/razhikum.h says the same to a C
 // compiler, and the package in rust/ to Rust.
 use answers::Count;
+use answers::Cut;
+use answers::Joined;
 use answers::Outcome;
 use answers::Reading;
 use answers::Row;
 use answers::Wait;
 use answers::channel_of;
 use answers::count_of;
+use answers::cut_of;
 use answers::is_accepted;
+use answers::joined_of;
 use answers::no_wait;
 use answers::outcome_of;
 use answers::reading_of;
@@ -18,12 +22,16 @@ use answers::tree_refused;
 use answers::unbounded;
 use answers::wait_of;
 use bounds::bound;
+use burst::Burst;
+use burst::joiner::Joiner;
+use burst::joiner::join;
 use lines::answer_line;
 use lines::answer_number;
 use model::Channel;
 use plan::Printed;
 use reader::read_tree;
 use runner::run;
+use splitting::split_file;
 use trace::read_trace;
 use waits::why;
 ghost use mathlib.Core.Path.{_≡_};
@@ -31,7 +39,10 @@ ghost use Rattle.reader.specs.TreeFile.{readTree};
 ghost use lib.ListN.{length};
 ghost use Rattle.plan.specs.Plan.{Printing};
 ghost use Rattle.plan.specs.Rewrite.{rewriteOf, rewriteBuffer};
-ghost use Rattle.razhikum.specs.Exports.{version, pageOf, treeReading, traceReading, countFrom, outcomeFrom, bufferFrom, outcomeOn, bufferOn, waitFrom, listFrom, waitOn, listOn, rowFrom};
+ghost use Rattle.razhikum.specs.Exports.{version, pageOf, treeReading, traceReading, countFrom, outcomeFrom, bufferFrom, outcomeOn, bufferOn, waitFrom, listFrom, waitOn, listOn, rowFrom, burstOf};
+ghost use Rattle.splitting.specs.Splitting.{replyFrom, startsFrom, beatsFrom};
+ghost use Rattle.answers.specs.Numbers.{cutOf, joinedOf};
+ghost use Rattle.burst.specs.Joiner.{joinOf};
 
 // A report or a tree as text: how many bytes of the buffer it has; or the refusal, which puts none.
 #[repr(C)]
@@ -56,7 +67,7 @@ fn page_of(x: Printed) -> Page
 pub extern "C" fn razhikum_version() -> u32
     ensures { λ r. ⌜ r ≡ version ⌝ }
 {
-    20000
+    20100
 }
 
 // Whether the tree file is accepted, or why and at which line it is refused.
@@ -188,4 +199,39 @@ pub extern "C" fn razhikum_bound(tree: &[u8], accelerator: u8) -> Row
         return unbounded(answer_number(answer), answer_line(answer));
     }
     row_of(bound(x.tree, accelerator))
+}
+
+// Cuts a burst into pieces of the tree's burst length: of each piece the start address and the beats, and 0 in the entries after them. A
+// refusal leaves both arrays as they were.
+#[no_mangle]
+pub extern "C" fn razhikum_split(
+    tree: &[u8],
+    start: u32,
+    beats: u32,
+    size: u32,
+    starts: &mut [u32; 256],
+    lengths: &mut [u32; 256],
+) -> Cut
+    ensures answer { λ r. ⌜ r ≡ cutOf (replyFrom (readTree (now (tree .entry))) (burstOf start beats size)) ⌝ }
+    ensures starts { λ r. ⌜ now (starts .exit) ≡ startsFrom (readTree (now (tree .entry))) (burstOf start beats size) (now (starts .entry)) ⌝ }
+    ensures lengths { λ r. ⌜ now (lengths .exit) ≡ beatsFrom (readTree (now (tree .entry))) (burstOf start beats size) (now (lengths .entry)) ⌝ }
+{
+    let b = Burst {
+        start: start,
+        beats: beats,
+        size: size,
+    };
+    cut_of(split_file(tree, b, starts, lengths))
+}
+
+// Hands the answer of the piece of this number, from 1 on, to the joiner of a burst of so many pieces, of which so many are answered.
+#[no_mangle]
+pub extern "C" fn razhikum_join(pieces: u32, answered: u32, number: u32) -> Joined
+    ensures { λ r. ⌜ r ≡ joinedOf (joinOf (record { pieces = pieces; answered = answered }) number) ⌝ }
+{
+    let joiner = Joiner {
+        pieces: pieces,
+        answered: answered,
+    };
+    joined_of(join(joiner, number))
 }

@@ -24,7 +24,7 @@
 -- valueText k v        a refusal by 2 of the line with the fields v of record k: a field outside its limits, or else a total
 -- onPort k, isInt k    record k takes a port; record k is an int line
 -- orderRow k           which sentence tells what is wanted of the order of record k
--- numberRow n          which sentence tells a refusal by number n in general
+-- numberRow n          which sentence tells a refusal by number n in general: 1 to 12 stand at their numbers, 13 to 16 from 35 on
 -- lineSays n q k v     a refusal by number n, from 2 on, of the line with the fields v of record k; q is the slot of the line before
 -- foundText t n l q e b  a refusal by number n of line l, whose bytes are b, in a tree or, if t, in a trace; e says that LF ends it
 -- fromLine s n         the file s from line n on, counted from 1
@@ -153,7 +153,7 @@ orderRow AccLine = 31
 orderRow OfferLine = 3
 
 abbrev pub numberRow : ℕ → ℕ
-numberRow n = pick (ltb 12 n) 0 n
+numberRow n = pick (ltb 16 n) 0 (pick (ltb 12 n) (22 + n) n)
 
 -- int: number, parent, port; acc: number, interconnect, port; o: slot, accelerator
 unfoldable pub lineSays : ℕ → ℕ → Kind → List ℕ → List ℕ

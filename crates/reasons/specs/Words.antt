@@ -2,7 +2,7 @@
 --
 -- fromPart sep k s     the bytes s from part k on, where parts end at sep and are counted from 0
 -- partAt sep k s       part k of s: nothing past the last one
--- sentences            a sentence to a row, counted from 0; rows 1 to 12 tell the cause of that number in general
+-- sentences            a sentence to a row, counted from 0; rows 1 to 12 tell the cause of that number in general, 35 to 38 that of 13 to 16
 -- marked b x           the byte b of a sentence, or the number x where b is #
 -- filled s x y         the sentence s with x in place of its first # and y in place of each later one
 -- sentence j x y       row j of the sentences, with x and y in it
@@ -80,6 +80,11 @@ sentences =
     ++ bytes "above 65536, the limit of a file's bytes and of SLOTS\n"
     -- 34: a wrong count of fields, said of a record whose last field may be left out
     ++ bytes " has # fields, or one more for the return delay, and # were found\n"
+    -- 35 to 38: the cause of number 13 to 16 in general
+    ++ bytes "the lent buffer is shorter than the text of the tree\n"
+    ++ bytes "the accelerator has no transactions on this channel\n"
+    ++ bytes "a burst has 1 to 256 beats, and a beat has 1, 2, 4, 8, 16, 32, 64 or 128 bytes\n"
+    ++ bytes "the burst crosses a multiple of 4096\n"
 
 -- # is byte 35
 abbrev pub marked : ℕ → ℕ → List ℕ

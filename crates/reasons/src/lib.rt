@@ -45,7 +45,7 @@ fn put_found(
     ended: bool,
     l: &[u8],
 ) -> usize
-    ensures { λ r. ⌜ Put 40322 (now (out .entry)) at (foundText trace number line before ended (now (l .entry))) (now (out .exit)) r ⌝ }
+    ensures { λ r. ⌜ Put 48322 (now (out .entry)) at (foundText trace number line before ended (now (l .entry))) (now (out .exit)) r ⌝ }
 {
     let r = read_line(l);
     let kind = r.kind;
@@ -82,7 +82,7 @@ fn slot_before(s: &[u8], line: u32) -> u64
 }
 
 fn put_cause(out: &mut [u8], at: usize, trace: bool, s: &[u8], number: u8, line: u32) -> usize
-    ensures { λ r. ⌜ Put 40322 (now (out .entry)) at (causeText trace (now (s .entry)) number line) (now (out .exit)) r ⌝ }
+    ensures { λ r. ⌜ Put 48322 (now (out .entry)) at (causeText trace (now (s .entry)) number line) (now (out .exit)) r ⌝ }
 {
     let before = slot_before(s, line);
     let from = part_start(s, 10, less(line, 1));
@@ -104,7 +104,7 @@ fn put_place(out: &mut [u8], line: u32) -> usize
 }
 
 fn put_reason(out: &mut [u8], trace: bool, s: &[u8], number: u8, line: u32) -> usize
-    ensures { λ r. ⌜ Put 40350 (now (out .entry)) 0 (reasonText trace (now (s .entry)) number line) (now (out .exit)) r ⌝ }
+    ensures { λ r. ⌜ Put 48350 (now (out .entry)) 0 (reasonText trace (now (s .entry)) number line) (now (out .exit)) r ⌝ }
 {
     let next = put_place(out, line);
     let next = put_cause(out, next, trace, s, number, line);

@@ -132,7 +132,7 @@ fn not_number(f: Field) -> usize
 
 // Field i, whose bytes are x, may not stand.
 fn put_unread(out: &mut [u8], at: usize, kind: Kind, i: usize, x: &[u8]) -> usize
-    ensures { λ r. ⌜ Put 40322 (now (out .entry)) at (unreadText kind i (now (x .entry))) (now (out .exit)) r ⌝ }
+    ensures { λ r. ⌜ Put 48322 (now (out .entry)) at (unreadText kind i (now (x .entry))) (now (out .exit)) r ⌝ }
 {
     let next = put_field_name(out, at, kind, i);
     let next = put_quoted(out, next, x);
@@ -141,7 +141,7 @@ fn put_unread(out: &mut [u8], at: usize, kind: Kind, i: usize, x: &[u8]) -> usiz
 
 // A line of a record with a field that may not stand.
 fn put_malformed(out: &mut [u8], at: usize, kind: Kind, l: &[u8]) -> usize
-    ensures { λ r. ⌜ Put 40322 (now (out .entry)) at (malformedText kind (now (l .entry))) (now (out .exit)) r ⌝ }
+    ensures { λ r. ⌜ Put 48322 (now (out .entry)) at (malformedText kind (now (l .entry))) (now (out .exit)) r ⌝ }
 {
     let i = first_unread(kind, l);
     let f = form_of(kind);
@@ -153,7 +153,7 @@ fn put_malformed(out: &mut [u8], at: usize, kind: Kind, l: &[u8]) -> usize
 
 // The name that no record has.
 fn put_no_record(out: &mut [u8], at: usize, name: &[u8]) -> usize
-    ensures { λ r. ⌜ Put 40022 (now (out .entry)) at (quoted (now (name .entry)) ++ sentence 18 0 0) (now (out .exit)) r ⌝ }
+    ensures { λ r. ⌜ Put 48022 (now (out .entry)) at (quoted (now (name .entry)) ++ sentence 18 0 0) (now (out .exit)) r ⌝ }
 {
     let next = put_quoted(out, at, name);
     put_sentence(out, next, 18, 0, 0)
@@ -161,7 +161,7 @@ fn put_no_record(out: &mut [u8], at: usize, name: &[u8]) -> usize
 
 // A line of a record has this count of fields, which is not the count that it may have.
 fn put_count(out: &mut [u8], at: usize, kind: Kind, count: usize) -> usize
-    ensures { λ r. ⌜ Put 40134 (now (out .entry)) at (countText kind count) (now (out .exit)) r ⌝ }
+    ensures { λ r. ⌜ Put 48134 (now (out .entry)) at (countText kind count) (now (out .exit)) r ⌝ }
 {
     let f = form_of(kind);
     if f.least == f.count {
@@ -172,7 +172,7 @@ fn put_count(out: &mut [u8], at: usize, kind: Kind, count: usize) -> usize
 
 // Sentence j of a wrong shape, of the bytes l, which have this record and this count of fields.
 pub fn put_fault(out: &mut [u8], at: usize, j: usize, kind: Kind, count: usize, l: &[u8]) -> usize
-    ensures { λ r. ⌜ Put 40322 (now (out .entry)) at (faultText j kind count (now (l .entry))) (now (out .exit)) r ⌝ }
+    ensures { λ r. ⌜ Put 48322 (now (out .entry)) at (faultText j kind count (now (l .entry))) (now (out .exit)) r ⌝ }
 {
     if j == 18 {
         return put_no_record(out, at, part(l, 9, 0));

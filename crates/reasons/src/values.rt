@@ -56,7 +56,7 @@ fn put_limit(
 
 // A total over its limit.
 fn put_total(out: &mut [u8], at: usize, kind: Kind, values: [u64; 11]) -> usize
-    ensures { λ r. ⌜ Put 40300 (now (out .entry)) at (totalText kind values) (now (out .exit)) r ⌝ }
+    ensures { λ r. ⌜ Put 48300 (now (out .entry)) at (totalText kind values) (now (out .exit)) r ⌝ }
 {
     if fits(true, kind) {
         return put_of_field(out, at, kind, 2, 24, values[1], 0);
@@ -66,7 +66,7 @@ fn put_total(out: &mut [u8], at: usize, kind: Kind, values: [u64; 11]) -> usize
 
 // A refusal by 2: the field that is outside its limits, or a total.
 fn put_value(out: &mut [u8], at: usize, kind: Kind, values: [u64; 11]) -> usize
-    ensures { λ r. ⌜ Put 40300 (now (out .entry)) at (valueText kind values) (now (out .exit)) r ⌝ }
+    ensures { λ r. ⌜ Put 48300 (now (out .entry)) at (valueText kind values) (now (out .exit)) r ⌝ }
 {
     let i = first_outside(kind, values);
     let f = form_of(kind);
@@ -118,8 +118,11 @@ fn order_row(kind: Kind) -> usize
 pub fn number_row(number: u8) -> usize
     ensures { λ r. ⌜ r ≡ numberRow number ⌝ }
 {
-    if 12 < number {
+    if 16 < number {
         return 0;
+    }
+    if 12 < number {
+        return 22 + number as usize;
     }
     number as usize
 }
@@ -133,7 +136,7 @@ pub fn put_line(
     kind: Kind,
     values: [u64; 11],
 ) -> usize
-    ensures { λ r. ⌜ Put 40300 (now (out .entry)) at (lineSays number before kind values) (now (out .exit)) r ⌝ }
+    ensures { λ r. ⌜ Put 48300 (now (out .entry)) at (lineSays number before kind values) (now (out .exit)) r ⌝ }
 {
     let trace = fits(true, kind);
     if number == 2 {

@@ -51,7 +51,7 @@ fn put_filled(out: &mut [u8], at: usize, s: &[u8], x: u64, y: u64) -> usize
 
 // Row j of the sentences, with x and y in it.
 pub fn put_sentence(out: &mut [u8], at: usize, j: usize, x: u64, y: u64) -> usize
-    ensures { λ r. ⌜ Put 40000 (now (out .entry)) at (sentence j x y) (now (out .exit)) r ⌝ }
+    ensures { λ r. ⌜ Put 48000 (now (out .entry)) at (sentence j x y) (now (out .exit)) r ⌝ }
 {
     let sentences = b"no refusal has this number\n\
         wrong shape: record name, field count, malformed number or missing last LF\n\
@@ -88,7 +88,11 @@ pub fn put_sentence(out: &mut [u8], at: usize, j: usize, x: u64, y: u64) -> usiz
         \x20#: wrong order: acc lines come after the int lines, each number once, on an interconnect that an int line names\n\
         the file ends too early: the bus line, int 0, an acc line, or an acc number below the highest is missing\n\
         above 65536, the limit of a file's bytes and of SLOTS\n\
-        \x20has # fields, or one more for the return delay, and # were found\n";
+        \x20has # fields, or one more for the return delay, and # were found\n\
+        the lent buffer is shorter than the text of the tree\n\
+        the accelerator has no transactions on this channel\n\
+        a burst has 1 to 256 beats, and a beat has 1, 2, 4, 8, 16, 32, 64 or 128 bytes\n\
+        the burst crosses a multiple of 4096\n";
     put_filled(out, at, part(sentences, 10, j), x, y)
 }
 
@@ -195,7 +199,7 @@ pub fn put_quoted(out: &mut [u8], at: usize, s: &[u8]) -> usize
 
 // Sentence j, said of a record.
 pub fn put_of_record(out: &mut [u8], at: usize, kind: Kind, j: usize, x: u64, y: u64) -> usize
-    ensures { λ r. ⌜ Put 40134 (now (out .entry)) at (recordSays kind j x y) (now (out .exit)) r ⌝ }
+    ensures { λ r. ⌜ Put 48134 (now (out .entry)) at (recordSays kind j x y) (now (out .exit)) r ⌝ }
 {
     let next = put_record(out, at, kind);
     put_sentence(out, next, j, x, y)
@@ -211,7 +215,7 @@ pub fn put_of_field(
     x: u64,
     y: u64,
 ) -> usize
-    ensures { λ r. ⌜ Put 40300 (now (out .entry)) at (fieldSays kind i j x y) (now (out .exit)) r ⌝ }
+    ensures { λ r. ⌜ Put 48300 (now (out .entry)) at (fieldSays kind i j x y) (now (out .exit)) r ⌝ }
 {
     let next = put_field_name(out, at, kind, i);
     put_sentence(out, next, j, x, y)

@@ -1,9 +1,10 @@
-// A second implementation of document 01's readers, machine, runner and bounds, and of document 02's items 1, 2, 4 and 5, written
+// A second implementation of document 01's readers, machine, runner and bounds, and of document 02's items 1, 2 and 4 to 6, written
 // separately from the library and its definitions: it shares no code with them.
 //
 // Test code: it is proved that each function is safe and ends. Those that a comparison with the library reads its entries by have
 // equations: which number of the store each of them answers.
 pub mod book;
+pub mod bursts;
 pub mod calls;
 pub mod entries;
 pub mod home;
@@ -93,8 +94,34 @@ pub const JOBLESS_KEPT: usize = 36;
 pub const OTHER_CHANNEL: usize = 37;
 // a run that admits from an accelerator without a job,
 pub const JOBLESS_ADMITTED: usize = 38;
-// and one that is done though such an accelerator holds requests.
+// and one that is done though such an accelerator holds requests;
 pub const DONE_HOLDING: usize = 39;
+// the last piece of a burst with B beats,
+pub const LAST_FULL: usize = 40;
+// a later piece that starts from the start address not rounded down,
+pub const NOT_ROUNDED: usize = 41;
+// a page test by the length of the burst only,
+pub const BY_LENGTH: usize = 42;
+// or one that refuses a burst which ends on the last byte of a page,
+pub const END_CROSSES: usize = 43;
+// 16 tested before 15,
+pub const PAGE_FIRST: usize = 44;
+// 15 and 16 tested before 11 by the splitter and by an offered burst,
+pub const BURST_FIRST: usize = 45;
+// beats of 3 bytes,
+pub const THREE_BYTES: usize = 46;
+// entries past the last piece that are left,
+pub const ENTRIES_LEFT: usize = 47;
+// a joiner that is done one answer early,
+pub const DONE_EARLY: usize = 48;
+// or takes the answer after the last,
+pub const AFTER_LAST: usize = 49;
+// a burst that is offered as one transaction,
+pub const ONE_OFFER: usize = 50;
+// from its first piece on, whichever it is to begin with,
+pub const FROM_FIRST: usize = 51;
+// and a refused piece counted among those admitted.
+pub const REFUSED_COUNTED: usize = 52;
 
 // An answer on a file: 0 where it is accepted, or the number of a refusal; and the line.
 pub struct Said {

@@ -1,13 +1,13 @@
 // One block of numbers, the store, holds all that the second implementation, the generator and the counts keep, in parts that
-// begin at fixed places: those of `second` lie below 3072, from 5120 and from 8192 on, the counts of `crosscheck` and `callcheck`
-// from 3072 on, those of `generator` from 4096 on. There are no structs for a tree, a state or their records. A place past the end
-// goes round.
+// begin at fixed places: those of `second` lie below 3072, from 5120 and from 8192 on, the counts of `crosscheck`, `callcheck` and
+// `burstcheck` from 3072 on, those of `generator` from 4096 on. There are no structs for a tree, a state or their records. A place
+// past the end goes round.
 ghost use mathlib.Core.Path.{_≡_};
 ghost use Prim.Native.Nat.{_<_, min};
 ghost use Rattle.store.specs.Store.{placeOf, numberAt, stored, added, cleared, noted};
 
-// For each wrong rule of `second` the inputs on which it is seen.
-pub const WRONG: usize = 3296;
+// For each wrong rule of `second` the inputs on which it is seen; there is room for 128.
+pub const WRONG: usize = 3584;
 
 // The differences between the library and `second`.
 pub const DIFFERENCES: usize = 3152;

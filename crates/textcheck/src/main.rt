@@ -1,7 +1,8 @@
 // A program that writes every text the programs print: help and usage, the report, the rewriting and refusals of tree files,
-// simulations of refused, done and stopped runs of both channels by the word SLOTS, and refusals in words; what the programs do by
-// their words; and which files can be read. The file `stdout` holds them, written apart from the definitions.
+// simulations of refused, done and stopped runs of both channels by the word SLOTS, waits, bursts in pieces, and refusals in words;
+// what the programs do by their words; and which files can be read. The file `stdout` holds them, written apart from the definitions.
 use answers::channel_number;
+use burst::Burst;
 use input::Input;
 use inquiry::Reply;
 use libc::STDOUT_FILENO;
@@ -39,6 +40,10 @@ fn show_usage() {
     let n = usage::why_usage(&mut page);
     show_page(&page, n);
     let n = usage::why_help(&mut page);
+    show_page(&page, n);
+    let n = usage::split_usage(&mut page);
+    show_page(&page, n);
+    let n = usage::split_help(&mut page);
     show_page(&page, n);
 }
 
@@ -159,6 +164,33 @@ fn why_does(words: &[u8]) {
     }
 }
 
+// What `split` does, started with these words.
+fn split_does(words: &[u8]) {
+    let second = after(words);
+    let third = after(second);
+    let fourth = after(third);
+    let asked = splitting::split_asked(
+        word_count(words),
+        word(words),
+        word(second),
+        word(third),
+        word(fourth),
+    );
+    match asked {
+        splitting::Asked::Usage => say_line(b"split: usage\n"),
+        splitting::Asked::Help => say_line(b"split: help\n"),
+        splitting::Asked::Split(b) => {
+            say_line(b"split: start ");
+            io::print_decimal(STDOUT_FILENO, b.start as u64);
+            say_line(b", beats ");
+            io::print_decimal(STDOUT_FILENO, b.beats as u64);
+            say_line(b", size ");
+            io::print_decimal(STDOUT_FILENO, b.size as u64);
+            say_line(b"\n");
+        }
+    }
+}
+
 // What the program does that the line's first word names, by the words after it: `report` where standard input is no terminal,
 // and where it is one.
 fn does(line: &[u8]) {
@@ -173,6 +205,9 @@ fn does(line: &[u8]) {
     }
     if same_bytes(name, b"why") {
         why_does(words);
+    }
+    if same_bytes(name, b"split") {
+        split_does(words);
     }
 }
 
@@ -299,6 +334,57 @@ fn why_lines() {
         why;read;a.tree;a.trace;255;4294967295;\n\
         why;read;a.tree;a.trace;256;4294967296;\n\
         why;write;a.tree;a.trace;99999999999999999999;99999999999999999999;\n",
+    );
+}
+
+fn split_lines() {
+    do_lines(
+        b"split;\n\
+        split;--help;\n\
+        split;a.tree;-h;\n\
+        split;a.tree;0;--help;\n\
+        split;a.tree;0;1;-h;\n\
+        split;a.tree;0;1;1;-h;\n\
+        split;a.tree;\n\
+        split;a.tree;0;1;\n\
+        split;a.tree;0;1;1;2;\n\
+        split;a.tree;0;1;1;\n\
+        split;-;5;40;4;\n\
+        split;;5;40;4;\n\
+        split;-x;5;40;4;\n\
+        split;--;5;40;4;\n\
+        split;5;40;4;a.tree;\n\
+        split;a.tree;5;x;4;\n\
+        split;a.tree;5;40;4x;\n\
+        split;a.tree;5;-1;4;\n\
+        split;a.tree;5;40;04;\n\
+        split;a.tree;5;;4;\n\
+        split;a.tree;5;40;;\n\
+        split;a.tree;5;0;0;\n\
+        split;a.tree;5;257;3;\n\
+        split;a.tree;5;4294967295;4294967295;\n\
+        split;a.tree;5;4294967296;4294967296;\n\
+        split;a.tree;5;99999999999999999999;99999999999999999999;\n",
+    );
+}
+
+// Each kind of word ADDRESS: the largest, the one after it, 10 and 11 digits, and no number.
+fn address_lines() {
+    do_lines(
+        b"split;a.tree;0;1;1;\n\
+        split;a.tree;4294967295;256;128;\n\
+        split;a.tree;4294967296;256;128;\n\
+        split;a.tree;9999999999;1;1;\n\
+        split;a.tree;10000000000;1;1;\n\
+        split;a.tree;18446744073709551617;1;1;\n\
+        split;a.tree;00;1;1;\n\
+        split;a.tree;05;1;1;\n\
+        split;a.tree;;1;1;\n\
+        split;a.tree;-;1;1;\n\
+        split;a.tree;-5;1;1;\n\
+        split;a.tree;+5;1;1;\n\
+        split;a.tree; 5;1;1;\n\
+        split;a.tree;0x5;1;1;\n",
     );
 }
 
@@ -535,8 +621,8 @@ fn say_numbers() {
     say_of_tree(tree, &[8, 9, 10, 11], 0);
     say(true, tree, 7, 0);
     say(true, tree, 12, 0);
-    say_of_tree(tree, &[12, 13], 1);
-    say_of_tree(tree, &[255, 1, 2, 3], 0);
+    say_of_tree(tree, &[12, 13, 14, 15, 16, 17], 1);
+    say_of_tree(tree, &[13, 14, 15, 16, 17, 255, 1, 2, 3], 0);
 }
 
 // Of a refusal also what is refused.
@@ -613,6 +699,112 @@ fn why_writes(tree: &[u8]) {
     why(Channel::Write, b"x\n", trace, 0, 1);
 }
 
+// The text of a reply to a burst, with these arrays.
+fn show_pieces(reply: splitting::Reply, starts: &[u32; 256], beats: &[u32; 256]) {
+    let mut page = [0u8; 65536];
+    let n = splitting::reply_text(reply, starts, beats, &mut page);
+    show_page(&page, n);
+}
+
+// Of a refusal also what is refused.
+fn split(tree: &[u8], start: u32, beats: u32, size: u32) {
+    let b = Burst {
+        start: start,
+        beats: beats,
+        size: size,
+    };
+    let mut starts = [7u32; 256];
+    let mut lengths = [8u32; 256];
+    let reply = splitting::split_file(tree, b, &mut starts, &mut lengths);
+    show_pieces(reply, &starts, &lengths);
+    let splitting::Reply::Refused(part, _, _) = reply else {
+        return;
+    };
+    match part {
+        splitting::Part::Tree => say_line(b"of the tree\n"),
+        splitting::Part::Address => say_line(b"of ADDRESS\n"),
+        splitting::Part::Beats => say_line(b"of BEATS\n"),
+        splitting::Part::Size => say_line(b"of SIZE\n"),
+    }
+}
+
+// A burst of one piece and of several, with B 16: its first piece may start within a beat.
+fn split_pieces(tree: &[u8]) {
+    split(tree, 4096, 1, 1);
+    split(tree, 0, 16, 4);
+    split(tree, 0, 17, 4);
+    split(tree, 5, 40, 4);
+    split(tree, 1, 256, 16);
+}
+
+// Bursts at the end of a page, and of the last page.
+fn split_at_ends(tree: &[u8]) {
+    split(tree, 4090, 3, 2);
+    split(tree, 4091, 3, 2);
+    split(tree, 4092, 3, 2);
+    split(tree, 4095, 1, 1);
+    split(tree, 4095, 2, 1);
+    split(tree, 4095, 1, 128);
+    split(tree, 4095, 2, 128);
+    split(tree, 4063, 33, 1);
+    split(tree, 4064, 33, 1);
+    split(tree, 16, 256, 16);
+    split(tree, 4294967295, 1, 1);
+    split(tree, 4294967295, 2, 1);
+    split(tree, 4294967168, 1, 128);
+    split(tree, 4294967295, 1, 128);
+    split(tree, 4294967168, 2, 128);
+}
+
+// No burst: 15 comes before 16, and the tree before both.
+fn split_refused(tree: &[u8]) {
+    split(tree, 0, 0, 1);
+    split(tree, 0, 257, 1);
+    split(tree, 0, 1, 0);
+    split(tree, 0, 1, 3);
+    split(tree, 0, 1, 256);
+    split(tree, 4095, 2, 3);
+    split(tree, 4095, 257, 3);
+    split(tree, 5, 4294967295, 4294967295);
+    split(b"x\n", 5, 40, 4);
+    split(b"x\n", 0, 0, 0);
+    split(b"", 4095, 2, 1);
+}
+
+// B 1: a piece for each beat, 256 at most; and B 256.
+fn split_lengths() {
+    let one =
+        b"bus\t8\t1\t4\t2\t2\t30\t25\t1\t1\t1\nint\t0\t-\t-\t1\nacc\t0\t0\t0\t4\t2\t10\t5\t1000\t2000\n";
+    split(one, 1, 3, 4);
+    split(one, 4093, 3, 1);
+    split(one, 4294963201, 256, 16);
+    let most =
+        b"bus\t8\t1\t4\t2\t2\t30\t25\t1\t1\t256\nint\t0\t-\t-\t1\nacc\t0\t0\t0\t4\t2\t10\t5\t1000\t2000\n";
+    split(most, 4294963201, 256, 16);
+}
+
+// Arrays with other numbers than a burst has, by a count of pieces: those that they have are listed.
+fn split_arrays() {
+    let starts = [4294967295u32; 256];
+    let beats = [4294967295u32; 256];
+    show_pieces(splitting::Reply::Pieces(0), &starts, &beats);
+    show_pieces(splitting::Reply::Pieces(2), &starts, &beats);
+    show_pieces(
+        splitting::Reply::Pieces(4294967295),
+        &[7u32; 256],
+        &[8u32; 256],
+    );
+}
+
+// The texts of bursts cut into pieces.
+fn splits(tree: &[u8]) {
+    split_pieces(tree);
+    split_at_ends(tree);
+    split_refused(tree);
+    split_lengths();
+    split_arrays();
+}
+
 // A simulation by each kind of word SLOTS.
 fn simulate_words(tree: &[u8], trace: &[u8]) {
     simulate(Channel::Read, tree, trace, b"0");
@@ -685,7 +877,7 @@ fn rewritings() {
     rewrite(b"bus\t8\t1\t4\t2\t2\t30\t25\t1\t1\t16\t16\n");
 }
 
-// The texts of the programs on a tree: the reports, the rewritings, the runs, the waits.
+// The texts of the programs on a tree: the reports, the rewritings, the runs, the waits, the pieces.
 fn programs(tree: &[u8]) {
     reports(tree);
     rewritings();
@@ -694,6 +886,7 @@ fn programs(tree: &[u8]) {
     simulate_refused(tree);
     why_words(tree);
     why_writes(tree);
+    splits(tree);
 }
 
 fn main() {
@@ -705,6 +898,8 @@ fn main() {
     simulate_lines();
     why_lines();
     channel_lines();
+    split_lines();
+    address_lines();
     load_all();
     say_shapes();
     say_fields();

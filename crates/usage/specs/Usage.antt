@@ -7,15 +7,16 @@
 -- channelAsked w       the channel that the word w names: `read`, `write`, and nothing else
 -- plainNumber w        the word w is a number: digits, at least one, "no sign, no leading zero except 0 itself"
 -- numberAsked w m      the number that the word w says, m standing for every number above m
+-- addressAsked w       the address that the word w says, "a start address of 32 bits" (document 02, item 6); a larger number is none
 -- fileAsked n a b c t  what a program of one file does, started with n words, of which a, b and c are the first three: help, if
 --                      asked; usage, for more than one word or an option; the file that its one word names, "-" too; without a
 --                      word standard input, or usage where that is a terminal (t)
--- reportUsage, rewriteUsage, simulateUsage, whyUsage   what is said where the arguments are wrong
--- reportHelp, rewriteHelp, simulateHelp, whyHelp       what is said where help is asked for
+-- reportUsage, rewriteUsage, simulateUsage, whyUsage, splitUsage   what is said where the arguments are wrong
+-- reportHelp, rewriteHelp, simulateHelp, whyHelp, splitHelp       what is said where help is asked for
 use Prim.Native.Nat.{ℕ, min}
 use mathlib.Core.Bool.{Bool, _&&_, _||_, not}
 use mathlib.Core.List.{List, _++_}
-use lib.Dec.{eqb, ltb}
+use lib.Dec.{eqb, ltb, leb}
 use lib.ListN.{length, getD}
 use Rattle.folds.specs.Fold.{pick}
 use Rattle.text.specs.Text.{same, allDigits, decimal, leadingZero}
@@ -51,6 +52,9 @@ plainNumber w = not (eqb (length w) 0) && not (leadingZero w) && allDigits w
 
 unfoldable pub numberAsked : List ℕ → ℕ → NumberWord
 numberAsked w m = pick (plainNumber w) (Number (min (decimal w) m)) NoNumber
+
+unfoldable pub addressAsked : List ℕ → NumberWord
+addressAsked w = pick (plainNumber w && leb (decimal w) 4294967295) (Number (decimal w)) NoNumber
 
 unfoldable pub fileAsked : ℕ → List ℕ → List ℕ → List ℕ → Bool → Asked
 fileAsked n a b c t =
@@ -110,3 +114,17 @@ whyHelp =
     ++ bytes "accelerator served, and the deepest interconnect on both paths, or own; then waited, and the count of all.\n"
     ++ bytes "A refusal prints \"refused\", the number of the cause and the line; standard error says it in words.\n"
     ++ bytes "example: why read scanner.tree scanner.trace 1 3\n"
+
+abbrev pub splitUsage : List ℕ
+splitUsage = bytes "usage: split TREE ADDRESS BEATS SIZE\nexample: split scanner.tree 4096 40 4\n"
+
+abbrev pub splitHelp : List ℕ
+splitHelp =
+    bytes "split TREE ADDRESS BEATS SIZE: cuts a burst into pieces of the tree's burst length B.\n"
+    ++ bytes "TREE is a tree file, or -, standard input. The other words are decimal: ADDRESS is 0 to 4294967295, BEATS 1 to 256, and\n"
+    ++ bytes "SIZE, the bytes of a beat, 1, 2, 4, 8, 16, 32, 64 or 128.\n"
+    ++ bytes "A line for each piece: its start address and its beats, which are B except perhaps in the last; then pieces, and their count.\n"
+    ++ bytes "Each piece is one transaction for phi and for the budget.\n"
+    ++ bytes "Other BEATS or another SIZE are refused by 15, a burst that crosses a multiple of 4096 by 16, both with line 0.\n"
+    ++ bytes "A refusal prints \"refused\", the number of the cause and the line; standard error says it in words.\n"
+    ++ bytes "example: split scanner.tree 4096 40 4\n"

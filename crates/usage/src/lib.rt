@@ -1,13 +1,15 @@
 // What the programs say of themselves, each text put into a page that the caller lends; what their words say: help, files, a
-// channel, a number; and what a program of one file, `report` or `rewrite`, does by its words. `simulate` is in `simulation`, `why` in
-// `inquiry`.
+// channel, a number, an address; and what a program of one file, `report` or `rewrite`, does by its words. `simulate` is in
+// `simulation`, `why` in `inquiry`, `split` in `splitting`.
 use model::Channel;
 use put::put_bytes;
+use text::Field;
+use text::read_field;
 use text::same_bytes;
 ghost use mathlib.Core.Path.{_≡_};
 ghost use Prim.Native.Nat.{min};
 ghost use Rattle.put.specs.Page.{Written};
-ghost use Rattle.usage.specs.Usage.{asksHelp, helpAsked, isOption, isDash, twoFiles, channelAsked, numberAsked, fileAsked, reportUsage, reportHelp, rewriteUsage, rewriteHelp, simulateUsage, simulateHelp, whyUsage, whyHelp};
+ghost use Rattle.usage.specs.Usage.{asksHelp, helpAsked, isOption, isDash, twoFiles, channelAsked, numberAsked, addressAsked, fileAsked, reportUsage, reportHelp, rewriteUsage, rewriteHelp, simulateUsage, simulateHelp, whyUsage, whyHelp, splitUsage, splitHelp};
 
 // What a program of one file does by its words.
 pub enum Asked {
@@ -120,6 +122,23 @@ pub fn number_asked(word: &[u8], most: u32) -> NumberWord
         i += 1;
     }
     NumberWord::Number(value as u32)
+}
+
+// The address that the word writes, a number of 32 bits: a larger one is no address.
+pub fn address_asked(word: &[u8]) -> NumberWord
+    ensures { λ r. ⌜ r ≡ addressAsked (now (word .entry)) ⌝ }
+{
+    let field = read_field(word);
+    match field {
+        Field::Malformed => NumberWord::NoNumber,
+        Field::Dash => NumberWord::NoNumber,
+        Field::Number(n) => {
+            if 4294967295 < n {
+                return NumberWord::NoNumber;
+            }
+            NumberWord::Number(n as u32)
+        }
+    }
 }
 
 // What a program of one file does, started with `count` words, of which these are the first three; `terminal`: standard input is one.
@@ -250,5 +269,34 @@ pub fn why_help(out: &mut [u8; 65536]) -> usize
         accelerator served, and the deepest interconnect on both paths, or own; then waited, and the count of all.\n\
         A refusal prints \"refused\", the number of the cause and the line; standard error says it in words.\n\
         example: why read scanner.tree scanner.trace 1 3\n",
+    )
+}
+
+// What `split` says where its arguments are wrong.
+pub fn split_usage(out: &mut [u8; 65536]) -> usize
+    ensures { λ r. ⌜ Written splitUsage (now (out .entry)) (now (out .exit)) r ⌝ }
+{
+    put_bytes(
+        out,
+        0,
+        b"usage: split TREE ADDRESS BEATS SIZE\nexample: split scanner.tree 4096 40 4\n",
+    )
+}
+
+// What `split` says where help is asked for.
+pub fn split_help(out: &mut [u8; 65536]) -> usize
+    ensures { λ r. ⌜ Written splitHelp (now (out .entry)) (now (out .exit)) r ⌝ }
+{
+    put_bytes(
+        out,
+        0,
+        b"split TREE ADDRESS BEATS SIZE: cuts a burst into pieces of the tree's burst length B.\n\
+        TREE is a tree file, or -, standard input. The other words are decimal: ADDRESS is 0 to 4294967295, BEATS 1 to 256, and\n\
+        SIZE, the bytes of a beat, 1, 2, 4, 8, 16, 32, 64 or 128.\n\
+        A line for each piece: its start address and its beats, which are B except perhaps in the last; then pieces, and their count.\n\
+        Each piece is one transaction for phi and for the budget.\n\
+        Other BEATS or another SIZE are refused by 15, a burst that crosses a multiple of 4096 by 16, both with line 0.\n\
+        A refusal prints \"refused\", the number of the cause and the line; standard error says it in words.\n\
+        example: split scanner.tree 4096 40 4\n",
     )
 }

@@ -1,0 +1,5 @@
+pub mod Pieces
+pub mod Cut
+pub mod Joins
+pub mod Joining
+pub mod Offered

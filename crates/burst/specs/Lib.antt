@@ -1,0 +1,6 @@
+pub mod Burst
+pub mod Splitting
+pub mod Joiner
+pub mod Joining
+pub mod Offers
+pub mod Answers
