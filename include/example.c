@@ -1,5 +1,5 @@
 /* Calls the static library from C: the report of a tree, the bounds of each accelerator, a run on each channel, a wait, the tree
- * written back, and a refusal.
+ * written back, a burst cut into pieces whose answers are joined, and refusals.
  *
  *     cc -Iinclude include/example.c target/staticlib/librazhikum.a -o example
  */
@@ -65,6 +65,24 @@ static void show_text(const uint8_t *tree, size_t tree_bytes) {
     fwrite(text, 1, written.bytes, stdout);
 }
 
+/* A burst of 40 beats of 4 bytes, cut to the tree's 16 beats, and the answers of its pieces as they come in order. */
+static void show_burst(const uint8_t *tree, size_t tree_bytes) {
+    uint32_t starts[RAZHIKUM_PIECES], lengths[RAZHIKUM_PIECES];
+    razhikum_cut cut = razhikum_split(tree, tree_bytes, 5, 40, 4, starts, lengths);
+    razhikum_joined joined = {RAZHIKUM_ACCEPTED, false, cut.pieces, 0};
+    for (uint32_t number = 1; number <= cut.pieces; number++) {
+        joined = razhikum_join(joined.pieces, joined.answered, number);
+        printf("piece %" PRIu32 ": %" PRIu32 " beats at address %" PRIu32 "%s\n", number, lengths[number - 1],
+               starts[number - 1], joined.done ? ", the last" : "");
+    }
+    if (razhikum_join(joined.pieces, joined.answered, cut.pieces).number == RAZHIKUM_BROKEN) {
+        puts("no piece is answered twice");
+    }
+    if (razhikum_split(tree, tree_bytes, 4092, 3, 2, starts, lengths).number == RAZHIKUM_PAGE_CROSSED) {
+        puts("3 beats of 2 bytes at address 4092 cross a multiple of 4,096 bytes");
+    }
+}
+
 int main(void) {
     static uint8_t page[RAZHIKUM_PAGE];
     const uint8_t *tree = (const uint8_t *)TREE;
@@ -80,6 +98,7 @@ int main(void) {
     show_run(tree, tree_bytes, RAZHIKUM_WRITE);
     show_wait(tree, tree_bytes);
     show_text(tree, tree_bytes);
+    show_burst(tree, tree_bytes);
 
     razhikum_reading cut = razhikum_read_tree(tree, tree_bytes - 1);
     if (cut.number == RAZHIKUM_SHAPE) {

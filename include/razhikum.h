@@ -4,7 +4,8 @@
  * none has a condition on the values that it is given. What each answers is proved, refusals included.
  *
  * What a caller owes is only what C owes any function: a pointer is not null, not even with a length of 0, and has as many
- * bytes behind it as its length says; nothing else writes them during the call; and an `out` overlaps no other argument.
+ * bytes behind it as its length says; nothing else writes them during the call; and what a call writes (`out`, `starts`, `lengths`)
+ * overlaps no other argument.
  * A file is passed as its bytes and their number. A file of more than RAZHIKUM_LIMIT bytes is refused like any other. The bus line of
  * a tree file may have an eleventh field, the return delay, 0 to 15 slots; a tree without it has the delay 0.
  *
@@ -14,12 +15,12 @@
  * requests stay held to the end, so that a run with one of them is stopped.
  *
  * Any number of threads may call at the same time, also on the same files: the archive has no writable data and no heap. It
- * calls nothing outside but memcpy and memset, and writes nothing but its caller's stack, its answer and `out`. Two calls at the
- * same time must not have the same `out`.
+ * calls nothing outside but memcpy and memset, and writes nothing but its caller's stack, its answer and `out`, `starts` and
+ * `lengths`. Two calls at the same time must not have the same of these.
  *
  * In every answer `number` is the number of a refusal (enum razhikum_refusal), or 0 where nothing is refused, and `line` its
- * line, counted from 1, or 0 where it has none (the size of a file or of a buffer; a channel; 7, 11, 12 and 13 of a call). A refusal
- * leaves every `out` as it was.
+ * line, counted from 1, or 0 where it has none (the size of a file or of a buffer; a channel; 7, 11, 12, 13, 15 and 16 of a call). A
+ * refusal leaves every `out`, `starts` and `lengths` as it was.
  */
 #ifndef RAZHIKUM_H
 #define RAZHIKUM_H
@@ -32,8 +33,8 @@
 extern "C" {
 #endif
 
-/* The version of this header: 10000 for each first figure, 100 for each second, 1 for each third. 20000 is 2.0.0. */
-#define RAZHIKUM_VERSION 20000
+/* The version of this header: 10000 for each first figure, 100 for each second, 1 for each third. 20100 is 2.1.0. */
+#define RAZHIKUM_VERSION 20100
 
 /* The version of the archive. Where it is not RAZHIKUM_VERSION, header and archive do not belong together. */
 uint32_t razhikum_version(void);
@@ -51,6 +52,9 @@ uint32_t razhikum_version(void);
 /* The most bytes of a tree's text as razhikum_rewrite writes it: a buffer of so many bytes is long enough for every tree. */
 #define RAZHIKUM_TREE_TEXT 1973
 
+/* The most pieces of a burst, and so the entries of each array that razhikum_split writes. */
+#define RAZHIKUM_PIECES 256
+
 /* The byte of an idle slot. */
 #define RAZHIKUM_IDLE 255
 
@@ -63,23 +67,26 @@ enum razhikum_channel { RAZHIKUM_READ = 0, RAZHIKUM_WRITE = 1 };
 
 /* The number of a refusal (docs/FORMAT.md, F45). A tree file is refused by 1 to 5, a trace file by 1, 2, 6 or 7, a channel that is
  * neither by 2, a bound and a wait by 7 where the tree has no such accelerator, a wait then by 12, the text of a tree by 2 or 13 for its
- * buffer. 8 to 10 and 14 answer calls of the machine, which are not exported; 11 answers a configuration that no file gives. */
+ * buffer, a burst by 15 or 16, the answer of a piece by 11. 8 to 10 and 14 answer calls of the machine, which are not exported; of a
+ * configuration or a state 11 is not answered here, since no file gives one that breaks its rules. */
 enum razhikum_refusal {
     RAZHIKUM_ACCEPTED = 0,
-    RAZHIKUM_SHAPE = 1,       /* a line of wrong shape: name, count of fields, a malformed number, a missing last LF */
-    RAZHIKUM_RANGE = 2,       /* a value, a total, a size or a channel outside its limits */
-    RAZHIKUM_ORDER = 3,       /* a record out of order, misnumbered, on an unknown interconnect, or missing */
-    RAZHIKUM_PORT_TAKEN = 4,  /* a port already taken */
-    RAZHIKUM_LEVEL = 5,       /* a level above 4 */
-    RAZHIKUM_FALLING = 6,     /* a trace slot smaller than in the line before */
-    RAZHIKUM_UNKNOWN = 7,     /* no such accelerator */
-    RAZHIKUM_OUTSTANDING = 8, /* phi transactions of the accelerator are outstanding: they wait or are returning */
-    RAZHIKUM_BUDGET = 9,      /* the accelerator's budget of this window is used */
-    RAZHIKUM_LAST_SLOT = 10,  /* the slot count is at its end */
-    RAZHIKUM_BROKEN = 11,     /* the configuration or the state breaks its rules */
-    RAZHIKUM_NOT_SERVED = 12, /* the number of a transaction is 0, or the run serves fewer of its accelerator */
-    RAZHIKUM_TOO_SHORT = 13,  /* the buffer is shorter than the text */
-    RAZHIKUM_NO_JOB = 14      /* the accelerator's job has 0 transactions on this channel */
+    RAZHIKUM_SHAPE = 1,        /* a line of wrong shape: name, count of fields, a malformed number, a missing last LF */
+    RAZHIKUM_RANGE = 2,        /* a value, a total, a size or a channel outside its limits */
+    RAZHIKUM_ORDER = 3,        /* a record out of order, misnumbered, on an unknown interconnect, or missing */
+    RAZHIKUM_PORT_TAKEN = 4,   /* a port already taken */
+    RAZHIKUM_LEVEL = 5,        /* a level above 4 */
+    RAZHIKUM_FALLING = 6,      /* a trace slot smaller than in the line before */
+    RAZHIKUM_UNKNOWN = 7,      /* no such accelerator */
+    RAZHIKUM_OUTSTANDING = 8,  /* phi transactions of the accelerator are outstanding: they wait or are returning */
+    RAZHIKUM_BUDGET = 9,       /* the accelerator's budget of this window is used */
+    RAZHIKUM_LAST_SLOT = 10,   /* the slot count is at its end */
+    RAZHIKUM_BROKEN = 11,      /* the configuration, the state or the joiner breaks its rules, or a piece is answered out of turn */
+    RAZHIKUM_NOT_SERVED = 12,  /* the number of a transaction is 0, or the run serves fewer of its accelerator */
+    RAZHIKUM_TOO_SHORT = 13,   /* the buffer is shorter than the text */
+    RAZHIKUM_NO_JOB = 14,      /* the accelerator's job has 0 transactions on this channel */
+    RAZHIKUM_BURST = 15,       /* a burst of 0 or over 256 beats, or a beat size that is no power of two from 1 to 128 */
+    RAZHIKUM_PAGE_CROSSED = 16 /* a burst that crosses a multiple of 4,096 bytes, or the end of the 32-bit addresses */
 };
 
 /* razhikum_reading.file: which file is refused. */
@@ -174,6 +181,23 @@ typedef struct {
     uint64_t period;
 } razhikum_row;
 
+/* What a burst is cut into: how many pieces, 1 to RAZHIKUM_PIECES, or 0 on a refusal. */
+typedef struct {
+    uint8_t number;
+    uint32_t line;
+    uint32_t pieces;
+} razhikum_cut;
+
+/* What the answer of a piece does. `number` is 0 where it is taken, else RAZHIKUM_BROKEN. `done` is true where it was that of the last
+ * piece, and only there. `pieces` and `answered` are for the next call: how many pieces the burst has, and how many of them are answered
+ * now; on a refusal both are as they were passed. */
+typedef struct {
+    uint8_t number;
+    bool done;
+    uint32_t pieces;
+    uint32_t answered;
+} razhikum_joined;
+
 /* The stack that each call needs, in bytes, its caller's frame included: the most that include/stack.c measures, compiled by gcc or
  * clang with or without -O2, rounded up to 1,024 with at least 64 to spare. razhikum_why keeps the bytes of a whole run on its
  * stack. How deep a call goes depends on the levels of the tree, at most 4, and on the digits of a number, and on nothing else of
@@ -187,7 +211,9 @@ enum razhikum_stack {
     RAZHIKUM_STACK_REWRITE = 24576,
     RAZHIKUM_STACK_RUN = 18432,
     RAZHIKUM_STACK_WHY = 84992,
-    RAZHIKUM_STACK_BOUND = 21504
+    RAZHIKUM_STACK_BOUND = 21504,
+    RAZHIKUM_STACK_SPLIT = 20480,
+    RAZHIKUM_STACK_JOIN = 1024
 };
 
 /* Reads a tree file: accepted, or refused by 1 to 5. */
@@ -244,6 +270,31 @@ razhikum_wait razhikum_why(
 /* The bounds of an accelerator of a tree file: refused as the tree is, or by 7 where the tree has no such accelerator. They do not
  * depend on the return delay. */
 razhikum_row razhikum_bound(const uint8_t *tree, size_t tree_bytes, uint8_t accelerator);
+
+/* Cuts a burst into pieces of B beats, the nominal burst length of the tree file: the last one has what is left, 1 to B. A burst has a
+ * start address, `beats` from 1 to 256, and a beat of `size` bytes, a power of two from 1 to 128. Its bytes run from the start address to
+ * the start address rounded down to `size`, plus `beats` * `size`, less 1. The first piece keeps the start address; each later one starts
+ * at the start address rounded down to `size`, plus the beats before it * `size`. Each beat is in exactly one piece, and no piece crosses a
+ * multiple of 4,096 bytes. Each piece is one transaction for phi and for the budget, and a bound on waits is one for a piece: a trace that
+ * asks for a burst asks for `pieces` transactions.
+ *
+ * `starts` and `lengths` have RAZHIKUM_PIECES entries each. Entry i, counted from 0, of `starts` is the start address of piece i + 1, that of
+ * `lengths` its beats; the beat size of each piece is `size`. The entries from `pieces` on become 0. A refusal leaves all entries of both as
+ * they were.
+ *
+ * Checked in this order: the tree (1 to 5, with its line), then with line 0 the beats and the size (15), then whether the burst crosses a
+ * multiple of 4,096 bytes (16). One that ends on the last byte before such a multiple does not cross it; one whose last byte would be past
+ * address 4,294,967,295 does. Any numbers may be passed. */
+razhikum_cut razhikum_split(
+    const uint8_t *tree, size_t tree_bytes, uint32_t start, uint32_t beats, uint32_t size, uint32_t *starts,
+    uint32_t *lengths);
+
+/* Takes the answer of a piece, that of this `number`, counted from 1, of a burst of so many `pieces`, `answered` of which are answered
+ * before. The first call has `answered` 0; each later one has what the last reply says. The answers are taken in order, and the reply says
+ * done at the last and only there.
+ *
+ * Refused by 11: a piece out of turn or after the last; `pieces` 0 or more than RAZHIKUM_PIECES; more `answered` than `pieces`. */
+razhikum_joined razhikum_join(uint32_t pieces, uint32_t answered, uint32_t number);
 
 #ifdef __cplusplus
 }

@@ -1,7 +1,8 @@
 /* Measures the stack that each call uses, its caller's frame included: on a full tree, a small one, one with the longest numbers and
- * one with a level too many, each whole and cut short, runs and waits on both channels and on one that is neither. The call is made on
- * a thread that has painted its stack below the caller's frame, and the lowest byte that has lost its paint says how deep the call
- * went. Prints for each call the most that was used and what the header says, and fails where the first is more.
+ * one with a level too many, each whole and cut short, runs and waits on both channels and on one that is neither, bursts and joiners,
+ * taken and refused. The call is made on a thread that has painted its stack below the caller's frame, and the lowest byte that has
+ * lost its paint says how deep the call went. Prints for each call the most that was used and what the header says, and fails where
+ * the first is more.
  *
  *     cc -pthread -Iinclude include/stack.c target/staticlib/librazhikum.a -o stack && ./stack examples
  */
@@ -15,7 +16,7 @@
 
 enum { STACK = 1 << 18, UNPAINTED = 256, PAINT = 0xa5, FILE_ROOM = 1 << 17, NEITHER = RAZHIKUM_WRITE + 1 };
 
-enum call { VERSION, READ_TREE, READ_TRACE, COUNT, REPORT, REWRITE, RUN, WHY, BOUND, CALLS };
+enum call { VERSION, READ_TREE, READ_TRACE, COUNT, REPORT, REWRITE, RUN, WHY, BOUND, SPLIT, JOIN, CALLS };
 
 static const struct {
     const char *name;
@@ -25,7 +26,8 @@ static const struct {
     {"read_trace", RAZHIKUM_STACK_READ_TRACE}, {"count", RAZHIKUM_STACK_COUNT},
     {"report", RAZHIKUM_STACK_REPORT}, {"rewrite", RAZHIKUM_STACK_REWRITE},
     {"run", RAZHIKUM_STACK_RUN}, {"why", RAZHIKUM_STACK_WHY},
-    {"bound", RAZHIKUM_STACK_BOUND},
+    {"bound", RAZHIKUM_STACK_BOUND}, {"split", RAZHIKUM_STACK_SPLIT},
+    {"join", RAZHIKUM_STACK_JOIN},
 };
 
 struct file {
@@ -36,6 +38,7 @@ struct file {
 static _Alignas(4096) uint8_t stack[STACK];
 static struct file tree, trace;
 static uint8_t page[RAZHIKUM_PAGE], served[RAZHIKUM_SLOTS];
+static uint32_t starts[RAZHIKUM_PIECES], lengths[RAZHIKUM_PIECES];
 static size_t most[CALLS];
 static enum call chosen;
 static volatile uint64_t answered;
@@ -67,6 +70,13 @@ static void make_call(void) {
             answered = razhikum_bound(tree.text, tree.bytes, a).sr;
         }
         break;
+    case SPLIT:
+        /* Accepted at the end of a page, refused by 15 and by 16. */
+        for (uint32_t beats = 0; beats <= 256; beats += 32) {
+            answered = razhikum_split(tree.text, tree.bytes, 2048, beats, 16, starts, lengths).pieces;
+        }
+        break;
+    case JOIN: answered = razhikum_join(2, 0, 2).answered + razhikum_join(2, 1, 2).answered; break;
     case CALLS: break;
     }
 }

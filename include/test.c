@@ -1,6 +1,6 @@
-/* Holds header and archive together: the layout of each struct by offsets, the version, every number that a file can be refused by,
- * runs and waits on both channels and on none, and the values that the archive answers in each field, so that two columns exchanged
- * would be seen. Compiled as C and as C++. include/test.sh builds and runs it.
+/* Holds header and archive together: the layout of each struct by offsets, the version, every number that a file or a burst can be
+ * refused by, runs and waits on both channels and on none, bursts and joiners, and the values that the archive answers in each field,
+ * so that two columns exchanged would be seen. Compiled as C and as C++. include/test.sh builds and runs it.
  */
 #include <assert.h>
 #include <stdio.h>
@@ -48,6 +48,15 @@ FIELD(razhikum_row, yw, 40, 8);
 FIELD(razhikum_row, response, 48, 8);
 FIELD(razhikum_row, period, 56, 8);
 static_assert(sizeof(razhikum_row) == 64, "razhikum_row has another size");
+FIELD(razhikum_cut, number, 0, 1);
+FIELD(razhikum_cut, line, 4, 4);
+FIELD(razhikum_cut, pieces, 8, 4);
+static_assert(sizeof(razhikum_cut) == 12, "razhikum_cut has another size");
+FIELD(razhikum_joined, number, 0, 1);
+FIELD(razhikum_joined, done, 1, 1);
+FIELD(razhikum_joined, pieces, 4, 4);
+FIELD(razhikum_joined, answered, 8, 4);
+static_assert(sizeof(razhikum_joined) == 12, "razhikum_joined has another size");
 
 static unsigned long compared;
 
@@ -69,6 +78,8 @@ static file tree, trace, written;
 /* The channel of the runs and waits that come next. */
 static uint8_t channel = RAZHIKUM_READ;
 static uint8_t page[RAZHIKUM_PAGE], served[RAZHIKUM_SLOTS + 1];
+/* The arrays of a burst, with an entry on either side that no call may write. */
+static uint32_t starts[RAZHIKUM_PIECES + 2], lengths[RAZHIKUM_PIECES + 2];
 
 static void load(file *into, const char *folder, const char *name) {
     char path[4096];
@@ -273,7 +284,34 @@ static void other_channels_are_refused(void) {
     channel = before;
 }
 
-/* Every call refuses the tree alike, and the report leaves its page as it was. */
+/* What no start address and no count of beats of these tests is. */
+#define UNWRITTEN 3735928559u
+
+static razhikum_cut split(uint32_t start, uint32_t beats, uint32_t size) {
+    for (size_t i = 0; i < RAZHIKUM_PIECES + 2; i++) {
+        starts[i] = lengths[i] = UNWRITTEN;
+    }
+    razhikum_cut cut = razhikum_split(tree.text, tree.bytes, start, beats, size, starts + 1, lengths + 1);
+    same("the entries before the arrays", starts[0] == UNWRITTEN && lengths[0] == UNWRITTEN, true);
+    same("the entries after the arrays",
+         starts[RAZHIKUM_PIECES + 1] == UNWRITTEN && lengths[RAZHIKUM_PIECES + 1] == UNWRITTEN, true);
+    return cut;
+}
+
+/* Refused, and every entry of both arrays is as it was. */
+static void is_cut_refused(uint32_t start, uint32_t beats, uint32_t size, unsigned number, unsigned line) {
+    razhikum_cut cut = split(start, beats, size);
+    same("number of a refused burst", cut.number, number);
+    same("line of a refused burst", cut.line, line);
+    same("pieces of a refused burst", cut.pieces, 0);
+    for (size_t i = 1; i <= RAZHIKUM_PIECES; i++) {
+        same("a start address after a refusal", starts[i], UNWRITTEN);
+        same("the beats after a refusal", lengths[i], UNWRITTEN);
+    }
+}
+
+/* Every call refuses the tree alike, and the report leaves its page as it was. A burst that is refused by 15 or 16 on a sound tree is
+ * refused as the tree is. */
 static void tree_is_refused(unsigned number, unsigned line) {
     razhikum_reading r = razhikum_read_tree(tree.text, tree.bytes);
     same("file", r.file, RAZHIKUM_FILE_TREE);
@@ -289,6 +327,9 @@ static void tree_is_refused(unsigned number, unsigned line) {
     is_text_refused(0, number, line);
     is_text_refused(RAZHIKUM_SLOTS + 1, number, line);
     is_row_refused(0, number, line);
+    is_cut_refused(0, 16, 4, number, line);
+    is_cut_refused(0, 0, 4, number, line);
+    is_cut_refused(4092, 3, 2, number, line);
     razhikum_counted count = razhikum_count(tree.text, tree.bytes);
     same("count's number", count.number, number);
     same("count's line", count.line, line);
@@ -510,6 +551,167 @@ static void texts(const char *folder) {
     is_written();
 }
 
+typedef struct {
+    uint32_t start;
+    uint32_t beats;
+} piece;
+
+/* So many pieces: of each the start address and the beats, and 0 in the entries after them. */
+static void is_cut(uint32_t start, uint32_t beats, uint32_t size, unsigned pieces, const piece *expected) {
+    razhikum_cut cut = split(start, beats, size);
+    same("number of a burst", cut.number, RAZHIKUM_ACCEPTED);
+    same("line of a burst", cut.line, 0);
+    same("pieces of a burst", cut.pieces, pieces);
+    for (size_t i = 0; i < RAZHIKUM_PIECES; i++) {
+        same("the start address of a piece", starts[i + 1], i < pieces ? expected[i].start : 0);
+        same("the beats of a piece", lengths[i + 1], i < pieces ? expected[i].beats : 0);
+    }
+}
+
+/* One piece, that is the burst itself. */
+static void is_whole(uint32_t start, uint32_t beats, uint32_t size) {
+    piece itself = {start, beats};
+    is_cut(start, beats, size, 1, &itself);
+}
+
+/* A tree whose nominal burst length is so many beats. */
+static void nominal(unsigned burst) {
+    char text[64];
+    snprintf(text, sizeof text, "bus 8 1 4 2 2 30 25 1 1 %u\n" ROOT "acc 0 0 0 4 2 1 1 0 1\n", burst);
+    spaced(&tree, text);
+}
+
+/* 15 for the beats and for the size, also where the burst would cross; 16 is then 0. */
+static void refused_bursts(void) {
+    static const uint32_t beats[] = {0, 257, 258, 512, 65536, 65537, 16777472, 4294967295};
+    static const uint32_t sizes[] = {0,   3,   5,   6,   7,   9,   12,    96,    127,        129,
+                                     192, 255, 256, 257, 260, 512, 65536, 65540, 2147483648, 4294967295};
+    static const uint32_t at[] = {0, 1, 4095, 4294967295};
+    for (size_t k = 0; k < sizeof at / sizeof at[0]; k++) {
+        for (size_t i = 0; i < sizeof beats / sizeof beats[0]; i++) {
+            is_cut_refused(at[k], beats[i], 1, RAZHIKUM_BURST, 0);
+            is_cut_refused(at[k], beats[i], 128, RAZHIKUM_BURST, 0);
+            is_cut_refused(at[k], beats[i], 3, RAZHIKUM_BURST, 0);
+        }
+        for (size_t i = 0; i < sizeof sizes / sizeof sizes[0]; i++) {
+            is_cut_refused(at[k], 1, sizes[i], RAZHIKUM_BURST, 0);
+            is_cut_refused(at[k], 256, sizes[i], RAZHIKUM_BURST, 0);
+        }
+    }
+    is_cut_refused(4092, 3, 3, RAZHIKUM_BURST, 0);
+}
+
+/* For every size: bursts that end on the last byte of a page, of the first, of one in the middle and of the last; with one beat more
+ * they cross. */
+static void page_ends(void) {
+    static const uint32_t last_bytes[] = {4095, 2147487743, 4294967295};
+    for (size_t i = 0; i < sizeof last_bytes / sizeof last_bytes[0]; i++) {
+        for (uint32_t size = 1; size <= 128; size *= 2) {
+            uint32_t most = 4096 / size < 256 ? 4096 / size : 256;
+            for (uint32_t beats = 1; beats <= most; beats++) {
+                uint32_t first = last_bytes[i] - beats * size + 1;
+                is_whole(first, beats, size);
+                /* Within the first beat the bytes before the start address are left out, and the end is the same. */
+                is_whole(first + size - 1, beats, size);
+                if (beats < most) {
+                    is_cut_refused(first, beats + 1, size, RAZHIKUM_PAGE_CROSSED, 0);
+                    is_cut_refused(first + size - 1, beats + 1, size, RAZHIKUM_PAGE_CROSSED, 0);
+                }
+            }
+        }
+    }
+}
+
+static void bursts(void) {
+    static const piece unaligned[] = {{5, 16}, {68, 16}, {132, 8}};
+    static const piece exact[] = {{4096, 16}, {4112, 16}};
+    static const piece one_over[] = {{4096, 16}, {4112, 1}};
+    static const piece at_the_end[] = {{4294966299, 100}, {4294966696, 100}, {4294967096, 50}};
+    static piece single[RAZHIKUM_PIECES], sixteens[16];
+    nominal(16);
+    is_cut(5, 40, 4, 3, unaligned);
+    is_cut(4096, 32, 1, 2, exact);
+    is_cut(4096, 17, 1, 2, one_over);
+    is_whole(4096, 16, 1);
+    is_whole(4090, 3, 2);
+    is_whole(4091, 3, 2);
+    is_cut_refused(4092, 3, 2, RAZHIKUM_PAGE_CROSSED, 0);
+    refused_bursts();
+    /* Source document 004: 256 beats cut to the nominal 16. */
+    for (uint32_t i = 0; i < 16; i++) {
+        sixteens[i].start = 8192 + 64 * i;
+        sixteens[i].beats = 16;
+    }
+    is_cut(8192, 256, 4, 16, sixteens);
+    /* The most pieces: an array is full. */
+    nominal(1);
+    for (uint32_t i = 0; i < RAZHIKUM_PIECES; i++) {
+        single[i].start = i == 0 ? 4097 : 4096 + 16 * i;
+        single[i].beats = 1;
+    }
+    is_cut(4097, 256, 16, RAZHIKUM_PIECES, single);
+    /* The end of the addresses: rounded down, 4,294,966,296 and 250 beats of 4 bytes are 2^32. */
+    nominal(100);
+    is_cut(4294966299, 250, 4, 3, at_the_end);
+    is_cut_refused(4294966299, 251, 4, RAZHIKUM_PAGE_CROSSED, 0);
+    nominal(256);
+    is_whole(4294967295, 1, 1);
+    is_cut_refused(4294967295, 2, 1, RAZHIKUM_PAGE_CROSSED, 0);
+    is_whole(4294967168, 1, 128);
+    is_whole(4294967295, 1, 128);
+    is_cut_refused(4294967295, 256, 128, RAZHIKUM_PAGE_CROSSED, 0);
+    page_ends();
+}
+
+static void is_joined(uint32_t pieces, uint32_t answered, uint32_t number, bool done) {
+    razhikum_joined j = razhikum_join(pieces, answered, number);
+    same("number of a taken piece", j.number, RAZHIKUM_ACCEPTED);
+    same("done", j.done, done);
+    same("pieces of a joiner", j.pieces, pieces);
+    same("answered pieces of a joiner", j.answered, number);
+}
+
+/* Refused by 11, and the joiner is as it was. */
+static void is_join_refused(uint32_t pieces, uint32_t answered, uint32_t number) {
+    razhikum_joined j = razhikum_join(pieces, answered, number);
+    same("number of a refused piece", j.number, RAZHIKUM_BROKEN);
+    same("done by a refused piece", j.done, false);
+    same("pieces of a refused joiner", j.pieces, pieces);
+    same("answered pieces of a refused joiner", j.answered, answered);
+}
+
+static void joiners(void) {
+    /* In order, with every other number tried before each; done at the last alone; nothing is taken after it. */
+    for (uint32_t pieces = 1; pieces <= RAZHIKUM_PIECES; pieces++) {
+        razhikum_joined j = {0, false, pieces, 0};
+        for (uint32_t number = 1; number <= pieces; number++) {
+            is_join_refused(j.pieces, j.answered, 0);
+            is_join_refused(j.pieces, j.answered, number - 1);
+            is_join_refused(j.pieces, j.answered, number + 1);
+            is_join_refused(j.pieces, j.answered, number + 256);
+            is_join_refused(j.pieces, j.answered, 4294967295);
+            is_joined(j.pieces, j.answered, number, number == pieces);
+            j = razhikum_join(j.pieces, j.answered, number);
+        }
+        for (uint32_t number = 0; number <= RAZHIKUM_PIECES + 1; number++) {
+            is_join_refused(j.pieces, j.answered, number);
+        }
+    }
+    /* Joiners that break their rules, whatever comes next. */
+    static const uint32_t broken[][2] = {
+        {0, 0},     {0, 1},          {1, 2},   {257, 0},   {257, 256},      {257, 257},
+        {256, 257}, {256, 4294967295}, {512, 1}, {65537, 0}, {4294967295, 0}, {4294967295, 4294967294},
+        {0, 4294967295}, {4294967295, 4294967295},
+    };
+    for (size_t i = 0; i < sizeof broken / sizeof broken[0]; i++) {
+        is_join_refused(broken[i][0], broken[i][1], 0);
+        is_join_refused(broken[i][0], broken[i][1], 1);
+        is_join_refused(broken[i][0], broken[i][1], broken[i][1]);
+        is_join_refused(broken[i][0], broken[i][1], broken[i][1] + 1);
+        is_join_refused(broken[i][0], broken[i][1], 4294967295);
+    }
+}
+
 /* The figures are those of docs/MODEL.md, M54 to M63, worked out by hand. */
 static void examples(const char *folder) {
     spaced(&tree, BUS ROOT ACCS);
@@ -573,6 +775,8 @@ int main(int arguments, char **words) {
     returns();
     channels();
     texts(words[1]);
+    bursts();
+    joiners();
     refused_trees();
     printf("%lu values, no difference\n", compared);
     return 0;

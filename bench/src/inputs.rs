@@ -1,7 +1,7 @@
 //! Random and damaged files for the comparison, and busy trees for the timing. All are made from a seed.
 use crate::peer::machine::Machine;
 use crate::peer::read::{read_tree, Tree};
-use razhikum::Channel;
+use razhikum::{Burst, Channel};
 
 /// A xorshift generator.
 pub struct Random(u64);
@@ -169,6 +169,55 @@ pub fn random_trace(random: &mut Random, accelerators: &[u64], lines: u64) -> Li
             fields("o", &[slot, a, count])
         })
         .collect()
+}
+
+/// Beat sizes of bursts.
+pub const SIZES: [u32; 8] = [1, 2, 4, 8, 16, 32, 64, 128];
+
+/// What is no beat size.
+const NO_SIZES: [u32; 20] =
+    [0, 3, 5, 6, 7, 9, 12, 24, 96, 120, 127, 129, 192, 255, 256, 260, 512, 65_537, 1 << 31, u32::MAX];
+
+/// What is no count of beats.
+const NO_BEATS: [u32; 10] = [0, 257, 258, 272, 511, 512, 65_537, 1 << 24 | 1, 1 << 31, u32::MAX];
+
+/// A burst, mostly of a sound size and as many beats as a page has room for: near the end of a page, or so that it ends about there, or
+/// anywhere. One in four pages is the first, one the last of the addresses.
+pub fn random_burst(random: &mut Random) -> Burst {
+    let size = if random.one_in(12) { *random.pick(&NO_SIZES) } else { *random.pick(&SIZES) };
+    let room = 4_096 / u64::from(size.clamp(1, 4_096));
+    let beats = match random.below(12) {
+        0 => *random.pick(&NO_BEATS),
+        1 => 255 + random.below(3) as u32,
+        2 => 1 + random.below(256) as u32,
+        _ => random.within(1, room.min(256)) as u32,
+    };
+    let page = match random.below(4) {
+        0 => 0,
+        1 => (1 << 20) - 1,
+        _ => random.below(1 << 20),
+    };
+    let (bytes, few) = (u64::from(beats) * u64::from(size) % 4_097, u64::from(size) % 256 + 2);
+    let back = match random.below(6) {
+        0 => random.below(4_096),
+        1 | 2 => random.below(few),
+        _ => (bytes + random.below(2 * few)).saturating_sub(few),
+    };
+    Burst { start: ((page + 1) * 4_096).saturating_sub(back + 1) as u32, beats, size }
+}
+
+/// A tree of one accelerator whose nominal burst length is so many beats.
+pub fn nominal_tree(burst: u64) -> Vec<u8> {
+    let mut lines = vec![fields("bus", &[64, 1, 4, 2, 2, 30, 25, 1, 1, burst])];
+    lines.push(vec!["int".into(), "0".into(), "-".into(), "-".into(), "4".into()]);
+    lines.push(fields("acc", &[0, 0, 0, 4, 8, 1, 1, 0, 1]));
+    text(&lines)
+}
+
+/// The lines of a trace for so many transactions of an accelerator in a slot: a line asks for at most 16.
+pub fn requests_of(slot: u32, a: u8, count: usize) -> Lines {
+    let lines = (0..count).step_by(16);
+    lines.map(|before| fields("o", &[slot.into(), a.into(), (count - before).min(16) as u64])).collect()
 }
 
 /// What stands in a damaged field.

@@ -1,7 +1,8 @@
 //! Times library and peer side by side, on both channels, and how the times grow.
-use razhikum::{Channel, PAGE, TREE_TEXT};
+use razhikum::{Burst, Channel, Joiner, PAGE, PIECES, TREE_TEXT};
 use razhikum_bench::inputs::{
-    busy_trace, deep_tree, delayed, full_tree, jobs_apart, longest_tree, middle_tree, small_tree, wide_tree,
+    busy_trace, deep_tree, delayed, full_tree, jobs_apart, longest_tree, middle_tree, nominal_tree, small_tree,
+    wide_tree,
 };
 use razhikum_bench::peer;
 use std::hint::black_box;
@@ -152,6 +153,44 @@ fn rewrite_row(what: &str, tree: &[u8]) -> f64 {
     )
 }
 
+/// A burst of 256 beats cut. Both read the tree in the call, and write every entry of both arrays.
+fn split_row(what: &str, tree: &[u8]) -> f64 {
+    let burst = Burst { start: 8_193, beats: 256, size: 4 };
+    let [[mut starts, mut beats], [mut other_starts, mut other_beats]] = [[[0; PIECES]; 2]; 2];
+    let pieces = razhikum::split(tree, burst, &mut starts, &mut beats);
+    assert!(pieces.is_ok(), "{pieces:?}");
+    assert_eq!(pieces, peer::burst::split(tree, burst, &mut other_starts, &mut other_beats));
+    row(
+        what,
+        &mut || {
+            let _ = black_box(razhikum::split(black_box(tree), black_box(burst), &mut starts, &mut beats));
+        },
+        &mut || {
+            let (tree, burst) = (black_box(tree), black_box(burst));
+            let _ = black_box(peer::burst::split(tree, burst, &mut other_starts, &mut other_beats));
+        },
+    )
+}
+
+/// The answers of 256 pieces, one call for each.
+fn join_row(what: &str) -> f64 {
+    row(
+        what,
+        &mut || {
+            let mut joiner = Joiner::of(256);
+            for number in 1..=256 {
+                let _ = black_box(joiner.join(black_box(number)));
+            }
+        },
+        &mut || {
+            let mut joiner = Joiner::of(256);
+            for number in 1..=256 {
+                let _ = black_box(peer::burst::join(&mut joiner, black_box(number)));
+            }
+        },
+    )
+}
+
 /// What is timed, and on which channel.
 fn on_channel(what: &str, channel: Channel) -> String {
     format!("{what}, {channel}")
@@ -285,6 +324,17 @@ fn time_texts(small: &[u8], middle: &[u8], full: &[u8]) -> Vec<Target> {
     vec![("full tree, written back".into(), of_full)]
 }
 
+fn time_bursts(small: &[u8], middle: &[u8], full: &[u8]) -> Vec<Target> {
+    heading("a burst of 256 beats cut");
+    split_row("one accelerator, B 1, 256 pieces", &nominal_tree(1));
+    split_row("one accelerator, B 256, 1 piece", &nominal_tree(256));
+    split_row("small tree, B 16, 16 pieces", small);
+    split_row("middle tree, B 16, 16 pieces", middle);
+    let of_full = split_row("full tree, B 16, 16 pieces", full);
+    join_row("answers of 256 pieces joined");
+    vec![("full tree, a burst cut".into(), of_full)]
+}
+
 /// The ratios of the full tree on both channels, and those that the last lines repeat besides.
 fn time_runs(small: &[u8], middle: &[u8], full: &[u8]) -> ([f64; 2], Vec<Target>) {
     heading("65,536 slots of a channel");
@@ -344,6 +394,7 @@ fn main() {
     println!("Processor time, median of {SAMPLES} samples each. A ratio above 1 says that the library takes longer.");
     let mut targets = time_reading(&small, &middle, &full);
     targets.extend(time_texts(&small, &middle, &full));
+    targets.extend(time_bursts(&small, &middle, &full));
     let (ratios, of_runs) = time_runs(&small, &middle, &full);
     targets.extend(of_runs);
     targets.extend(time_waits(&small, &middle, &full));
@@ -352,6 +403,7 @@ fn main() {
     println!("\nprograms, from start to end by the wall clock");
     program_row("report", &[], Some("examples/full.tree"));
     program_row("rewrite", &[], Some("examples/full.tree"));
+    program_row("split", &["examples/full.tree", "8193", "256", "4"], None);
     for channel in Channel::BOTH {
         program_row("simulate", &[&channel.to_string(), "examples/full.tree", "examples/full.trace"], None);
     }

@@ -2,6 +2,7 @@
 //! with sums taken anew, and texts with lines put in order. The seed is fixed. A difference prints the input and ends the test.
 mod common;
 
+use common::counts::{check, Counts};
 use common::shares::{share, Sharing};
 use common::simple::{self, Making, Rule, Service};
 use common::written::{self, Writing};
@@ -15,33 +16,6 @@ const TREES: usize = 1_000_000;
 const RUNS: usize = 300_000;
 const WAITS: usize = 100_000;
 const REWRITES: usize = 100_000;
-
-/// How many inputs got each answer.
-#[derive(Default)]
-struct Counts(BTreeMap<String, usize>);
-
-impl Counts {
-    fn add(&mut self, answer: String) {
-        *self.0.entry(answer).or_default() += 1;
-    }
-
-    fn print(&self, what: &str) {
-        println!("{what}: {} inputs", self.0.values().sum::<usize>());
-        for (answer, count) in &self.0 {
-            println!("  {answer}: {count}");
-        }
-    }
-}
-
-fn check<T: PartialEq + std::fmt::Debug>(what: &str, library: T, peer: T, files: &[&[u8]]) {
-    if library == peer {
-        return;
-    }
-    for file in files {
-        println!("{:?}", String::from_utf8_lossy(file));
-    }
-    panic!("{what}: the library gives {library:?}, the peer {peer:?}");
-}
 
 /// A tree file, two in six sound. A few are too long, or as long as may be.
 fn tree_file(random: &mut Random) -> Vec<u8> {

@@ -60,7 +60,8 @@ pub enum Cause {
     Budget,
     /// 10: the slot count is at its end. No function here answers it.
     LastSlot,
-    /// 11: the configuration or the state breaks its rules. No file gives such a configuration.
+    /// 11: the configuration, the state or the joiner breaks its rules, or a piece is answered out of turn or after the last. No file
+    /// gives such a configuration.
     Broken,
     /// 12: the number of a transaction is 0, or the run serves fewer of its accelerator.
     NotServed,
@@ -68,6 +69,10 @@ pub enum Cause {
     TooShort,
     /// 14: the accelerator's job has 0 transactions on this channel. No function here answers it.
     NoJob,
+    /// 15: a burst of 0 or over 256 beats, or a beat size that is no power of two from 1 to 128.
+    Burst,
+    /// 16: a burst that crosses a multiple of 4,096 bytes, or the end of the 32-bit addresses.
+    Page,
     /// A number that is none of these, so that every number has its cause. The archive of this version answers none.
     Other(u8),
 }
@@ -89,6 +94,8 @@ impl From<u8> for Cause {
             12 => Cause::NotServed,
             13 => Cause::TooShort,
             14 => Cause::NoJob,
+            15 => Cause::Burst,
+            16 => Cause::Page,
             other => Cause::Other(other),
         }
     }
@@ -112,6 +119,8 @@ impl Cause {
             Cause::NotServed => 12,
             Cause::TooShort => 13,
             Cause::NoJob => 14,
+            Cause::Burst => 15,
+            Cause::Page => 16,
             Cause::Other(other) => other,
         }
     }
@@ -130,10 +139,12 @@ impl fmt::Display for Cause {
             Cause::Outstanding => "as many transactions outstanding as phi allows",
             Cause::Budget => "the budget of this window used",
             Cause::LastSlot => "the slot count at its end",
-            Cause::Broken => "a configuration or a state that breaks its rules",
+            Cause::Broken => "a configuration, a state or a joiner that breaks its rules, or a piece out of turn",
             Cause::NotServed => "the run serves no transaction of this number",
             Cause::TooShort => "a buffer shorter than the text",
             Cause::NoJob => "no transactions on this channel in the accelerator's job",
+            Cause::Burst => "no count of beats from 1 to 256, or no beat size of 1, 2, 4 up to 128",
+            Cause::Page => "a burst that crosses a multiple of 4,096 bytes",
             Cause::Other(_) => "an unknown cause",
         })
     }

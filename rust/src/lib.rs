@@ -1,13 +1,14 @@
 //! The Razhikum planner for Rust: whether the blocks of a tree of interconnects meet their periods, which block is served in
-//! which slot of a channel, and why a burst waited; and a tree written back. The work is done by the proved static library
-//! `librazhikum.a`, which `rt staticlib razhikum` writes for x86-64; this package wraps it: slices in, enums and structs out.
+//! which slot of a channel, and why a burst waited; a tree written back; and long bursts cut to the tree's nominal length, with the
+//! joiner of the pieces' answers. The work is done by the proved static library `librazhikum.a`, which `rt staticlib razhikum` writes
+//! for x86-64; this package wraps it: slices in, enums and structs out.
 //!
 //! No function of the library has a condition on the values that it is given, so every call is safe and answers every input,
 //! files of any bytes included. What C passes as a pointer and a length comes from a slice here. Files are those of
 //! `docs/FORMAT.md`; what is computed is in `docs/MODEL.md`. The stack that a call needs is said in `include/razhikum.h`.
 //!
 //! Any number of threads may call at the same time: the library has no memory of its own. It writes its caller's stack and the
-//! buffer that the call lends, and nothing else.
+//! buffer or the arrays that the call lends, and nothing else.
 //!
 //! ```
 //! let tree = b"bus\t8\t1\t4\t2\t2\t30\t25\t1\t1\t16\n\
@@ -36,6 +37,14 @@
 //! let mut text = [0; razhikum::TREE_TEXT];
 //! assert_eq!(razhikum::rewrite(tree, &mut text)?, tree);
 //!
+//! // A burst of 40 beats of 4 bytes, cut to 16 beats, and the answers of its pieces.
+//! use razhikum::{Burst, Joining, PIECES};
+//! let (mut starts, mut beats) = ([0; PIECES], [0; PIECES]);
+//! let pieces = razhikum::split(tree, Burst { start: 5, beats: 40, size: 4 }, &mut starts, &mut beats)?;
+//! assert_eq!(pieces.iter().last(), Some(Burst { start: 132, beats: 8, size: 4 }));
+//! let mut joiner = pieces.joiner();
+//! assert_eq!([joiner.join(1)?, joiner.join(2)?, joiner.join(3)?], [Joining::Taken, Joining::Taken, Joining::Done]);
+//!
 //! let refused = razhikum::bound(tree, 2).unwrap_err();
 //! assert_eq!(refused.cause, razhikum::Cause::Unknown);
 //! # Ok::<(), Box<dyn std::error::Error>>(())
@@ -44,12 +53,14 @@
 #![warn(missing_docs)]
 
 mod answers;
+mod bursts;
 mod raw;
 
 pub use answers::{Bound, Cause, Channel, Ending, FileRefused, Refused, Wait, WaitRefused};
+pub use bursts::{split, Burst, Joiner, Joining, Pieces, PIECES};
 
 /// The version of this wrapper: 10,000 for each first figure, 100 for each second, 1 for each third.
-pub const VERSION: u32 = 20_000;
+pub const VERSION: u32 = 20_100;
 
 /// The size of the page that a report is put on, in bytes.
 pub const PAGE: usize = 65_536;

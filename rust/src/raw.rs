@@ -52,6 +52,21 @@ pub struct Row {
     pub period: u64,
 }
 
+#[repr(C)]
+pub struct Cut {
+    pub number: u8,
+    pub line: u32,
+    pub pieces: u32,
+}
+
+#[repr(C)]
+pub struct Joined {
+    pub number: u8,
+    pub done: bool,
+    pub pieces: u32,
+    pub answered: u32,
+}
+
 extern "C" {
     pub fn razhikum_version() -> u32;
     pub fn razhikum_read_tree(tree: *const u8, tree_bytes: usize) -> Reading;
@@ -80,11 +95,21 @@ extern "C" {
         out_bytes: usize,
     ) -> Wait;
     pub fn razhikum_bound(tree: *const u8, tree_bytes: usize, accelerator: u8) -> Row;
+    pub fn razhikum_split(
+        tree: *const u8,
+        tree_bytes: usize,
+        start: u32,
+        beats: u32,
+        size: u32,
+        starts: *mut u32,
+        lengths: *mut u32,
+    ) -> Cut;
+    pub fn razhikum_join(pieces: u32, answered: u32, number: u32) -> Joined;
 }
 
 #[cfg(test)]
 mod tests {
-    use super::{razhikum_run, razhikum_why};
+    use super::{razhikum_join, razhikum_run, razhikum_split, razhikum_why};
 
     const TREE: &[u8] =
         b"bus\t8\t1\t4\t2\t2\t30\t25\t1\t1\t16\nint\t0\t-\t-\t1\nacc\t0\t0\t0\t4\t2\t10\t5\t1000\t2000\n";
@@ -105,6 +130,32 @@ mod tests {
         let r =
             unsafe { razhikum_why(tree.as_ptr(), tree.len(), channel, trace.as_ptr(), trace.len(), 0, 2, room, bytes) };
         ((r.kind, r.number, r.line, r.count, r.slot), out)
+    }
+
+    /// Every field of an answer, of which the safe calls drop some: a refused burst has no pieces, and a refused answer of a piece is
+    /// never done and gives the joiner back.
+    #[test]
+    fn fields_of_bursts_and_joiners() {
+        let split = |tree: &[u8], beats| {
+            let (mut starts, mut lengths) = ([99; 256], [99; 256]);
+            let (s, l) = (starts.as_mut_ptr(), lengths.as_mut_ptr());
+            let r = unsafe { razhikum_split(tree.as_ptr(), tree.len(), 4_080, beats, 1, s, l) };
+            (r.number, r.line, r.pieces, starts[0], lengths[0], starts[255], lengths[255])
+        };
+        assert_eq!(split(TREE, 16), (0, 0, 1, 4_080, 16, 0, 0));
+        assert_eq!(split(TREE, 17), (16, 0, 0, 99, 99, 99, 99));
+        assert_eq!(split(TREE, 0), (15, 0, 0, 99, 99, 99, 99));
+        assert_eq!(split(b"", 0), (3, 1, 0, 99, 99, 99, 99));
+        let join = |pieces, answered, number| {
+            let r = unsafe { razhikum_join(pieces, answered, number) };
+            (r.number, r.done, r.pieces, r.answered)
+        };
+        assert_eq!([join(2, 0, 1), join(2, 1, 2)], [(0, false, 2, 1), (0, true, 2, 2)]);
+        assert_eq!(
+            [join(2, 0, 2), join(2, 2, 2), join(2, 2, 3)],
+            [(11, false, 2, 0), (11, false, 2, 2), (11, false, 2, 2)]
+        );
+        assert_eq!([join(0, 0, 1), join(257, 256, 257)], [(11, false, 0, 0), (11, false, 257, 256)]);
     }
 
     #[test]

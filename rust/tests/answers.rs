@@ -1,7 +1,7 @@
 //! Each function on accepted and refused files, with figures worked out by hand from `docs/MODEL.md`.
 use razhikum::{
-    bound, count, read_trace, read_tree, report, rewrite, run, why, Bound, Cause, Channel, Ending, FileRefused,
-    Refused, Wait, WaitRefused, IDLE, LIMIT, OWN, PAGE, TREE_TEXT,
+    bound, count, read_trace, read_tree, report, rewrite, run, split, why, Bound, Burst, Cause, Channel, Ending,
+    FileRefused, Joiner, Joining, Refused, Wait, WaitRefused, IDLE, LIMIT, OWN, PAGE, PIECES, TREE_TEXT,
 };
 use Channel::{Read, Write};
 
@@ -276,6 +276,106 @@ fn refused_waits_leave_the_buffer() {
     }
 }
 
+/// A tree whose nominal burst length is so many beats.
+fn nominal(beats: u32) -> Vec<u8> {
+    file(&format!("bus 8 1 4 2 2 30 25 1 1 {beats}\nint 0 - - 1\nacc 0 0 0 4 2 1 1 0 1\n"))
+}
+
+/// What [`split`] answers, start address and beats of each piece; after them the arrays are 0, and on a refusal as they were.
+fn cut(tree: &[u8], start: u32, beats: u32, size: u32) -> Result<Vec<(u32, u32)>, Refused> {
+    let (mut starts, mut lengths) = ([99; PIECES], [99; PIECES]);
+    let answer = split(tree, Burst { start, beats, size }, &mut starts, &mut lengths).map(|pieces| {
+        assert!(pieces.iter().all(|piece| piece.size == size));
+        assert_eq!(pieces.iter().len(), pieces.count() as usize);
+        assert_eq!(pieces.joiner(), Joiner { pieces: pieces.count(), answered: 0 });
+        pieces.iter().map(|piece| (piece.start, piece.beats)).collect::<Vec<_>>()
+    });
+    let (used, rest) = answer.as_ref().map_or((0, 99), |pieces| (pieces.len(), 0));
+    assert!(starts[used..].iter().chain(&lengths[used..]).all(|&entry| entry == rest));
+    answer
+}
+
+#[test]
+fn bursts() {
+    let tree = nominal(16);
+    assert_eq!(cut(&tree, 5, 40, 4), Ok(vec![(5, 16), (68, 16), (132, 8)]));
+    assert_eq!(cut(&tree, 4_096, 32, 1), Ok(vec![(4_096, 16), (4_112, 16)]));
+    assert_eq!(cut(&tree, 4_096, 17, 1), Ok(vec![(4_096, 16), (4_112, 1)]));
+    assert_eq!(cut(&example("scanner30.tree"), 5, 40, 4), cut(&tree, 5, 40, 4));
+    // Source document 004: 256 beats cut to the nominal 16.
+    assert_eq!(cut(&tree, 8_192, 256, 4), Ok((0..16).map(|i| (8_192 + 64 * i, 16)).collect()));
+    let each = (1..256).map(|i| (4_096 + 16 * i, 1));
+    assert_eq!(cut(&nominal(1), 4_097, 256, 16), Ok([(4_097, 1)].into_iter().chain(each).collect()));
+    assert_eq!(cut(&nominal(256), 4_097, 256, 8), Ok(vec![(4_097, 256)]));
+}
+
+#[test]
+fn bursts_at_page_ends() {
+    let tree = nominal(256);
+    let crosses = Err(Refused { cause: Cause::Page, line: 0 });
+    assert_eq!(cut(&tree, 4_090, 3, 2), Ok(vec![(4_090, 3)]));
+    assert_eq!(cut(&tree, 4_091, 3, 2), Ok(vec![(4_091, 3)]));
+    assert_eq!(cut(&tree, 4_092, 3, 2), crosses);
+    assert_eq!(cut(&tree, u32::MAX, 1, 1), Ok(vec![(u32::MAX, 1)]));
+    assert_eq!(cut(&tree, u32::MAX, 2, 1), crosses);
+    assert_eq!(cut(&tree, u32::MAX - 127, 1, 128), Ok(vec![(u32::MAX - 127, 1)]));
+    for size in [1, 2, 4, 8, 16, 32, 64, 128] {
+        for page in [0, 0x8000_0000, 0xffff_f000] {
+            let most = (4_096 / size).min(256);
+            let first = page + (4_096 - most * size);
+            for start in [first, first + size - 1] {
+                assert_eq!(cut(&tree, start, most, size), Ok(vec![(start, most)]));
+                assert_eq!(cut(&tree, start + 1, most, size).is_err(), start + 1 == first + size);
+            }
+            assert_eq!(cut(&tree, first + size, most, size), crosses);
+        }
+    }
+}
+
+/// The tree comes first, then 15, then 16.
+#[test]
+fn refused_bursts() {
+    let tree = nominal(16);
+    let no_burst = Err(Refused { cause: Cause::Burst, line: 0 });
+    for (beats, size) in [(0, 1), (257, 1), (u32::MAX, 1), (1, 0), (1, 3), (1, 129), (1, 256), (256, u32::MAX), (0, 0)]
+    {
+        for start in [0, 4_095, u32::MAX] {
+            assert_eq!(cut(&tree, start, beats, size), no_burst);
+        }
+    }
+    for (beats, size) in [(16, 4), (0, 4), (256, 128)] {
+        assert_eq!(cut(b"", 4_095, beats, size), Err(Refused { cause: Cause::Order, line: 1 }));
+        assert_eq!(cut(&nominal(257), 4_095, beats, size), Err(Refused { cause: Cause::Range, line: 1 }));
+    }
+}
+
+#[test]
+fn joiners() {
+    let refused = Err(Refused { cause: Cause::Broken, line: 0 });
+    for pieces in 1..=PIECES as u32 {
+        let mut joiner = Joiner::of(pieces);
+        for number in 1..=pieces {
+            for other in (0..=pieces + 1).chain([u32::MAX]).filter(|&other| other != number) {
+                let before = joiner;
+                assert_eq!((joiner.join(other), joiner), (refused, before));
+            }
+            let expected = if number == pieces { Joining::Done } else { Joining::Taken };
+            assert_eq!((joiner.join(number), joiner), (Ok(expected), Joiner { pieces, answered: number }));
+        }
+        for number in (0..=pieces + 2).chain([u32::MAX]) {
+            assert_eq!((joiner.join(number), joiner.answered), (refused, pieces));
+        }
+    }
+    for (pieces, answered) in [(0, 0), (0, 1), (1, 2), (257, 0), (257, 256), (256, u32::MAX), (u32::MAX, u32::MAX - 1)]
+    {
+        let broken = Joiner { pieces, answered };
+        for number in [0, 1, answered, answered.wrapping_add(1), u32::MAX] {
+            let mut joiner = broken;
+            assert_eq!((joiner.join(number), joiner), (refused, broken));
+        }
+    }
+}
+
 #[test]
 fn refusals_in_words() {
     let refused = bound(&file(SMALL), 2).unwrap_err();
@@ -288,6 +388,15 @@ fn refusals_in_words() {
     assert_eq!(of_text.to_string(), "refused by 13: a buffer shorter than the text");
     let no_job = Refused { cause: Cause::NoJob, line: 0 };
     assert_eq!(no_job.to_string(), "refused by 14: no transactions on this channel in the accelerator's job");
+    let of_burst = |beats| {
+        let burst = Burst { start: 4_095, beats, size: 1 };
+        split(&file(SMALL), burst, &mut [0; PIECES], &mut [0; PIECES]).unwrap_err().to_string()
+    };
+    assert_eq!(of_burst(0), "refused by 15: no count of beats from 1 to 256, or no beat size of 1, 2, 4 up to 128");
+    assert_eq!(of_burst(2), "refused by 16: a burst that crosses a multiple of 4,096 bytes");
+    let of_piece = Joiner::of(2).join(2).unwrap_err().to_string();
+    let words = "a configuration, a state or a joiner that breaks its rules, or a piece out of turn";
+    assert_eq!(of_piece, format!("refused by 11: {words}"));
     assert_eq!(Channel::BOTH.map(|channel| channel.to_string()), ["read", "write"]);
 }
 
@@ -309,7 +418,8 @@ fn threads() {
         let waits = Channel::BOTH.map(|channel| [1, 2].map(|number| wait(channel, number)));
         let bounds: Vec<_> = (0..=32).map(|a| bound(tree, a)).collect();
         let runs = Channel::BOTH.map(|channel| (run(tree, channel, trace, &mut out), out.clone()));
-        (text, written, runs, waits, list, bounds)
+        let cuts: Vec<_> = (0..=257).map(|beats| cut(tree, 8_195, beats, 8)).collect();
+        (text, written, runs, waits, list, bounds, cuts)
     };
     let alone = files.each_ref().map(answers);
     std::thread::scope(|scope| {

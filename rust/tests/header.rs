@@ -1,5 +1,5 @@
 //! The header `include/razhikum.h`, the archive and this wrapper say the same.
-use razhikum::{Cause, Channel, IDLE, LIMIT, OWN, PAGE, TREE_TEXT, VERSION};
+use razhikum::{Cause, Channel, IDLE, LIMIT, OWN, PAGE, PIECES, TREE_TEXT, VERSION};
 use std::process::Command;
 
 const HEADER: &str = include_str!("../../include/razhikum.h");
@@ -31,6 +31,7 @@ fn sizes() {
     assert_eq!(of_header("RAZHIKUM_LIMIT"), LIMIT as u64);
     assert_eq!(of_header("RAZHIKUM_SLOTS"), LIMIT as u64);
     assert_eq!(of_header("RAZHIKUM_TREE_TEXT"), TREE_TEXT as u64);
+    assert_eq!(of_header("RAZHIKUM_PIECES"), PIECES as u64);
     assert_eq!(of_header("RAZHIKUM_IDLE"), u64::from(IDLE));
     assert_eq!(of_header("RAZHIKUM_OWN"), u64::from(OWN));
 }
@@ -58,6 +59,9 @@ fn causes() {
         ("RAZHIKUM_NOT_SERVED", Cause::NotServed),
         ("RAZHIKUM_TOO_SHORT", Cause::TooShort),
         ("RAZHIKUM_NO_JOB", Cause::NoJob),
+        ("RAZHIKUM_BURST", Cause::Burst),
+        // RAZHIKUM_PAGE is the size of a page.
+        ("RAZHIKUM_PAGE_CROSSED", Cause::Page),
     ];
     for (number, (name, cause)) in (1..).zip(named) {
         assert_eq!(of_header(name), u64::from(number));

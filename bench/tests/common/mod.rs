@@ -1,4 +1,5 @@
 //! What the tests share.
+pub mod counts;
 pub mod shares;
 pub mod simple;
 pub mod written;
