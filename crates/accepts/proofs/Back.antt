@@ -29,16 +29,16 @@ use Rattle.rules.proofs.Beneath.{only, only-same, only-other}
 use Rattle.folds.proofs.Folds.{picked, passed, both, tests}
 use Rattle.lines.specs.declared.FileAnswer.the-variants.{Accepted}
 use Rattle.lines.specs.declared.Kind.{Kind}
-use Rattle.lines.specs.declared.Kind.the-variants.{NoRecord, BusLine, IntLine, AccLine, OfferLine}
+use Rattle.lines.specs.declared.Kind.the-variants.{NoRecord, BusLine, IntLine, AccLine, OfferLine, Bus3Line}
 use Rattle.lines.specs.declared.Line.{Line}
-use Rattle.lines.specs.Lines.{formOf, nameOf, lineOf, valueAt, dashAt, inTree, shaped, limitsKept}
+use Rattle.lines.specs.Lines.{busKind, formOf, nameOf, noDashes, lineOf, valueAt, dashAt, inTree, shaped, limitsKept}
 use Rattle.lines.proofs.Limits.{least, most}
 use Rattle.lines.proofs.Back.{fieldAt, absent-zero, shape-count, shape-exact, line-written, numbers-written, no-dash-at}
 use Rattle.model.specs.Builders.{withBus}
 use Rattle.records.specs.Records.{emptyTree, busOf, withRoot, withChild, accOf, withAcc}
 use Rattle.placing.specs.declared.TreeRead.{TreeRead}
 use Rattle.placing.specs.Placing.{refusedAt, given, intInOrder, busLine, childLine, intLine, complete, finish, recordLine, treeLine}
-use Rattle.placing.proofs.Tests.{line-record, int-root, int-child, child-given}
+use Rattle.placing.proofs.Tests.{bus-record, line-record, int-root, int-child, child-given}
 use Rattle.reader.specs.TreeFile.{onward, readLines, readTree}
 use Rattle.reader.proofs.Files.{tree-size, tree-start}
 use Rattle.writer.specs.Lines.{busWhole, busShort, rootWritten, childWritten, accWritten}
@@ -47,7 +47,7 @@ use Rattle.writer.specs.Lines.{intText, accText}
 use Rattle.writer.specs.Writer.{times}
 use Rattle.accepts.specs.TreeText.{Writes}
 use Rattle.accepts.specs.TreeRefused.{Stands, bus-stands, root-stands, child-stands, acc-stands}
-use Rattle.accepts.proofs.Kept.{Partial, accepted-keeps, partial-empty, fine-line, never-refused, is-empty}
+use Rattle.accepts.proofs.Kept.{Partial, accepted-keeps, partial-empty, bus-rules, fine-line, never-refused, is-empty}
 use Rattle.accepts.proofs.Kept.{order-start, order-accs, order-number, order-parent, new-here, root-size}
 use Rattle.accepts.proofs.Kept.{child-new, child-parent, child-parent-port, child-granularity}
 use Rattle.accepts.proofs.Kept.{acc-new, acc-old, home-size, stored-parent, stored-parent-port, stored-granularity}
@@ -81,35 +81,46 @@ module _ (n : ℕ) (u : Tree) (s : List ℕ) (e : treeLine n u (lineOf s) .answe
   abbrev pub Stepped : Type 0
   Stepped = (w : Tree) × (treeLine n u l ≡ given w) × Stands u s w
 
-  -- a bus line of eleven fields has the return delay, one of ten has not
-  bus-written : l .kind ≡ BusLine → WritesBus (busOf (l .values)) s
-  unfolding rows numbers
-  bus-written q = elim (ℕ-discrete (l .count) 11) [
-    | yes c ↦ with-delay (whole c)
-    | no d ↦ without-delay (omega (arith, absent-zero s 10 (ten d))) (short d)
-  ]
-    where
-      few : (10 ≤ l .count) × (l .count ≤ 11)
-      few = shape-count l BusLine q shape
+  -- a bus line of eleven fields has the return delay, one of ten has not; under either name
+  module _ (a : Bool) (q : l .kind ≡ busKind a) where
+    bus-count : (10 ≤ l .count) × (l .count ≤ 11)
+    bus-count = go a q where
+      go : (a : Bool) → l .kind ≡ busKind a → (10 ≤ l .count) × (l .count ≤ 11)
+      go true q = shape-count l Bus3Line q shape
+      go false q = shape-count l BusLine q shape
 
-      ten : (l .count ≡ 11 → ⊥) → l .count ≤ 10
-      ten d = omega (arith, few .1)
+    no-dashes : formOf (busKind a) .dashes ≡ noDashes
+    no-dashes = go a where
+      go : (a : Bool) → formOf (busKind a) .dashes ≡ noDashes
+      go true = refl
+      go false = refl
 
-      whole : l .count ≡ 11 → s ≡ busWhole (busOf (l .values))
-      whole c = numbers-written s BusLine 11 q refl shape c
+    bus-written : WritesBus (busOf a (l .values)) s
+    unfolding rows numbers
+    bus-written = elim (ℕ-discrete (l .count) 11) [
+      | yes c ↦ with-delay (whole c)
+      | no d ↦ without-delay (omega (arith, absent-zero s 10 (ten d))) (short d)
+    ]
+      where
+        ten : (l .count ≡ 11 → ⊥) → l .count ≤ 10
+        ten d = omega (arith, bus-count .1)
 
-      short : (l .count ≡ 11 → ⊥) → s ≡ busShort (busOf (l .values))
-      short d = numbers-written s BusLine 10 q refl shape (omega (arith, few .0, ten d))
+        whole : l .count ≡ 11 → s ≡ busWhole (busOf a (l .values))
+        whole c = numbers-written s (busKind a) 11 q no-dashes shape c
 
-  bus-stepped : l .kind ≡ BusLine → Stepped
-  unfolding busLine all busKeeps
-  bus-stepped q =
-      let f = passed-test (ltb 0 (u .bus .window)) Order n _ (answer BusLine q) in (
-        withBus u (busOf (l .values)),
-        result BusLine q ∙ passed _ _ _ (f .0),
-        bus-stands (busOf (l .values)) (limits BusLine q) (let z = ltb-false 0 (u .bus .window) (f .0) in omega arith)
-            (bus-written q),
-      )
+        short : (l .count ≡ 11 → ⊥) → s ≡ busShort (busOf a (l .values))
+        short d = numbers-written s (busKind a) 10 q no-dashes shape (omega (arith, bus-count .0, ten d))
+
+    bus-stepped : Stepped
+    unfolding busLine
+    bus-stepped =
+        let r = bus-record n u l a in
+        let f = passed-test (ltb 0 (u .bus .window)) Order n _ (sym (ap (λ (x : TreeRead). x .answer) r) ∙ answer (busKind a) q) in (
+          withBus u (busOf a (l .values)),
+          result (busKind a) q ∙ r ∙ passed _ _ _ (f .0),
+          bus-stands (busOf a (l .values)) (sym (bus-rules a (l .values)) ∙ limits (busKind a) q)
+              (let z = ltb-false 0 (u .bus .window) (f .0) in omega arith) bus-written,
+        )
 
   acc-stepped : l .kind ≡ AccLine → Stepped
   unfolding rows numbers
@@ -186,10 +197,11 @@ module _ (n : ℕ) (u : Tree) (s : List ℕ) (e : treeLine n u (lineOf s) .answe
     where
       go : (k : Kind) → l .kind ≡ k → Stepped
       go NoRecord q = never-refused _ _ n (answer NoRecord q)
-      go BusLine q = bus-stepped q
+      go BusLine q = bus-stepped false q
       go IntLine q = int-stepped q
       go AccLine q = acc-stepped q
       go OfferLine q = never-refused _ _ n (answer OfferLine q)
+      go Bus3Line q = bus-stepped true q
 
 bus-window : (b : Bus) → busKeeps b ≡ true → 0 < b .window
 unfolding busKeeps

@@ -19,8 +19,8 @@ use Rattle.folds.proofs.Folds.{picked, passed, joined, at-all}
 use Rattle.rules.proofs.Sound.{Sound, sound}
 use Rattle.placing.specs.declared.TreeRead.{TreeRead}
 use Rattle.lines.specs.declared.Kind.{Kind}
-use Rattle.lines.specs.declared.Kind.the-variants.{BusLine, IntLine, AccLine}
-use Rattle.lines.specs.Lines.{nameOf, lineOf}
+use Rattle.lines.specs.declared.Kind.the-variants.{NoRecord, BusLine, IntLine, AccLine, OfferLine, Bus3Line}
+use Rattle.lines.specs.Lines.{busKind, nameOf, lineOf}
 use Rattle.model.specs.Builders.{withBus}
 use Rattle.records.specs.Records.{emptyTree, withAcc}
 use Rattle.placing.specs.Placing.{given, complete, finish, treeLine}
@@ -52,7 +52,7 @@ unfolding fieldsText
 fields-length short-none = omega arith
 fields-length (short-more {l = f} {ls = fs} h S) = omega (arith, length-append f (fieldsText fs), fields-length S)
 
-file-length : {ls : List (List ℕ)} → Short 124 ls → length (fileText ls) ≤ 125 * length ls
+file-length : {ls : List (List ℕ)} → Short 125 ls → length (fileText ls) ≤ 126 * length ls
 unfolding fileText
 file-length short-none = omega arith
 file-length (short-more {l = l} {ls = ls} h S) = omega (arith, length-append l (10 ∷ fileText ls), file-length S)
@@ -70,19 +70,27 @@ numbers-count (x ∷ xs) = ap suc (numbers-count xs)
 -- a line that has no LF inside and is short
 record Fit (l : List ℕ) : Type 0 where
   clean : Clean 10 l
-  short : length l ≤ 124
+  short : length l ≤ 125
 
-fit-line : (name : List ℕ) (fs : List (List ℕ)) → Clean 10 name → length name ≤ 3 → AllClean 10 fs → Short 10 fs → length fs ≤ 11
+fit-line : (name : List ℕ) (fs : List (List ℕ)) → Clean 10 name → length name ≤ 4 → AllClean 10 fs → Short 10 fs → length fs ≤ 11
     → Fit (lineText name fs)
 fit-line name fs C h A S k =
     record { clean = clean-append C (fields-clean A); short = omega (arith, length-append name (fieldsText fs), fields-length S) }
 
-numbers-fit : (k : Kind) (xs : List ℕ) → length (nameOf k) ≤ 3 → Below xs → length xs ≤ 11 → Fit (lineText (nameOf k) (numbers xs))
-numbers-fit k xs h B l =
-    fit-line _ _ (name-clean 10 (lit< tt) k) h (numbers-clean 10 (lit< tt) xs) (numbers-short B) (omega (arith, numbers-count xs))
+name-short : (k : Kind) → length (nameOf k) ≤ 4
+name-short NoRecord = lit≤ tt
+name-short BusLine = lit≤ tt
+name-short IntLine = lit≤ tt
+name-short AccLine = lit≤ tt
+name-short OfferLine = lit≤ tt
+name-short Bus3Line = lit≤ tt
+
+numbers-fit : (k : Kind) (xs : List ℕ) → Below xs → length xs ≤ 11 → Fit (lineText (nameOf k) (numbers xs))
+numbers-fit k xs B l =
+    fit-line _ _ (name-clean 10 (lit< tt) k) (name-short k) (numbers-clean 10 (lit< tt) xs) (numbers-short B) (omega (arith, numbers-count xs))
 
 rows-clean : (c k : ℕ) (f : ℕ → List ℕ) → ((j : ℕ) → j < k + c → Fit (f j))
-    → (AllClean 10 (rows c k f)) × (Short 124 (rows c k f)) × (length (rows c k f) ≡ c)
+    → (AllClean 10 (rows c k f)) × (Short 125 (rows c k f)) × (length (rows c k f) ≡ c)
 unfolding rows
 rows-clean zero k f h = (all-none, short-none, refl)
 rows-clean (suc c) k f h =
@@ -115,20 +123,20 @@ module _ (t : Tree) (e : treeKeeps t ≡ true) where
 
   -- no line has an LF inside, and each is short
   bus-fit : {l : List ℕ} → WritesBus (t .bus) l → Fit l
-  bus-fit (with-delay q) = subst Fit (sym q) (numbers-fit BusLine _ (lit≤ tt) (bus-below (t .bus) (bus-limits t e)) (lit≤ tt))
+  bus-fit (with-delay q) = subst Fit (sym q) (numbers-fit (busKind (t .bus .axi3)) _ (bus-below (t .bus) (bus-limits t e)) (lit≤ tt))
   bus-fit (without-delay z q) =
       subst Fit (sym q)
-      (numbers-fit BusLine _ (lit≤ tt) (below-front (busFront (t .bus)) _ (bus-below (t .bus) (bus-limits t e))) (lit≤ tt))
+      (numbers-fit (busKind (t .bus .axi3)) _ (below-front (busFront (t .bus)) _ (bus-below (t .bus) (bus-limits t e))) (lit≤ tt))
 
   acc-fit : (a : ℕ) → a < t .accs → Fit (accText t a)
-  acc-fit a h = numbers-fit AccLine _ (lit≤ tt) (acc-below a h) (lit≤ tt)
+  acc-fit a h = numbers-fit AccLine _ (acc-below a h) (lit≤ tt)
 
   int-fit : (j : ℕ) → j < t .ints → Fit (intText t j)
   int-fit j h = elim (ℕ-discrete j 0) [
     | yes q ↦ subst (λ i. Fit (intText t i)) (sym q)
         (fit-line _ _ (name-clean 10 (lit< tt) IntLine) (lit≤ tt) (root-clean 10 (lit< tt) t) (short-more (number-length 0 (lit< tt))
         (short-more (lit≤ tt) (short-more (lit≤ tt) (short-more (number-length (granularityOf t 0) root-below) short-none)))) (lit≤ tt))
-    | no d ↦ subst Fit (sym (passed _ _ _ (ne-eqb j 0 d))) (numbers-fit IntLine _ (lit≤ tt) (child-below j (omega arith) h) (lit≤ tt))
+    | no d ↦ subst Fit (sym (passed _ _ _ (ne-eqb j 0 d))) (numbers-fit IntLine _ (child-below j (omega arith) h) (lit≤ tt))
   ]
 
   -- the int lines, one after the other
@@ -203,7 +211,7 @@ module _ (t : Tree) (e : treeKeeps t ≡ true) where
         let I = rows-clean (t .ints) 0 (intText t) (λ j l. int-fit j (omega arith)) in
         let A = rows-clean (t .accs) 0 (accText t) (λ a l. acc-fit a (omega arith)) in
         let n = length-append (rows (t .ints) 0 (intText t)) (rows (t .accs) 0 (accText t)) in
-        let f : length text ≤ 125 * length (linesAfter bus t) = file-length (short-more (bus-fit W .short) (both-short (I .1) (A .1))) in
+        let f : length text ≤ 126 * length (linesAfter bus t) = file-length (short-more (bus-fit W .short) (both-short (I .1) (A .1))) in
         let r = lines-read text-clean in
         let b : length text ≤ 65536 = omega (arith, f, n, I .2, A .2, S .most-ints, S .most-accs) in
         tree-start text b

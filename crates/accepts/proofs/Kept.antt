@@ -13,6 +13,7 @@ use lib.Seq.{getD-set-same, getD-set-other}
 use borrow.Author.Tests.{lt-ltb, le-ltb, eq-eqb, ne-eqb, ltb-true, eqb-true, ltb-false, leb-false, eqb-false, not-false}
 use Rattle.text.specs.Text.{lines, unended}
 use Rattle.model.specs.declared.Tree.{Tree}
+use Rattle.model.specs.declared.Bus.{Bus}
 use Rattle.model.specs.declared.Interconnect.{Interconnect}
 use Rattle.model.specs.declared.Accelerator.{Accelerator}
 use Rattle.model.specs.declared.PortCell.{PortCell}
@@ -30,9 +31,9 @@ use Rattle.lines.specs.declared.FileAnswer.{FileAnswer}
 use Rattle.lines.specs.declared.FileAnswer.the-variants.{Accepted, Refused, Broken}
 use Rattle.placing.specs.declared.TreeRead.{TreeRead}
 use Rattle.lines.specs.declared.Kind.{Kind}
-use Rattle.lines.specs.declared.Kind.the-variants.{NoRecord, BusLine, IntLine, AccLine, OfferLine}
+use Rattle.lines.specs.declared.Kind.the-variants.{NoRecord, BusLine, IntLine, AccLine, OfferLine, Bus3Line}
 use Rattle.lines.specs.declared.Line.{Line}
-use Rattle.lines.specs.Lines.{lineOf, valueAt, dashAt, inTree, shaped, limitsKept}
+use Rattle.lines.specs.Lines.{busKind, lineOf, valueAt, dashAt, inTree, shaped, limitsKept}
 use Rattle.model.specs.Builders.{withBus, carrying}
 use Rattle.records.specs.Records.{emptyTree, busOf, withPort, withInterconnect, withRoot, withChild, accOf, withAcc}
 use Rattle.placing.specs.Placing.{refusedAt, given, busLine, intInOrder, rootRule, childLine, intLine, accLine, complete, finish, recordLine, treeLine}
@@ -233,9 +234,14 @@ partial-empty =
       int-place = λ j p k e. absurd (not-int _ k (no-port j p) e);
     }
 
-pub partial-bus : (t : Tree) (v : List ℕ) → Partial t → limitsKept BusLine v ≡ true → Partial (withBus t (busOf v))
+-- the limits of a bus line, and of a bus3 line, are the rules of its bus
+pub bus-rules : (a : Bool) (v : List ℕ) → limitsKept (busKind a) v ≡ busKeeps (busOf a v)
 unfolding all busKeeps
-partial-bus t v P e =
+bus-rules true v = refl
+bus-rules false v = refl
+
+pub partial-bus : (t : Tree) (b : Bus) → Partial t → busKeeps b ≡ true → Partial (withBus t b)
+partial-bus t b P e =
     record {
       ints-size = P .ints-size;
       accs-size = P .accs-size;
@@ -244,7 +250,7 @@ partial-bus t v P e =
       most-ints = P .most-ints;
       most-accs = P .most-accs;
       granularity = P .granularity;
-      level = λ j l. subst (λ (k : ℕ). k ≤ 4) (sym (level-same t (withBus t (busOf v)) (t .ints) (λ k h. refl) (P .parent) j l)) (P .level j l);
+      level = λ j l. subst (λ (k : ℕ). k ≤ 4) (sym (level-same t (withBus t b) (t .ints) (λ k h. refl) (P .parent) j l)) (P .level j l);
       root = P .root;
       parent = P .parent;
       parent-port = P .parent-port;
@@ -614,9 +620,10 @@ module _ (t : Tree) (l : Line) (e : intInOrder t l ≡ true) where
       let c = sym (passed _ _ _ (ne-eqb _ _ d)) ∙ order-start .1 in
       ltb-true _ _ (both (not (dashAt l 1) && not (dashAt l 2)) (ltb (valueAt l 1) (valueAt l 0)) c .1)
 
-fine-bus : (n : ℕ) (t : Tree) (v : List ℕ) → Partial t → limitsKept BusLine v ≡ true → Fine (busLine n t v)
+fine-bus : (n : ℕ) (t : Tree) (a : Bool) (v : List ℕ) → Partial t → limitsKept (busKind a) v ≡ true → Fine (busLine n t a v)
 unfolding busLine
-fine-bus n t v P e = fine-pick (ltb 0 (t .bus .window)) Order n (given (withBus t (busOf v))) (λ c f. partial-bus t v P e)
+fine-bus n t a v P e =
+    fine-pick (ltb 0 (t .bus .window)) Order n (given (withBus t (busOf a v))) (λ c f. partial-bus t (busOf a v) P (sym (bus-rules a v) ∙ e))
 
 fine-int : (n : ℕ) (t : Tree) (l : Line) → Partial t → limitsKept IntLine (l .values) ≡ true → Fine (intLine n t l)
 unfolding intLine childLine
@@ -645,10 +652,11 @@ fine-acc n t v P e =
 
 fine-record : (n : ℕ) (t : Tree) (l : Line) → Partial t → (k : Kind) → limitsKept k (l .values) ≡ true → Fine (recordLine k n t l)
 fine-record n t l P NoRecord e f = never-refused _ _ n f
-fine-record n t l P BusLine e f = fine-bus n t (l .values) P e f
+fine-record n t l P BusLine e f = fine-bus n t false (l .values) P e f
 fine-record n t l P IntLine e f = fine-int n t l P e f
 fine-record n t l P AccLine e f = fine-acc n t (l .values) P e f
 fine-record n t l P OfferLine e f = never-refused _ _ n f
+fine-record n t l P Bus3Line e f = fine-bus n t true (l .values) P e f
 
 pub fine-line : (n : ℕ) (t : Tree) (l : Line) → Partial t → Fine (treeLine n t l)
 unfolding treeLine

@@ -9,3 +9,4 @@ pub mod Refusals
 pub mod TraceExactly
 pub mod TraceRefusals
 pub mod RoundTrip
+pub mod Names

@@ -22,7 +22,7 @@ use Rattle.folds.proofs.Folds.{picked, passed, both, joined, clash}
 use Rattle.model.specs.Tree.{portOf, phiOf, levelOf}
 use Rattle.rules.specs.Rules.{isEmpty}
 use Rattle.lines.specs.declared.Kind.{Kind}
-use Rattle.lines.specs.declared.Kind.the-variants.{NoRecord, BusLine, IntLine, AccLine, OfferLine}
+use Rattle.lines.specs.declared.Kind.the-variants.{NoRecord, BusLine, IntLine, AccLine, OfferLine, Bus3Line}
 use Rattle.lines.specs.declared.Line.{Line}
 use Rattle.lines.specs.declared.FileAnswer.{FileAnswer}
 use Rattle.lines.specs.declared.FileAnswer.the-variants.{Accepted, Refused, Broken}
@@ -82,6 +82,8 @@ module _ (n : ℕ) where
   record-rules u l AccLine e true =
       acc-answers (leb (u .ints) (valueAt l 1)) (ltb 0 (phiOf u (valueAt l 0))) (isEmpty (portOf u (valueAt l 1) (valueAt l 2))) _
   record-rules u l OfferLine e b = clash cc
+  record-rules u l Bus3Line e false = refl
+  record-rules u l Bus3Line e true = bus-answers (ltb 0 (u .bus .window)) _
 
   line-rules : (u : Tree) (l : Line) → inTree (l .kind) && shaped l ≡ true → treeLine n u l .answer ≡ broken n (lineRules u l)
   unfolding treeLine lineRules

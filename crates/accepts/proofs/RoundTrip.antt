@@ -207,7 +207,7 @@ module _ (t : Tree) (e : treeKeeps t ≡ true) where
   )
 
 -- an accepted file and its tree
-accepted-given : (s : List ℕ) → readTree s .answer ≡ Accepted → readTree s ≡ given (readTree s .tree)
+pub accepted-given : (s : List ℕ) → readTree s .answer ≡ Accepted → readTree s ≡ given (readTree s .tree)
 accepted-given s e = λ i. record { answer = e i; tree = readTree s .tree }
 
 -- a file that is accepted is read as the same tree after it was written back

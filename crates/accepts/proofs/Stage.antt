@@ -2,7 +2,7 @@
 -- first k interconnects and m accelerators (`Agrees`); the next line is accepted and agrees with one more, because the tests
 -- are what the rules say; at the end both are equal. By the laws of what a line stores, and by induction on what is left.
 use Prim.Native.Nat.{ℕ, _+_, _≤_, _<_}
-use mathlib.Core.Bool.{true}
+use mathlib.Core.Bool.{Bool, true, false, _&&_}
 use mathlib.Core.List.{List, [], _∷_, _++_}
 use mathlib.Core.Path.{_≡_, refl, sym, _∙_, ap, subst}
 use native.Mathlib.Decide.{decLt}
@@ -27,16 +27,17 @@ use Rattle.folds.proofs.Folds.{picked, passed, tests, joined, clash}
 use Rattle.rules.proofs.Sound.{Sound, sound, level-step}
 use Rattle.lines.specs.declared.Kind.the-variants.{BusLine, IntLine, AccLine}
 use Rattle.lines.specs.declared.Line.{Line}
-use Rattle.lines.specs.Lines.{lineOf, valueAt, limitsKept, shaped}
+use Rattle.lines.specs.Lines.{busKind, lineOf, valueAt, limitsKept, shaped, inTree, noDashes}
 use Rattle.lines.proofs.Written.{Below, fieldsFrom, limits-below}
 use Rattle.model.specs.Builders.{withBus}
 use Rattle.records.specs.Records.{emptyTree, withRoot, withChild, withAcc}
+use Rattle.records.proofs.Stored.{narrower}
 use Rattle.placing.specs.Placing.{given, busLine, rootRule, intInOrder, treeLine}
 use Rattle.writer.specs.Lines.{busValues}
 use Rattle.accepts.specs.TreeText.{WritesBus, with-delay, without-delay}
 use Rattle.writer.proofs.Limits.{bus-limits, acc-rule, acc-ranges}
-use Rattle.placing.proofs.Tests.{line-record, int-root, int-child, child-given, acc-given}
-use Rattle.accepts.proofs.Kept.{Partial, partial-empty, partial-bus, partial-root, partial-child, partial-acc}
+use Rattle.placing.proofs.Tests.{bus-record, line-record, int-root, int-child, child-given, acc-given}
+use Rattle.accepts.proofs.Kept.{Partial, partial-empty, bus-rules, partial-bus, partial-root, partial-child, partial-acc}
 use Rattle.accepts.proofs.Kept.{each-number, each-port, level-same, new-here, root-size, root-ports, not-acc, not-int, is-empty}
 use Rattle.accepts.proofs.Kept.{child-new, child-parent, child-parent-port, child-granularity, child-port-new, child-port-at, child-port-other}
 use Rattle.accepts.proofs.Kept.{acc-new, acc-old, acc-at, stored-apart, stored-parent, stored-parent-port, stored-granularity, home-size}
@@ -117,32 +118,44 @@ same-test c k d = elim (decLt c k) [
 
 -- the numbers of a bus line are in their limits, so they have at most ten digits
 pub bus-below : (b : Bus) → busKeeps b ≡ true → Below (busValues b)
-unfolding all busKeeps fieldsFrom
-bus-below b h = limits-below BusLine (busValues b) h
+unfolding fieldsFrom
+bus-below b h = limits-below BusLine (busValues b) (narrower (b .axi3) (busValues b) (bus-rules (b .axi3) (busValues b) ∙ h))
+
+-- a bus line has the shape of its record, with or without the return delay
+bus-shaped : (a : Bool) (v : List ℕ)
+    → (shaped (record { kind = busKind a; count = 10; malformed = false; dashes = noDashes; values = v }) ≡ true)
+    × (shaped (record { kind = busKind a; count = 11; malformed = false; dashes = noDashes; values = v }) ≡ true)
+unfolding all shaped
+bus-shaped true v = (refl, refl)
+bus-shaped false v = (refl, refl)
 
 bus-placed : (n : ℕ) (u : Tree) (c : ℕ) (b : Bus) → busKeeps b ≡ true → u .bus .window ≡ 0 → shaped (busEntry c b) ≡ true
     → treeLine n u (busEntry c b) ≡ given (withBus u b)
-unfolding all busKeeps busLine
-bus-placed n u c b h z s = line-record n u (busEntry c b) BusLine refl s h ∙ passed _ _ _ (le-ltb 0 (u .bus .window) (omega arith))
+unfolding busLine
+bus-placed n u c b h z s =
+    line-record n u (busEntry c b) (busKind (b .axi3)) refl (tree-shaped (b .axi3) s) (bus-rules (b .axi3) (busValues b) ∙ h)
+    ∙ bus-record n u (busEntry c b) (b .axi3) ∙ passed _ _ _ (le-ltb 0 (u .bus .window) (omega arith))
+  where
+    tree-shaped : (a : Bool) → shaped (busEntry c b) ≡ true → inTree (busKind a) && shaped (busEntry c b) ≡ true
+    tree-shaped true s = s
+    tree-shaped false s = s
 
 -- a bus line is accepted where none was read, with its return delay or, where that is 0, without it
 pub bus-step : (n : ℕ) (u : Tree) {b : Bus} {l : List ℕ} → busKeeps b ≡ true → u .bus .window ≡ 0 → WritesBus b l
     → treeLine n u (lineOf l) ≡ given (withBus u b)
-unfolding all shaped
 bus-step n u {b} h z (with-delay q) =
-    ap (λ (s : List ℕ). treeLine n u (lineOf s)) q ∙ ap (treeLine n u) (whole-read b (bus-below b h)) ∙ bus-placed n u 11 b h z refl
+    ap (λ (s : List ℕ). treeLine n u (lineOf s)) q ∙ ap (treeLine n u) (whole-read b (bus-below b h)) ∙ bus-placed n u 11 b h z (bus-shaped (b .axi3) (busValues b) .1)
 bus-step n u {b} h z (without-delay d q) =
-    ap (λ (s : List ℕ). treeLine n u (lineOf s)) q ∙ ap (treeLine n u) (short-read b d (bus-below b h)) ∙ bus-placed n u 10 b h z refl
+    ap (λ (s : List ℕ). treeLine n u (lineOf s)) q ∙ ap (treeLine n u) (short-read b d (bus-below b h)) ∙ bus-placed n u 10 b h z (bus-shaped (b .axi3) (busValues b) .0)
 
 module _ (t : Tree) (e : treeKeeps t ≡ true) where
   S : Sound t
   S = sound t e
 
   pub agrees-bus : Agrees t (withBus emptyTree (t .bus)) 0 0
-  unfolding all busKeeps
   agrees-bus =
       record {
-        part = partial-bus emptyTree (busValues (t .bus)) partial-empty (bus-limits t e);
+        part = partial-bus emptyTree (t .bus) partial-empty (bus-limits t e);
         bus = refl;
         ints = refl;
         accs = refl;

@@ -14,15 +14,15 @@ use Rattle.model.specs.declared.Tree.{Tree}
 use Rattle.model.specs.declared.Bus.{Bus}
 use Rattle.model.specs.Tree.{granularityOf, parentOf, parentPortOf, acceleratorOf}
 use Rattle.folds.proofs.Folds.{passed}
-use Rattle.lines.specs.declared.Kind.the-variants.{BusLine, IntLine, AccLine}
+use Rattle.lines.specs.declared.Kind.the-variants.{IntLine, AccLine}
 use Rattle.lines.specs.declared.Line.{Line}
-use Rattle.lines.specs.Lines.{formOf, pushed, lineOf, noDashes}
+use Rattle.lines.specs.Lines.{busKind, formOf, pushed, lineOf, noDashes}
 use Rattle.lines.proofs.Written.{Plain, Below, below-none, below-more, texts-clean, line-read, numbers-read}
 use Rattle.writer.specs.Lines.{busFront, busValues, accValues, busWhole, busShort, intText, accText}
 
 -- the lines as they are read
 abbrev pub busEntry : ℕ → Bus → Line
-busEntry n b = record { kind = BusLine; count = n; malformed = false; dashes = noDashes; values = busValues b }
+busEntry n b = record { kind = busKind (b .axi3); count = n; malformed = false; dashes = noDashes; values = busValues b }
 
 abbrev pub rootEntry : Tree → Line
 rootEntry t =
@@ -54,14 +54,15 @@ below-front (x ∷ xs) ys (below-more h B) = below-more h (below-front xs ys B)
 
 pub whole-read : (b : Bus) → Below (busValues b) → lineOf (busWhole b) ≡ busEntry 11 b
 unfolding pushed
-whole-read b B = numbers-read BusLine B
+whole-read b B = numbers-read (busKind (b .axi3)) B
 
 -- a return delay that is absent is held as 0
 pub short-read : (b : Bus) → b .delay ≡ 0 → Below (busValues b) → lineOf (busShort b) ≡ busEntry 10 b
 unfolding pushed
 short-read b z B =
-    numbers-read BusLine (below-front (busFront b) (b .delay ∷ []) B)
-    ∙ ap (λ (d : ℕ). record { kind = BusLine; count = 10; malformed = false; dashes = noDashes; values = busFront b ++ (d ∷ []) }) (sym z)
+    numbers-read (busKind (b .axi3)) (below-front (busFront b) (b .delay ∷ []) B)
+    ∙ ap (λ (d : ℕ). record { kind = busKind (b .axi3); count = 10; malformed = false; dashes = noDashes; values = busFront b ++ (d ∷ []) })
+    (sym z)
 
 pub acc-read : (t : Tree) (a : ℕ) → Below (accValues a (acceleratorOf t a)) → lineOf (accText t a) ≡ accEntry t a
 unfolding pushed

@@ -3,3 +3,4 @@ pub mod TreeRefused
 pub mod TraceText
 pub mod TraceRefused
 pub mod RoundTrip
+pub mod Names

@@ -27,7 +27,7 @@ use Rattle.rules.specs.Rules.{isEmpty, busKeeps}
 use Rattle.text.specs.declared.Field.{Field}
 use Rattle.text.specs.Text.{lines, unended}
 use Rattle.lines.specs.declared.Kind.{Kind}
-use Rattle.lines.specs.declared.Kind.the-variants.{NoRecord, BusLine, IntLine, AccLine, OfferLine}
+use Rattle.lines.specs.declared.Kind.the-variants.{NoRecord, BusLine, IntLine, AccLine, OfferLine, Bus3Line}
 use Rattle.lines.specs.declared.Line.{Line}
 use Rattle.lines.specs.declared.FileAnswer.the-variants.{Refused}
 use Rattle.lines.specs.FirstRule.{Rule, rule, broken}
@@ -57,6 +57,7 @@ inOrder BusLine u l = not (ltb 0 (u .bus .window))
 inOrder IntLine u l = intInOrder u l
 inOrder AccLine u l = not (leb (u .ints) (valueAt l 1)) && not (ltb 0 (phiOf u (valueAt l 0)))
 inOrder OfferLine u l = true
+inOrder Bus3Line u l = not (ltb 0 (u .bus .window))
 
 abbrev pub free : Kind → Tree → Line → Bool
 free NoRecord u l = true
@@ -64,6 +65,7 @@ free BusLine u l = true
 free IntLine u l = eqb (valueAt l 0) 0 || isEmpty (portOf u (valueAt l 1) (valueAt l 2))
 free AccLine u l = isEmpty (portOf u (valueAt l 1) (valueAt l 2))
 free OfferLine u l = true
+free Bus3Line u l = true
 
 abbrev pub low : Kind → Tree → Line → Bool
 low NoRecord u l = true
@@ -71,6 +73,7 @@ low BusLine u l = true
 low IntLine u l = eqb (valueAt l 0) 0 || not (leb 4 (levelOf u (valueAt l 1)))
 low AccLine u l = true
 low OfferLine u l = true
+low Bus3Line u l = true
 
 unfoldable pub lineRules : Tree → Line → List Rule
 lineRules u l =

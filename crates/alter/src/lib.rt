@@ -98,12 +98,23 @@ fn with_bus_pairs(b: Bus, which: usize, x: u16) -> Bus {
     next
 }
 
-// The tree with another number on its bus line.
+// The bus line under the other record name.
+fn with_other_name(b: Bus) -> Bus {
+    let mut next = b;
+    next.axi3 = !b.axi3;
+    next
+}
+
+// The tree with another number on its bus line, or, three times in fourteen, with the line under the other record name.
 fn with_bus(t: Tree, d: &mut [usize; 16384]) -> Tree {
-    let which = number_below(d, 11);
+    let which = number_below(d, 14);
     let x = edge(d);
     let mut next = t;
-    next.bus = with_bus_pairs(with_bus_bytes(t.bus, which, byte(x)), which, pair(x));
+    if 10 < which {
+        next.bus = with_other_name(t.bus);
+    } else {
+        next.bus = with_bus_pairs(with_bus_bytes(t.bus, which, byte(x)), which, pair(x));
+    }
     next
 }
 

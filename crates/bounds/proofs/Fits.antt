@@ -14,7 +14,7 @@ use Rattle.model.specs.declared.Channel.the-variants.{Read, Write}
 use Rattle.model.specs.Tree.{acceleratorOf, homeOf, levelOf}
 use Rattle.rules.specs.Rules.{treeKeeps, busKeeps, usedAccelerator}
 use Rattle.folds.proofs.Folds.{tests, picked}
-use Rattle.rules.proofs.Sound.{sound}
+use Rattle.rules.proofs.Sound.{sound, beat-most}
 use Rattle.shares.specs.Shares.{shareOf}
 use Rattle.shares.proofs.Shares.{share-bounds}
 use Rattle.bounds.specs.Bounds.{interference, aloneRead, aloneWrite, slotRead, slotWrite, readTime, writeTime, responseOf}
@@ -80,7 +80,7 @@ module _ (t : Tree) (e : treeKeeps t ≡ true) (a : ℕ) (l : a < t .accs) where
         pw = omega arith;
         td = omega arith;
         tb = omega arith;
-        burst = omega arith;
+        burst = omega (arith, beat-most (t .bus));
         reads = omega arith;
         writes = omega arith;
         computing = omega arith;

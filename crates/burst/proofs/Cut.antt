@@ -5,11 +5,11 @@ use mathlib.Core.Path.{_≡_, refl, sym, _∙_, ap, subst}
 use native.Mathlib.Decide.{decLt}
 use native.Mathlib.Omega.{arith}
 use lib.Dec.{leb, eqb}
-use borrow.Author.Tests.{leb-true, eqb-true, not-false}
+use borrow.Author.Tests.{le-leb, leb-true, eqb-true, not-false}
 use Rattle.folds.specs.Fold.{pick, within}
-use Rattle.folds.proofs.Folds.{both, picked, passed}
+use Rattle.folds.proofs.Folds.{both, joined, picked, passed}
 use Rattle.burst.specs.declared.Burst.{Burst}
-use Rattle.burst.specs.Burst.{isSize, crossesPage, isBurst, piecesOf, Split, pieces, notSplit, splitOf}
+use Rattle.burst.specs.Burst.{mostBeats, isSize, crossesPage, isBurst, piecesOf, Split, pieces, notSplit, splitOf}
 use Rattle.burst.specs.Splitting.{Splitting}
 use Rattle.burst.proofs.Pieces.{left, splitting}
 
@@ -54,6 +54,13 @@ fits limit b e =
     let g = both (leb 1 (b .beats)) (leb (b .beats) limit) (f .0) in
     record { some = leb-true _ _ (g .0); few = leb-true _ _ (g .1); size = some-size (b .size) (f .1) }
 
+-- a burst under a limit is one under every greater limit
+pub burst-wider : (limit : ℕ) (b : Burst) → limit ≤ mostBeats → isBurst limit b ≡ true → isBurst mostBeats b ≡ true
+burst-wider limit b h e =
+    let f = both (within 1 (b .beats) limit) (isSize (b .size)) e in
+    let g = both (leb 1 (b .beats)) (leb (b .beats) limit) (f .0) in
+    joined _ _ (joined _ _ (g .0) (le-leb (b .beats) mostBeats (omega (arith, leb-true (b .beats) limit (g .1))))) (f .1)
+
 -- the four answers
 pub split-11 : (limit n : ℕ) (b : Burst) → notSplit 11 ≡ splitOf limit false n b
 unfolding splitOf
@@ -75,6 +82,7 @@ split-pieces limit n b e c = sym (passed _ _ _ (ap not e) ∙ passed _ _ _ c)
 -- and back: what was tested where it answers pieces
 pub record Cut (limit : ℕ) (ok : Bool) (n : ℕ) (b : Burst) (k : ℕ) : Type 0 where
   pub keeps : ok ≡ true
+  pub is-burst : isBurst limit b ≡ true
   pub burst : Fits limit b
   pub page : crossesPage b ≡ false
   pub count : piecesOf n b ≡ k
@@ -85,7 +93,8 @@ cut limit ok n b k e =
     let x = past (not ok) 11 _ e in
     let y = past (not (isBurst limit b)) 15 _ (x .1) in
     let z = past (crossesPage b) 16 _ (y .1) in
-    record { keeps = not-false ok (x .0); burst = fits limit b (not-false (isBurst limit b) (y .0)); page = z .0; count = same (z .1) }
+    let w = not-false (isBurst limit b) (y .0) in
+    record { keeps = not-false ok (x .0); is-burst = w; burst = fits limit b w; page = z .0; count = same (z .1) }
   where
     past : (c : Bool) (m : ℕ) (r : Split) → pick c (notSplit m) r ≡ pieces k → (c ≡ false) × (r ≡ pieces k)
     past true m r f = let q : _≡_ {A = ℕ} 0 1 = cc in absurd (omega arith)
@@ -94,8 +103,12 @@ cut limit ok n b k e =
     same : {m : ℕ} → pieces m ≡ pieces k → m ≡ k
     same f = cc
 
-pub taken-as : (limit : ℕ) (ok : Bool) (n : ℕ) (b : Burst) (k : ℕ) → splitOf limit ok n b ≡ pieces k → splitOf limit true n b ≡ pieces k
-taken-as limit ok n b k e = ap (λ (x : Bool). splitOf limit x n b) (sym (cut limit ok n b k e .keeps)) ∙ e
+-- what is split under a limit is split alike under the greater one
+pub taken-as : (limit : ℕ) (ok : Bool) (n : ℕ) (b : Burst) (k : ℕ) → limit ≤ mostBeats → splitOf limit ok n b ≡ pieces k
+    → splitOf mostBeats true n b ≡ pieces k
+taken-as limit ok n b k h e =
+    let c = cut limit ok n b k e in
+    sym (split-pieces mostBeats n b (burst-wider limit b h (c .is-burst)) (c .page)) ∙ ap pieces (c .count)
 
 pub splits : (limit : ℕ) (ok : Bool) (n : ℕ) (b : Burst) (k : ℕ) → 1 ≤ n → splitOf limit ok n b ≡ pieces k → Splitting limit n b k
 splits limit ok n b k N e =

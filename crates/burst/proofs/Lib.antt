@@ -3,3 +3,4 @@ pub mod Cut
 pub mod Joins
 pub mod Joining
 pub mod Offered
+pub mod Boards

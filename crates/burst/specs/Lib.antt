@@ -4,3 +4,4 @@ pub mod Joiner
 pub mod Joining
 pub mod Offers
 pub mod Answers
+pub mod Boards

@@ -10,10 +10,11 @@
 use Prim.Native.Nat.{ℕ, zero, suc, _-_}
 use Rattle.model.specs.declared.Tree.{Tree}
 use Rattle.model.specs.declared.State.{State}
+use Rattle.model.specs.Tree.{beatLimit}
 use Rattle.rules.specs.Rules.{keeps}
 use Rattle.machine.specs.Machine.{Answer, admitted, refused, onAdmitted, offered}
 use Rattle.burst.specs.declared.Burst.{Burst}
-use Rattle.burst.specs.Burst.{Split, pieces, notSplit, beatLimit, splitOf}
+use Rattle.burst.specs.Burst.{Split, pieces, notSplit, splitOf}
 
 pub record Offering : Type 0 where
   pub answer : Answer
@@ -37,4 +38,4 @@ bySplit (pieces k) t s a from = offerPieces (k - from) t s a
 bySplit (notSplit m) t s a from = offering (refused m) 0 s
 
 abbrev pub burstOffer : Tree → State → ℕ → Burst → ℕ → Offering
-burstOffer t s a b from = bySplit (splitOf beatLimit (keeps t s) (t .bus .burst) b) t s a from
+burstOffer t s a b from = bySplit (splitOf (beatLimit (t .bus)) (keeps t s) (t .bus .burst) b) t s a from

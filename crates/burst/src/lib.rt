@@ -5,15 +5,13 @@ pub mod offers;
 
 use model::Refusal;
 use model::Tree;
+use model::access::beat_limit;
 use rules::tree_keeps;
 ghost use mathlib.Core.Path.{_≡_};
 ghost use mathlib.Core.Bool.{true};
 ghost use Prim.Native.Nat.{_≤_};
-ghost use Rattle.burst.specs.Burst.{beatLimit, isSize, lowOf, crossesPage, isBurst, beatsOf, startOf, pieces, splitOf, splitBy, below, listed, startsAfter, beatsAfter};
+ghost use Rattle.burst.specs.Burst.{mostBeats, isSize, lowOf, crossesPage, isBurst, beatsOf, startOf, pieces, splitOf, splitBy, below, listed, startsAfter, beatsAfter};
 ghost use Rattle.burst.specs.Answers.{splitMeans};
-
-// The most beats of a burst.
-const BEAT_LIMIT: u32 = 256;
 
 // A burst: its start address, its beats, and the bytes of a beat.
 pub struct Burst {
@@ -48,11 +46,11 @@ fn is_size(size: u32) -> bool
         | (size == 128)
 }
 
-// Whether beats and beat size are those of a burst.
-fn is_burst(b: Burst) -> bool
-    ensures { λ r. ⌜ r ≡ isBurst beatLimit b ⌝ }
+// Whether beats and beat size are those of a burst, which has at most `limit` beats.
+fn is_burst(limit: u32, b: Burst) -> bool
+    ensures { λ r. ⌜ r ≡ isBurst limit b ⌝ }
 {
-    (1 <= b.beats) & (b.beats <= BEAT_LIMIT) & is_size(b.size)
+    (1 <= b.beats) & (b.beats <= limit) & is_size(b.size)
 }
 
 // The start address rounded down to the beat size.
@@ -65,7 +63,7 @@ fn low_of(b: Burst) -> u64
 
 // Whether a burst crosses a multiple of 4,096. Its last byte may lie beyond 32 bits, which is another page.
 fn crosses_page(b: Burst) -> bool
-    requires { ⌜ isBurst beatLimit b ≡ true ⌝ }
+    requires { ⌜ isBurst mostBeats b ≡ true ⌝ }
     ensures { λ r. ⌜ r ≡ crossesPage b ⌝ }
 {
     let last = low_of(b) + b.beats as u64 * b.size as u64 - 1;
@@ -79,15 +77,16 @@ fn burst_length(t: Tree) -> u32
     t.bus.burst as u32
 }
 
-// What the splitter answers for pieces of n beats; ok: tree, and state where there is one, keep their rules.
-fn split_answer(ok: bool, n: u32, b: Burst) -> SplitAnswer
-    requires { ⌜ (ok ≡ true → 1 ≤ n) × (n ≤ 65535) ⌝ }
-    ensures { λ r. ⌜ splitMeans r ≡ splitOf beatLimit ok n b ⌝ }
+// What the splitter answers for pieces of n beats, where a burst has at most `limit`; ok: tree, and state where there is one, keep
+// their rules.
+fn split_answer(limit: u32, ok: bool, n: u32, b: Burst) -> SplitAnswer
+    requires { ⌜ (ok ≡ true → 1 ≤ n) × (n ≤ 65535) × (limit ≤ mostBeats) ⌝ }
+    ensures { λ r. ⌜ splitMeans r ≡ splitOf limit ok n b ⌝ }
 {
     if !ok {
         return SplitAnswer::Refused(Refusal::Rules);
     }
-    if !is_burst(b) {
+    if !is_burst(limit, b) {
         return SplitAnswer::Refused(Refusal::Burst);
     }
     if crosses_page(b) {
@@ -98,7 +97,7 @@ fn split_answer(ok: bool, n: u32, b: Burst) -> SplitAnswer
 
 // The start address of piece i of k, or 0 where there is none.
 fn start_entry(n: u32, b: Burst, k: u32, i: u32) -> u32
-    requires { ⌜ (1 ≤ n) × (n ≤ 65535) × (splitOf beatLimit true n b ≡ pieces k) ⌝ }
+    requires { ⌜ (1 ≤ n) × (n ≤ 65535) × (splitOf mostBeats true n b ≡ pieces k) ⌝ }
     ensures { λ r. ⌜ r ≡ below k (startOf n b) i ⌝ }
 {
     if k <= i {
@@ -113,7 +112,7 @@ fn start_entry(n: u32, b: Burst, k: u32, i: u32) -> u32
 
 // The beats of piece i of k, or 0 where there is none.
 fn beats_entry(n: u32, b: Burst, k: u32, i: u32) -> u32
-    requires { ⌜ (1 ≤ n) × (n ≤ 65535) × (splitOf beatLimit true n b ≡ pieces k) ⌝ }
+    requires { ⌜ (1 ≤ n) × (n ≤ 65535) × (splitOf mostBeats true n b ≡ pieces k) ⌝ }
     ensures { λ r. ⌜ r ≡ below k (beatsOf n b) i ⌝ }
 {
     if k <= i {
@@ -128,7 +127,7 @@ fn beats_entry(n: u32, b: Burst, k: u32, i: u32) -> u32
 
 // The start addresses and the beats of the k pieces, and 0 in the entries after them.
 fn lists_of(n: u32, b: Burst, k: u32) -> Lists
-    requires { ⌜ (1 ≤ n) × (n ≤ 65535) × (splitOf beatLimit true n b ≡ pieces k) ⌝ }
+    requires { ⌜ (1 ≤ n) × (n ≤ 65535) × (splitOf mostBeats true n b ≡ pieces k) ⌝ }
     ensures { λ r. ⌜ (r .starts ≡ listed k (startOf n b)) × (r .beats ≡ listed k (beatsOf n b)) ⌝ }
 {
     let mut starts = [0u32; 256];
@@ -153,7 +152,8 @@ pub fn split(t: Tree, b: Burst, starts: &mut [u32; 256], beats: &mut [u32; 256])
     ensures beats { λ r. ⌜ now (beats .exit) ≡ beatsAfter (splitBy t b) (t .bus .burst) b (now (beats .entry)) ⌝ }
 {
     let n = burst_length(t);
-    let answer = split_answer(tree_keeps(t), n, b);
+    let limit = beat_limit(t.bus);
+    let answer = split_answer(limit, tree_keeps(t), n, b);
     match answer {
         SplitAnswer::Refused(r) => SplitAnswer::Refused(r),
         SplitAnswer::Pieces(k) => {

@@ -7,6 +7,7 @@ use machine::OfferAnswer;
 use machine::offer;
 use model::State;
 use model::Tree;
+use model::access::beat_limit;
 use rules::both_keep;
 ghost use mathlib.Core.Path.{_≡_};
 ghost use Rattle.burst.specs.Offers.{offerPieces, burstOffer};
@@ -54,7 +55,8 @@ pub fn offer_burst(t: Tree, s: State, a: u8, b: Burst, from: u32) -> BurstReply
     ensures { λ r. ⌜ burstOutcome r ≡ burstOffer t s a b from ⌝ }
 {
     let n = burst_length(t);
-    let answer = split_answer(both_keep(t, s), n, b);
+    let limit = beat_limit(t.bus);
+    let answer = split_answer(limit, both_keep(t, s), n, b);
     match answer {
         SplitAnswer::Refused(r) => BurstReply {
             answer: OfferAnswer::Refused(r),

@@ -1,6 +1,7 @@
 // Offered bursts, on states that offered bursts and slots lead to, on altered ones, and on a configuration that the state is not of.
 use crate::same_offered;
 use crate::splits::asked;
+use crate::splits::is_over_16;
 use crate::splits::some_burst;
 use crate::wide;
 use burst::Burst;
@@ -20,6 +21,7 @@ use model::access::admitted_of;
 use model::access::allowance_of;
 use model::access::last_of;
 use model::access::waiting_of;
+use second::BEATS_256;
 use second::BURST_FIRST;
 use second::NO_WRONG_RULE;
 use second::ONE_OFFER;
@@ -38,6 +40,7 @@ use store::WRONG;
 use store::add;
 use store::get;
 use store::note;
+use treecheck::judge;
 
 // Offered bursts by the number of their answer.
 pub const OFFERED: usize = 3504;
@@ -51,8 +54,14 @@ pub const IN_PART: usize = 3541;
 // those that begin with a later piece and of which some are admitted,
 pub const RESUMED: usize = 3542;
 
-// and those whose turn chose a wrong rule.
+// those whose turn chose a wrong rule,
 const TURNS: usize = 3543;
+
+// and those that are refused by 15 on a tree of AXI3 only for having 17 to 256 beats.
+pub const OVER_16_OFFERED: usize = 3546;
+
+// Counts of beats about both limits.
+const LIMITS: [u32; 6] = [15, 16, 17, 255, 256, 257];
 
 // What is offered: a burst of accelerator a, from one of its pieces on.
 struct Call {
@@ -103,23 +112,34 @@ fn note_wrong(t: Tree, s: State, c: Call, x: BurstReply, d: &mut [usize; 16384],
     note(d, WRONG, wrong, same);
 }
 
-fn count_offer(c: Call, y: Offered, d: &mut [usize; 16384]) {
+fn count_offer(c: Call, axi3: bool, y: Offered, d: &mut [usize; 16384]) {
     add(d, OFFERED, y.number, 1);
     add(d, ADMITTED, 0, y.admitted);
     note(d, IN_PART, 0, (y.admitted == 0) | (y.number == 0));
     note(d, RESUMED, 0, (y.admitted == 0) | (c.from == 0));
+    let over = axi3 & (y.number == 15) & is_over_16(c.b);
+    note(d, OVER_16_OFFERED, 0, !over);
+}
+
+// The wrong rule whose turn it is.
+fn wrong_in_turn(d: &mut [usize; 16384]) -> usize {
+    let turn = get(d, TURNS, 0) % 5;
+    add(d, TURNS, 0, 1);
+    if turn < 3 {
+        return ONE_OFFER + turn;
+    }
+    BEATS_256 + (turn - 3)
 }
 
 // An offered burst on a tree that is in the rows too; and by a wrong rule.
 fn try_offer(t: Tree, s: State, c: Call, d: &mut [usize; 16384]) -> State {
     let x = offer_burst(t, s, c.a, c.b, c.from);
-    let turn = get(d, TURNS, 0) % 3;
-    add(d, TURNS, 0, 1);
-    note_wrong(t, s, c, x, d, ONE_OFFER + turn);
+    let wrong = wrong_in_turn(d);
+    note_wrong(t, s, c, x, d, wrong);
     let y = second_offer(t, s, c, d, NO_WRONG_RULE);
     let same = same_offered(x, y, t.bus.delay, d);
     note(d, DIFFERENCES, 0, same);
-    count_offer(c, y, d);
+    count_offer(c, t.bus.axi3, y, d);
     if y.number == 11 {
         note_wrong(t, s, c, x, d, BURST_FIRST);
     }
@@ -180,4 +200,22 @@ pub fn try_altered(t: Tree, s: State, d: &mut [usize; 16384]) {
 // The same on another tree that is in the rows, from the state as it is.
 pub fn try_other(t: Tree, s: State, d: &mut [usize; 16384]) {
     try_calls(t, s, 4, d);
+}
+
+// Bursts about both limits of beats, each offered on a fresh state of both channels, on a tree that is put in the rows.
+pub fn try_limits(t: Tree, d: &mut [usize; 16384]) {
+    judge(t, d);
+    for i in 0..12usize {
+        let r = fresh(t, channel_of(i % 2));
+        let c = Call {
+            b: Burst {
+                start: 0,
+                beats: LIMITS[i / 2],
+                size: 1,
+            },
+            a: 0,
+            from: 0,
+        };
+        try_offer(t, r.state, c, d);
+    }
 }

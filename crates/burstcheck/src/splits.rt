@@ -1,5 +1,5 @@
-// The splitter. On trees with several burst lengths every beat size and every count of beats up to 259, and some larger ones, from starts
-// on both sides of multiples of 4,096; and bursts made at random.
+// The splitter. On trees with several burst lengths, of AXI4 and of AXI3, every beat size and every count of beats up to 259, and some
+// larger ones, from starts on both sides of multiples of 4,096; and bursts made at random.
 use crate::same_entries;
 use crate::same_split;
 use crate::wide;
@@ -10,9 +10,12 @@ use generator::bursts::some_beats;
 use generator::bursts::some_size;
 use generator::bursts::some_start;
 use generator::number_below;
+use model::Bus;
 use model::Tree;
+use second::BEATS_256;
 use second::LAST_FULL;
 use second::NO_WRONG_RULE;
+use second::book::most_beats;
 use second::bursts::Asked;
 use second::bursts::BEATS;
 use second::bursts::STARTS;
@@ -35,11 +38,20 @@ pub const PIECES: usize = 3536;
 // those of them that end on the last byte of a page,
 pub const AT_END: usize = 3537;
 
-// and splits whose turn chose a wrong rule.
+// splits whose turn chose a wrong rule,
 const TURNS: usize = 3538;
+
+// those on a tree of AXI3 that are not refused,
+pub const OLDER: usize = 3544;
+
+// and those that are refused there by 15 only for having 17 to 256 beats.
+pub const OVER_16: usize = 3545;
 
 // Burst lengths: six that a tree may have, and three that it may not.
 const LENGTHS: [u16; 9] = [1, 2, 3, 16, 255, 256, 0, 257, 65535];
+
+// The same for a tree of AXI3: three, and two.
+const OLDER_LENGTHS: [u16; 5] = [1, 3, 16, 17, 256];
 
 // Numbers past those that are tried one by one; some are good ones if they are cut to one or two bytes.
 const LARGE: [u32; 8] = [
@@ -83,6 +95,15 @@ pub fn number_at(i: u32) -> u32 {
 fn with_length(t: Tree, n: u16) -> Tree {
     let mut b = t.bus;
     b.burst = n;
+    let mut next = t;
+    next.bus = b;
+    next
+}
+
+// The tree as one of AXI3.
+fn as_older(t: Tree) -> Tree {
+    let mut b = t.bus;
+    b.axi3 = true;
     let mut next = t;
     next.bus = b;
     next
@@ -157,23 +178,44 @@ fn end_in_page(b: Burst) -> usize {
     std::num::wrapping_add_usize(low, bytes_of(size, wide(b.beats))) % 4096
 }
 
-fn count_split(b: Burst, y: Split, d: &mut [usize; 16384]) {
+fn is_good(size: u32) -> bool {
+    let small = (size == 1) | (size == 2) | (size == 4) | (size == 8);
+    small | (size == 16) | (size == 32) | (size == 64) | (size == 128)
+}
+
+// Is it a burst by AXI4, and by its beats none by AXI3?
+pub(crate) fn is_over_16(b: Burst) -> bool {
+    (16 < b.beats) & (b.beats < 257) & is_good(b.size)
+}
+
+// A split on a tree of AXI3.
+fn count_older(b: Burst, y: Split, d: &mut [usize; 16384]) {
+    note(d, OLDER, 0, y.number != 0);
+    note(d, OVER_16, 0, (y.number != 15) | !is_over_16(b));
+}
+
+fn count_split(b: Burst, axi3: bool, y: Split, d: &mut [usize; 16384]) {
     add(d, SPLITS, y.number, 1);
     if y.number == 0 {
         add(d, PIECES, 0, y.pieces);
         note(d, AT_END, 0, end_in_page(b) != 0);
     }
+    if axi3 {
+        count_older(b, y, d);
+    }
 }
 
 // The wrong rule whose turn it is, or none.
 fn wrong_in_turn(d: &mut [usize; 16384]) -> usize {
-    let turn = get(d, TURNS, 0) % 11;
+    let turn = get(d, TURNS, 0) % 13;
     add(d, TURNS, 0, 1);
     if turn < 8 {
-        LAST_FULL + turn
-    } else {
-        NO_WRONG_RULE
+        return LAST_FULL + turn;
     }
+    if turn < 10 {
+        return BEATS_256 + (turn - 8);
+    }
+    NO_WRONG_RULE
 }
 
 // A burst on a tree that is in the rows too: answer and entries; and by a wrong rule.
@@ -195,12 +237,7 @@ fn try_split(
     let y = second_split(b, d, NO_WRONG_RULE);
     let same = same_both(starts, beats, d);
     note(d, DIFFERENCES, 0, same_split(x, y) & same);
-    count_split(b, y, d);
-}
-
-fn is_good(size: u32) -> bool {
-    let small = (size == 1) | (size == 2) | (size == 4) | (size == 8);
-    small | (size == 16) | (size == 32) | (size == 64) | (size == 128)
+    count_split(b, t.bus.axi3, y, d);
 }
 
 // A start about a page: within 3 bytes of its first one, or about the first from which so many bytes do not reach it.
@@ -219,15 +256,24 @@ fn start_near(page: u32, k: u32, size: u32, bytes: u32) -> u32 {
     std::num::wrapping_add_u32(at, std::num::wrapping_sub_u32(more, 14))
 }
 
-// How many starts are tried of a burst, on a tree with burst length n: sixteen, or, if it is refused by 11 or 15 wherever it is, one, on
-// other trees than that with length 16 for one such burst in eight.
-fn start_count(n: u16, size: u32, beats: u32) -> u32 {
-    let good = is_good(size) & (beats <= 257);
-    if good & (1 <= n) & (n <= 256) {
+// Is every burst tried on a tree with this bus line, also of those that are refused wherever they start?
+fn tries_all(b: Bus) -> bool {
+    (b.burst == 16) & !b.axi3
+}
+
+// How many starts are tried of a burst, on a tree with this bus line: sixteen, or, if it is refused by 11 or 15 wherever it is, one, for
+// other trees than that of AXI4 with length 16 only if its beat size is good, or for one such burst in eight.
+fn start_count(b: Bus, size: u32, beats: u32) -> u32 {
+    let most = most_beats(b.axi3);
+    let taken = (1 <= b.burst) & (b.burst as usize <= most);
+    if taken & is_good(size) & (wide(beats) <= std::num::wrapping_add_usize(most, 1)) {
         return 16;
     }
     let turn = std::num::wrapping_add_u32(size, beats) % 8;
-    if (n == 16) | (turn == 0) { 1 } else { 0 }
+    if tries_all(b) | is_good(size) | (turn == 0) {
+        return 1;
+    }
+    0
 }
 
 // Beats of this size, so many of them, from starts about the pages, which come in turn.
@@ -239,7 +285,7 @@ fn try_starts(
     starts: &mut [u32; 256],
     beats: &mut [u32; 256],
 ) {
-    let n = start_count(t.bus.burst, size, count);
+    let n = start_count(t.bus, size, count);
     let bytes = narrow(bytes_of(wide(size), wide(count)));
     for k in 0..n {
         let turn = std::num::wrapping_add_u32(k, count);
@@ -291,6 +337,18 @@ pub fn try_lengths(
     }
 }
 
+// The same on the tree as one of AXI3.
+pub fn try_older_lengths(
+    t: Tree,
+    d: &mut [usize; 16384],
+    starts: &mut [u32; 256],
+    beats: &mut [u32; 256],
+) {
+    for i in 0..5usize {
+        try_sizes(with_length(as_older(t), OLDER_LENGTHS[i]), d, starts, beats);
+    }
+}
+
 // Every good size from this start, with some counts of beats.
 fn try_start(
     t: Tree,
@@ -322,7 +380,7 @@ pub fn try_band(t: Tree, d: &mut [usize; 16384], starts: &mut [u32; 256], beats:
 // A burst made at random for a tree.
 pub fn some_burst(t: Tree, d: &mut [usize; 16384]) -> Burst {
     let size = some_size(d);
-    let beats = some_beats(d, t.bus.burst as usize);
+    let beats = some_beats(d, t.bus.burst as usize, most_beats(t.bus.axi3));
     let start = some_start(d, bytes_of(size, beats));
     Burst {
         start: narrow(start),

@@ -48,7 +48,7 @@ use Rattle.cases.specs.Figures.{Figure, answers, answersFrom, keeping, s
 
 abbrev pub unequal : ℕ → ℕ → Bus
 unequal x y =
-    record { window = 16; ta = 3; da = x; dd = y; db = 7; pr = 40; pw = 29; td = 2; tb = 13; burst = 10; delay = 0 }
+    record { window = 16; ta = 3; da = x; dd = y; db = 7; pr = 40; pw = 29; td = 2; tb = 13; burst = 10; delay = 0; axi3 = false }
 
 abbrev pub unequalTree : ℕ → Tree
 unequalTree T = withBus (timed T) (unequal 5 11)

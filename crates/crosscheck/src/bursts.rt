@@ -7,6 +7,7 @@ use answercheck::exported::same_joined;
 use burst::Burst;
 use burstcheck::joins::try_joins;
 use burstcheck::offers::try_altered;
+use burstcheck::offers::try_limits;
 use burstcheck::offers::try_offers;
 use burstcheck::offers::try_other;
 use burstcheck::splits::NUMBERS;
@@ -18,6 +19,7 @@ use burstcheck::splits::second_split;
 use burstcheck::splits::some_burst;
 use burstcheck::splits::try_band;
 use burstcheck::splits::try_lengths;
+use burstcheck::splits::try_older_lengths;
 use burstcheck::splits::try_some;
 use burstcheck::splits::with_some_length;
 use generator::made;
@@ -140,16 +142,28 @@ fn try_file(
     try_on(with_some_length(r.tree, d), d, starts, beats);
 }
 
-// Every size and count of beats on small trees, the joiner, and generated trees.
+// Every size and count of beats on a small tree, as one of AXI4 and of AXI3; bursts about both limits offered on it, and on one whose bus
+// line is named bus3.
+fn try_small(d: &mut [usize; 16384], starts: &mut [u32; 256], beats: &mut [u32; 256]) {
+    let r = read_tree(
+        b"bus\t8\t1\t4\t2\t2\t30\t25\t1\t1\t16\nint\t0\t-\t-\t1\nacc\t0\t0\t0\t4\t2\t10\t5\t1000\t2000\n",
+    );
+    try_lengths(r.tree, d, starts, beats);
+    try_older_lengths(r.tree, d, starts, beats);
+    try_band(r.tree, d, starts, beats);
+    try_limits(r.tree, d);
+    let older = read_tree(
+        b"bus3\t8\t1\t4\t2\t2\t30\t25\t1\t1\t8\nint\t0\t-\t-\t1\nacc\t0\t0\t0\t4\t2\t10\t5\t1000\t2000\n",
+    );
+    try_limits(older.tree, d);
+}
+
+// Small trees, the joiner, and generated trees.
 pub fn try_bursts(d: &mut [usize; 16384]) {
     let mut starts = [0u32; 256];
     let mut beats = [0u32; 256];
     let mut w = [0u8; 16384];
-    let r = read_tree(
-        b"bus\t8\t1\t4\t2\t2\t30\t25\t1\t1\t16\nint\t0\t-\t-\t1\nacc\t0\t0\t0\t4\t2\t10\t5\t1000\t2000\n",
-    );
-    try_lengths(r.tree, d, &mut starts, &mut beats);
-    try_band(r.tree, d, &mut starts, &mut beats);
+    try_small(d, &mut starts, &mut beats);
     try_joins(d);
     try_joined(d);
     for _ in 0..800usize {

@@ -1,16 +1,19 @@
-// Inputs that are not generated: the edge list of the reader's own check, document 01's case 11, return delays at their limits,
-// and files and buffers at the size limit.
+// Inputs that are not generated: the edge list of the reader's own check, document 01's case 11, return delays at their limits, the
+// record names of bus lines, and files and buffers at the size limit.
 use crate::results::CASE11;
 use crate::results::CHANNEL_TURNS;
 use crate::results::DELAY_FILES;
 use crate::results::EDGES;
+use crate::results::NAME_FILES;
 use crate::trials::try_file_runs;
 use crate::trials::try_tree;
 use callcheck::try_machine;
 use generator::file_in;
 use generator::limits::DELAYS;
+use generator::limits::NAMES;
 use generator::limits::make_case;
 use generator::limits::make_delay;
+use generator::limits::make_name;
 use generator::limits::make_wide_late;
 use generator::listed::heading_at;
 use generator::made;
@@ -115,10 +118,8 @@ pub fn try_case_11(w: &mut [u8; 16384], d: &mut [usize; 16384], out: &mut [u8; 1
     }
 }
 
-// A tree file by its return delay, and, if it is accepted, calls and runs on it.
-fn try_delay(w: &mut [u8; 16384], d: &mut [usize; 16384], out: &mut [u8; 131074], i: usize) {
-    make_delay(w, d, i);
-    add(d, DELAY_FILES, 0, 1);
+// A tree file that was made, and, if it is accepted, calls and runs on it.
+fn try_limit(w: &[u8; 16384], d: &mut [usize; 16384], out: &mut [u8; 131074]) {
     let n = size(d);
     let r = try_tree(file_in(w, n), d, out);
     let answer = r.answer;
@@ -135,8 +136,21 @@ fn try_delay(w: &mut [u8; 16384], d: &mut [usize; 16384], out: &mut [u8; 131074]
 // Return delays at their limits, left out and wrong.
 pub fn try_delays(w: &mut [u8; 16384], d: &mut [usize; 16384], out: &mut [u8; 131074]) {
     for i in 0..DELAYS {
-        try_delay(w, d, out, i);
+        make_delay(w, d, i);
+        add(d, DELAY_FILES, 0, 1);
+        try_limit(w, d, out);
     }
+}
+
+// Bus lines under both record names and under others, at the limits of each name, and two of them; and such a line in a trace.
+pub fn try_names(w: &mut [u8; 16384], d: &mut [usize; 16384], out: &mut [u8; 131074]) {
+    for i in 0..NAMES {
+        make_name(w, d, i);
+        add(d, NAME_FILES, 0, 1);
+        try_limit(w, d, out);
+    }
+    try_trace_file(READ, b"bus\t0\t0\t1\n", d, out, 64);
+    try_trace_file(READ, b"o\t0\t0\t1\nbus3\t0\t0\t1\n", d, out, 64);
 }
 
 // The trees of 15 interconnects and 32 accelerators, the second with a return delay.

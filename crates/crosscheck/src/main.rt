@@ -16,6 +16,7 @@ use crate::edges::try_case_11;
 use crate::edges::try_delays;
 use crate::edges::try_listed;
 use crate::edges::try_long;
+use crate::edges::try_names;
 use crate::edges::try_wide;
 use crate::results::show;
 use crate::trials::try_altered;
@@ -55,7 +56,7 @@ fn try_pair(
     try_file_runs(file_in(w, n), t, channel, made(v, d), d, out, size);
 }
 
-// The generated inputs, case 11, the return delay's limits, and the widest trees.
+// The generated inputs, case 11, the return delay's limits, the record names of bus lines, and the widest trees.
 fn try_generated(d: &mut [usize; 16384], out: &mut [u8; 131074]) {
     let mut w = [0u8; 16384];
     let mut v = [0u8; 16384];
@@ -65,6 +66,7 @@ fn try_generated(d: &mut [usize; 16384], out: &mut [u8; 131074]) {
     }
     try_case_11(&mut w, d, out);
     try_delays(&mut w, d, out);
+    try_names(&mut w, d, out);
     try_wide(&mut w, d, out);
 }
 

@@ -10,8 +10,11 @@ use burstcheck::joins::JOINS;
 use burstcheck::offers::ADMITTED;
 use burstcheck::offers::IN_PART;
 use burstcheck::offers::OFFERED;
+use burstcheck::offers::OVER_16_OFFERED;
 use burstcheck::offers::RESUMED;
 use burstcheck::splits::AT_END;
+use burstcheck::splits::OLDER as OLDER_SPLITS;
+use burstcheck::splits::OVER_16;
 use burstcheck::splits::PIECES;
 use burstcheck::splits::SPLITS;
 use callcheck::BROKEN;
@@ -38,6 +41,8 @@ use libc::STDOUT_FILENO;
 use second::ADMITTED_LATE;
 use second::AFTER_LAST;
 use second::AS_READ;
+use second::BEATS_16;
+use second::BEATS_256;
 use second::BOTH_COUNT;
 use second::BUDGET_FIRST;
 use second::BURST_FIRST;
@@ -64,7 +69,10 @@ use second::JOBLESS_KEPT;
 use second::LAST_FIRST;
 use second::LAST_FULL;
 use second::LONG_FIRST;
+use second::LONG_LET_IN;
+use second::LONG_REFUSED;
 use second::LOWER_RESET;
+use second::NAME_LOST;
 use second::NESTED;
 use second::NO_PORT_7;
 use second::NOT_OUTSTANDING;
@@ -73,6 +81,7 @@ use second::NUMBER_FIRST;
 use second::ONE_OFFER;
 use second::ORDER_FIRST;
 use second::OTHER_CHANNEL;
+use second::OTHER_NAME;
 use second::OWN_MEETS;
 use second::OWN_PORT;
 use second::PAGE_FIRST;
@@ -203,6 +212,15 @@ pub const NO_CHANNEL: usize = 3447;
 // Listed inputs whose turn chose the channel.
 pub const CHANNEL_TURNS: usize = 3448;
 
+// Accepted trees whose bus line is named bus3.
+pub const OLDER: usize = 3449;
+
+// Files by the record names of their bus lines.
+pub const NAME_FILES: usize = 3450;
+
+// Altered configurations with the other record name: 0 such that break their rules, 1 such that keep them.
+pub const RENAMED: usize = 3452;
+
 // Exported splits by the number of their answer on an accepted tree; at 1 those refused by the tree.
 pub const CUTS: usize = 3552;
 
@@ -210,7 +228,7 @@ pub const CUTS: usize = 3552;
 pub const JOINED: usize = 3576;
 
 // What the program writes: a label to each line,
-const LABELS: [u8; 6168] = *b"trees accepted\n\
+const LABELS: [u8; 6729] = *b"trees accepted\n\
     trees accepted, 1 level\n\
     trees accepted, 2 levels\n\
     trees accepted, 3 levels\n\
@@ -220,6 +238,7 @@ const LABELS: [u8; 6168] = *b"trees accepted\n\
     trees accepted, 32 accelerators\n\
     trees accepted, return delay above 0\n\
     trees accepted, return delay 15\n\
+    trees accepted, bus3\n\
     their jobs with reads and writes\n\
     their jobs with reads only\n\
     their jobs with writes only\n\
@@ -238,6 +257,7 @@ const LABELS: [u8; 6168] = *b"trees accepted\n\
     files of the edge list\n\
     files of case 11\n\
     files of the return delay's limits\n\
+    files of the bus line's names\n\
     bounds\n\
     runs done\n\
     runs stopped\n\
@@ -267,6 +287,8 @@ const LABELS: [u8; 6168] = *b"trees accepted\n\
     slots refused by 11\n\
     altered configurations that keep their rules\n\
     altered configurations that break them\n\
+    altered: the other record name, rules kept\n\
+    altered: the other record name, rules broken\n\
     their bounds given\n\
     their bounds refused by 7\n\
     their bounds refused by 11\n\
@@ -313,9 +335,11 @@ const LABELS: [u8; 6168] = *b"trees accepted\n\
     writings refused by 13\n\
     bursts split\n\
     bursts split, ending on the last byte of a page\n\
+    bursts split, bus3\n\
     pieces of the bursts split\n\
     bursts refused by 11\n\
     bursts refused by 15\n\
+    bursts refused by 15, bus3 and 17 to 256 beats\n\
     bursts refused by 16\n\
     joiner: answers taken\n\
     joiner: answers taken, done\n\
@@ -330,6 +354,7 @@ const LABELS: [u8; 6168] = *b"trees accepted\n\
     bursts offered, refused by 11\n\
     bursts offered, refused by 14\n\
     bursts offered, refused by 15\n\
+    bursts offered, refused by 15, bus3 and 17 to 256 beats\n\
     bursts offered, refused by 16\n\
     exports: readings\n\
     exports: bounds\n\
@@ -401,10 +426,16 @@ const LABELS: [u8; 6168] = *b"trees accepted\n\
     wrong: a burst offered as one, bursts seen\n\
     wrong: begun with the first piece, bursts seen\n\
     wrong: the refused piece counted, bursts seen\n\
+    wrong: B up to 256 on a bus3 line, trees seen\n\
+    wrong: B up to 16 only on a bus line, trees seen\n\
+    wrong: a second bus line of the other name passed over, trees seen\n\
+    wrong: bus3 written as bus, trees seen\n\
+    wrong: up to 256 beats on every tree, bursts seen\n\
+    wrong: up to 16 beats on every tree, bursts seen\n\
     differences\n";
 
 // and where its count stands.
-const PLACES: [usize; 192] = [
+const PLACES: [usize; 205] = [
     TREES,
     LEVELS + 1,
     LEVELS + 2,
@@ -415,6 +446,7 @@ const PLACES: [usize; 192] = [
     SIZES + 1,
     DELAYED,
     DELAYED + 1,
+    OLDER,
     JOBS,
     JOBS + 2,
     JOBS + 1,
@@ -433,6 +465,7 @@ const PLACES: [usize; 192] = [
     EDGES,
     CASE11,
     DELAY_FILES,
+    NAME_FILES,
     BOUNDS,
     DONE,
     STOPPED,
@@ -462,6 +495,8 @@ const PLACES: [usize; 192] = [
     SLOT_CALLS + 11,
     ALTERED + 1,
     ALTERED,
+    RENAMED + 1,
+    RENAMED,
     BOUND_ANSWERS,
     BOUND_ANSWERS + 7,
     BOUND_ANSWERS + 11,
@@ -508,9 +543,11 @@ const PLACES: [usize; 192] = [
     WRITINGS + 13,
     SPLITS,
     AT_END,
+    OLDER_SPLITS,
     PIECES,
     SPLITS + 11,
     SPLITS + 15,
+    OVER_16,
     SPLITS + 16,
     JOINS,
     JOINS + 1,
@@ -525,6 +562,7 @@ const PLACES: [usize; 192] = [
     OFFERED + 11,
     OFFERED + 14,
     OFFERED + 15,
+    OVER_16_OFFERED,
     OFFERED + 16,
     EXPORTS,
     EXPORTS + 1,
@@ -596,6 +634,12 @@ const PLACES: [usize; 192] = [
     WRONG + ONE_OFFER,
     WRONG + FROM_FIRST,
     WRONG + REFUSED_COUNTED,
+    WRONG + LONG_LET_IN,
+    WRONG + LONG_REFUSED,
+    WRONG + OTHER_NAME,
+    WRONG + NAME_LOST,
+    WRONG + BEATS_256,
+    WRONG + BEATS_16,
     DIFFERENCES,
 ];
 
@@ -619,7 +663,7 @@ fn show_line(labels: &[u8], from: usize, n: usize) -> usize {
 pub fn show(d: &[usize; 16384]) {
     let labels = LABELS;
     let mut from = 0;
-    for i in 0..192 {
+    for i in 0..205 {
         from = show_line(&labels, from, get(d, PLACES[i], 0));
     }
 }

@@ -13,6 +13,8 @@ use crate::results::DELAYED;
 use crate::results::DONE;
 use crate::results::JOBS;
 use crate::results::LEVELS;
+use crate::results::OLDER;
+use crate::results::RENAMED;
 use crate::results::REQUESTS;
 use crate::results::RUN_REFUSALS;
 use crate::results::SIZES;
@@ -35,10 +37,12 @@ use alter::tangle::WAYS;
 use alter::tangle::tangled;
 use answercheck::same_bytes;
 use answercheck::same_end;
+use answercheck::same_flag;
 use answercheck::same_said;
 use callcheck::busy_state;
 use callcheck::try_other;
 use generator::number_below;
+use lines::FileAnswer;
 use model::Tree;
 use placing::TreeRead;
 use reader::read_tree;
@@ -46,11 +50,14 @@ use second::BOTH_COUNT;
 use second::DONE_HOLDING;
 use second::DUE_NOW;
 use second::FALLING_FIRST;
+use second::LONG_LET_IN;
+use second::LONG_REFUSED;
 use second::NESTED;
 use second::NO_WRONG_RULE;
 use second::NOT_OUTSTANDING;
 use second::ORDER_FIRST;
 use second::OTHER_CHANNEL;
+use second::OTHER_NAME;
 use second::OWN_PORT;
 use second::SIZE_FIRST;
 use second::Said;
@@ -137,6 +144,7 @@ fn try_content(t: Tree, d: &mut [usize; 16384]) {
         add(d, VARIED, 0, 1);
     }
     count_delay(t.bus.delay, d);
+    add(d, OLDER, 0, t.bus.axi3 as usize);
     if t.ints == 15 {
         add(d, SIZES, 0, 1);
     }
@@ -155,12 +163,20 @@ fn count_zero(s: &[u8], delay: u8, d: &mut [usize; 16384]) {
     }
 }
 
+// Does a wrong rule change the answer on a tree file?
+fn note_reading(s: &[u8], answer: FileAnswer, d: &mut [usize; 16384], wrong: usize) {
+    let said = read_book(s, d, wrong);
+    note(d, WRONG, wrong, same_said(answer, said));
+}
+
 // A tree file. The rows are left with the second reader's tree.
 pub fn try_tree(s: &[u8], d: &mut [usize; 16384], out: &mut [u8; 131074]) -> TreeRead {
     let r = read_tree(s);
     let answer = r.answer;
-    let wrongly = read_book(s, d, ORDER_FIRST);
-    note(d, WRONG, ORDER_FIRST, same_said(answer, wrongly));
+    note_reading(s, answer, d, ORDER_FIRST);
+    note_reading(s, answer, d, LONG_LET_IN);
+    note_reading(s, answer, d, LONG_REFUSED);
+    note_reading(s, answer, d, OTHER_NAME);
     let said = read_book(s, d, NO_WRONG_RULE);
     note(d, DIFFERENCES, 0, same_said(answer, said));
     add(d, TREES, said.number, 1);
@@ -346,6 +362,8 @@ fn try_other_tree(
     let state = busy_state(t, d);
     let keeps = judge(changed, d);
     add(d, ALTERED, keeps as usize, 1);
+    let same = same_flag(t.bus.axi3, changed.bus.axi3);
+    note(d, RENAMED, keeps as usize, same);
     try_other(changed, state, d);
     try_bound(changed, 0, d);
     try_bound(changed, 32, d);

@@ -21,6 +21,7 @@ use razhikum::razhikum_rewrite;
 use reader::read_tree;
 use second::AS_READ;
 use second::LONG_FIRST;
+use second::NAME_LOST;
 use second::NO_WRONG_RULE;
 use second::Said;
 use second::WRITTEN_SHORT;
@@ -109,7 +110,7 @@ fn try_wrong_writings(
     }
 }
 
-// A writing over n bytes of each buffer, and by those wrong rules.
+// A writing over n bytes of each buffer, and by those wrong rules; what the library answers.
 fn try_writing(
     t: Tree,
     d: &mut [usize; 16384],
@@ -117,7 +118,7 @@ fn try_writing(
     n: usize,
     from: usize,
     to: usize,
-) {
+) -> Written {
     let right = library_written(t, out, 0, n);
     let w = second_written(accepted(), d, out, n, NO_WRONG_RULE);
     note(
@@ -128,6 +129,7 @@ fn try_writing(
     );
     add(d, WRITINGS, w.number, 1);
     try_wrong_writings(d, out, right, n, from, to);
+    right
 }
 
 // The sizes of buffers for a text of n bytes: 0, short, one byte less, one byte more, larger, and at the size limit.
@@ -185,7 +187,8 @@ fn try_order(t: Tree, d: &mut [usize; 16384], out: &mut [u8; 131074], n: usize, 
 // A configuration, of which the rows say whether it keeps its rules: over just enough bytes, one byte less, and a buffer in its turn.
 pub fn try_writings(t: Tree, d: &mut [usize; 16384], out: &mut [u8; 131074]) {
     let n = text_size(d) % 4096;
-    try_writing(t, d, out, n, AS_READ, LONG_FIRST);
+    let right = try_writing(t, d, out, n, AS_READ, LONG_FIRST);
+    try_wrong_writings(d, out, right, n, NAME_LOST, NAME_LOST + 1);
     let short = std::num::wrapping_sub_usize(n, 1) % 4096;
     try_writing(t, d, out, short, LONG_FIRST, WRITTEN_SHORT + 1);
     let size = next_size(d, n);

@@ -1,5 +1,5 @@
-// Bursts, made at random: beats about the tree's burst length and about 256, sizes good and bad, and starts from which the burst often
-// begins or ends at a multiple of 4,096; once in a while any numbers.
+// Bursts, made at random: beats about the tree's burst length and about both limits, 16 and 256, sizes good and bad, and starts from which
+// the burst often begins or ends at a multiple of 4,096; once in a while any numbers.
 use crate::generate::below;
 use crate::generate::once_in;
 
@@ -42,19 +42,30 @@ fn about_pieces(d: &mut [usize; 16384], n: usize) -> usize {
     about(d, beats)
 }
 
-// A count of beats, for a tree with burst length n: mostly at most 256.
-pub fn some_beats(d: &mut [usize; 16384], n: usize) -> usize {
+// About 16 or about 256, the limit of the other trees.
+fn about_other(d: &mut [usize; 16384], most: usize) -> usize {
+    if most == 16 {
+        return about(d, 256);
+    }
+    about(d, 16)
+}
+
+// A count of beats, for a tree with burst length n on which bursts have at most so many beats, 16 or 256: mostly not more.
+pub fn some_beats(d: &mut [usize; 16384], n: usize, most: usize) -> usize {
     let kind = below(d, 20);
     if kind == 0 {
         return large(d);
     }
     if kind < 4 {
-        return about(d, 256);
+        return about(d, most);
     }
-    if kind < 12 {
+    if kind < 6 {
+        return about_other(d, most);
+    }
+    if kind < 13 {
         return about_pieces(d, n);
     }
-    below(d, 258)
+    below(d, std::num::wrapping_add_usize(most, 2))
 }
 
 // How many bytes so many beats of this size have, unless they are more than a burst may have.

@@ -1,9 +1,10 @@
-// Damage to a file: its text is copied, with a byte or a line changed, put in, left out, doubled or moved.
+// Damage to a file: its text is copied, with a byte or a line changed, put in, left out, doubled or moved, or a line under another name.
 use crate::generate::LENGTH;
 use crate::generate::SIDE;
 use crate::generate::below;
 use crate::generate::once_in;
 use crate::generate::put_byte;
+use crate::generate::put_text;
 use store::get;
 use store::put;
 
@@ -102,6 +103,50 @@ fn damage_line(w: &mut [u8; 16384], d: &mut [usize; 16384], n: usize, kind: usiz
     }
 }
 
+// A record name, or what is nearly one: mostly bus or bus3.
+fn put_name(w: &mut [u8; 16384], d: &mut [usize; 16384]) {
+    match below(d, 20) {
+        0 => put_text(w, d, b"bus33"),
+        1 => put_text(w, d, b"BUS3"),
+        2 => put_text(w, d, b"bu3"),
+        3 => put_text(w, d, b"bus "),
+        4 => put_text(w, d, b"3bus"),
+        5 => put_text(w, d, b"bu"),
+        6 => put_text(w, d, b"bus2"),
+        7 => put_text(w, d, b"int3"),
+        8..=13 => put_text(w, d, b"bus3"),
+        _ => put_text(w, d, b"bus"),
+    }
+}
+
+// Where the record name of the line at `from` ends: at its first tab, or at the end of the n bytes.
+fn name_to(w: &[u8; 16384], from: usize, n: usize) -> usize {
+    let mut at = from;
+    while at < n {
+        if w[at % 8192] == 9 {
+            return at;
+        }
+        at += 1;
+    }
+    n
+}
+
+// A line, mostly the first, has another name, or is doubled under another name.
+fn damage_name(w: &mut [u8; 16384], d: &mut [usize; 16384], n: usize, kind: usize) {
+    let mut p = 0;
+    if once_in(d, 4) {
+        p = below(d, n);
+    }
+    let from = line_from(w, p);
+    let mut to = from;
+    if kind != 6 {
+        to = line_to(w, p, n);
+    }
+    copy(w, d, 0, to);
+    put_name(w, d);
+    copy(w, d, name_to(w, from, n), n);
+}
+
 // The file is cut, at any byte or before its last one.
 fn cut(w: &mut [u8; 16384], d: &mut [usize; 16384], n: usize) {
     let mut p = below(d, n);
@@ -116,8 +161,8 @@ pub fn copy_or_damage(w: &mut [u8; 16384], d: &mut [usize; 16384]) {
     let n = get(d, LENGTH, 0);
     put(d, SIDE, 0, 8192);
     put(d, LENGTH, 0, 0);
-    let kind = below(d, 28);
-    if (n == 0) | (6 < kind) {
+    let kind = below(d, 40);
+    if (n == 0) | (9 < kind) {
         copy(w, d, 0, n);
         return;
     }
@@ -125,6 +170,8 @@ pub fn copy_or_damage(w: &mut [u8; 16384], d: &mut [usize; 16384]) {
         damage_byte(w, d, n, kind);
     } else if kind < 6 {
         damage_line(w, d, n, kind);
+    } else if kind < 9 {
+        damage_name(w, d, n, kind);
     } else {
         cut(w, d, n);
     }

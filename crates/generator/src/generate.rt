@@ -27,10 +27,10 @@ const IDLE: usize = 4368;
 // No port is free.
 const NONE: usize = 120;
 
-// The limits of the bus line's numbers after the window.
-const LOWS: [usize; 9] = [1, 0, 0, 0, 0, 0, 1, 1, 1];
+// The limits of the bus line's delays.
+const LOWS: [usize; 8] = [1, 0, 0, 0, 0, 0, 1, 1];
 
-const HIGHS: [usize; 9] = [255, 255, 255, 255, 4095, 4095, 255, 255, 256];
+const HIGHS: [usize; 8] = [255, 255, 255, 255, 4095, 4095, 255, 255];
 
 // A number below n, by Marsaglia's xorshift.
 pub fn below(d: &mut [usize; 16384], n: usize) -> usize {
@@ -158,12 +158,30 @@ fn put_delay(w: &mut [u8; 16384], d: &mut [usize; 16384]) {
     }
 }
 
+// The burst length: on a bus3 line mostly up to 16, and once in 15 times up to 256; on a bus line up to 256, and once in 5 times up to 16.
+fn put_burst(w: &mut [u8; 16384], d: &mut [usize; 16384], older: bool) {
+    if older {
+        let x = mixed(d, 16, 15, 256);
+        put_field(w, d, std::num::wrapping_add_usize(x, 1), 1, 16);
+    } else {
+        let x = mixed(d, 256, 5, 16);
+        put_field(w, d, std::num::wrapping_add_usize(x, 1), 1, 256);
+    }
+}
+
+// The bus line, which is named bus3 one time in three.
 fn bus_line(w: &mut [u8; 16384], d: &mut [usize; 16384]) {
-    put_text(w, d, b"bus");
+    let older = once_in(d, 3);
+    if older {
+        put_text(w, d, b"bus3");
+    } else {
+        put_text(w, d, b"bus");
+    }
     put_mostly(w, d, 14, 12, 65535);
-    for i in 0..9 {
+    for i in 0..8 {
         put_any(w, d, LOWS[i], HIGHS[i]);
     }
+    put_burst(w, d, older);
     put_delay(w, d);
     put_byte(w, d, 10);
 }

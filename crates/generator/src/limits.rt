@@ -1,17 +1,29 @@
-// The six tree files of document 01's case 11, trees with a return delay at its limits, and trees with all interconnects and
-// accelerators, each in the second half of w.
+// The six tree files of document 01's case 11, trees with a return delay at its limits, trees by the record names of their bus lines, and
+// trees with all interconnects and accelerators, each in the second half of w.
 use crate::generate::LENGTH;
 use crate::generate::SIDE;
+use crate::generate::put_byte;
 use crate::generate::put_column;
 use crate::generate::put_text;
 use store::put;
 
-// The bus line up to the burst length.
-fn put_head(w: &mut [u8; 16384], d: &mut [usize; 16384], burst: usize) {
+// Nothing is written yet.
+fn begin(d: &mut [usize; 16384]) {
     put(d, SIDE, 0, 8192);
     put(d, LENGTH, 0, 0);
-    put_text(w, d, b"bus\t16\t1\t4\t2\t2\t30\t25\t1\t1");
+}
+
+// A bus line under this record name, up to the burst length.
+fn put_named(w: &mut [u8; 16384], d: &mut [usize; 16384], name: &[u8], burst: usize) {
+    put_text(w, d, name);
+    put_text(w, d, b"\t16\t1\t4\t2\t2\t30\t25\t1\t1");
     put_column(w, d, burst);
+}
+
+// The bus line up to the burst length.
+fn put_head(w: &mut [u8; 16384], d: &mut [usize; 16384], burst: usize) {
+    begin(d);
+    put_named(w, d, b"bus", burst);
 }
 
 // The end of the bus line, and the root.
@@ -137,6 +149,110 @@ pub fn make_delay(w: &mut [u8; 16384], d: &mut [usize; 16384], i: usize) {
     put_root(w, d);
     put_acc(w, d, 0, 0, 0);
     put_acc(w, d, 1, 0, 7);
+}
+
+// How many files there are by the record names of their bus lines.
+pub const NAMES: usize = 32;
+
+// Of the first twelve, of which eight are named bus3 and four bus, the burst length and the return delay, which is left out where it is
+// ABSENT.
+const NAMED_BURSTS: [usize; 12] = [16, 17, 16, 16, 16, 1, 0, 256, 16, 17, 256, 257];
+
+const ABSENT: usize = 99;
+
+const NAMED_RETURNS: [usize; 12] = [
+    ABSENT,
+    ABSENT,
+    0,
+    15,
+    16,
+    1,
+    ABSENT,
+    ABSENT,
+    ABSENT,
+    ABSENT,
+    ABSENT,
+    ABSENT,
+];
+
+// A bus line named bus3 or bus, up to the burst length.
+fn put_either(w: &mut [u8; 16384], d: &mut [usize; 16384], older: bool, burst: usize) {
+    if older {
+        put_named(w, d, b"bus3", burst);
+    } else {
+        put_named(w, d, b"bus", burst);
+    }
+}
+
+// The end of the bus line, the root, and two accelerators.
+fn put_rest(w: &mut [u8; 16384], d: &mut [usize; 16384]) {
+    put_root(w, d);
+    put_acc(w, d, 0, 0, 0);
+    put_acc(w, d, 1, 0, 7);
+}
+
+// One bus line, at the limits of its name.
+fn make_one(w: &mut [u8; 16384], d: &mut [usize; 16384], i: usize) {
+    put_either(w, d, i < 8, NAMED_BURSTS[i % 12]);
+    let delay = NAMED_RETURNS[i % 12];
+    if delay != ABSENT {
+        put_column(w, d, delay);
+    }
+    put_rest(w, d);
+}
+
+// Two bus lines, for i up to 3 of different names and else of the same, the second with a burst length of 16 or 17.
+fn make_two(w: &mut [u8; 16384], d: &mut [usize; 16384], i: usize) {
+    let first = i % 2 == 0;
+    put_either(w, d, first, 16);
+    put_byte(w, d, 10);
+    let burst = 16 + i / 2 % 2;
+    if i < 4 {
+        put_either(w, d, !first, burst);
+    } else {
+        put_either(w, d, first, burst);
+    }
+    put_rest(w, d);
+}
+
+// A second bus line, of the other name, at the end.
+fn make_last(w: &mut [u8; 16384], d: &mut [usize; 16384], first: bool) {
+    put_either(w, d, first, 16);
+    put_rest(w, d);
+    put_either(w, d, !first, 16);
+    put_byte(w, d, 10);
+}
+
+// What is nearly one of the two names.
+fn make_near(w: &mut [u8; 16384], d: &mut [usize; 16384], i: usize) {
+    match i {
+        0 => put_named(w, d, b"bus33", 16),
+        1 => put_named(w, d, b"BUS3", 16),
+        2 => put_named(w, d, b"Bus3", 16),
+        3 => put_named(w, d, b"bu3", 16),
+        4 => put_named(w, d, b"bu", 16),
+        5 => put_named(w, d, b"3bus", 16),
+        6 => put_named(w, d, b"bus ", 16),
+        7 => put_named(w, d, b"bus3 ", 16),
+        8 => put_named(w, d, b"bus2", 16),
+        _ => put_named(w, d, b"bus03", 16),
+    }
+    put_rest(w, d);
+}
+
+// One of the files by the record names of their bus lines: twelve with one bus line, eight with two, two with a second one at the end,
+// and ten with another name.
+pub fn make_name(w: &mut [u8; 16384], d: &mut [usize; 16384], i: usize) {
+    begin(d);
+    if i < 12 {
+        make_one(w, d, i);
+    } else if i < 20 {
+        make_two(w, d, i - 12);
+    } else if i < 22 {
+        make_last(w, d, i == 20);
+    } else {
+        make_near(w, d, i - 22);
+    }
 }
 
 // The widest tree, with a return delay of 15.

@@ -40,14 +40,14 @@ use Rattle.model.specs.declared.Tree.{Tree}
 use Rattle.model.specs.declared.State.{State}
 use Rattle.model.specs.declared.Channel.the-variants.{Read}
 use Rattle.folds.specs.Fold.{pick}
-use Rattle.model.specs.Tree.{jobOf, limitOf, budgetOf, waitingOf, outstandingOf, admittedOf}
+use Rattle.model.specs.Tree.{beatLimit, jobOf, limitOf, budgetOf, waitingOf, outstandingOf, admittedOf}
 use Rattle.rules.specs.Rules.{keeps}
 use Rattle.model.specs.Trees.{chain, chainOf}
 use Rattle.machine.specs.Machine.{admitted, served, refused, freshState}
 use Rattle.machine.specs.Calls.{Call, offer, slot, step, answersOf, stateAfter}
 use Rattle.shares.specs.Shares.{shareOf}
 use Rattle.burst.specs.declared.Burst.{Burst}
-use Rattle.burst.specs.Burst.{Split, pieces, notSplit, beatLimit, splitOf, onPieces}
+use Rattle.burst.specs.Burst.{Split, pieces, notSplit, splitOf, onPieces}
 use Rattle.burst.specs.Offers.{Offering, burstOffer}
 use Rattle.guarantee.specs.Guarantee.{Event, event, eventsOf, slotsIn, othersIn, upTo, ServedWithin, StillWaits, Guarantee}
 use Rattle.guarantee.specs.Instances.{several, round, keptFull}
@@ -65,7 +65,7 @@ boardAfter t s [] = s
 boardAfter t s (c ∷ bs) = boardAfter t (boardState t s c) bs
 
 abbrev pub splitFor : Tree → State → Burst → Split
-splitFor t s b = splitOf beatLimit (keeps t s) (t .bus .burst) b
+splitFor t s b = splitOf (beatLimit (t .bus)) (keeps t s) (t .bus .burst) b
 
 abbrev pub piecesLeft : Tree → State → Burst → ℕ → ℕ
 piecesLeft t s b from = onPieces (splitFor t s b) (λ k. k - from) 0

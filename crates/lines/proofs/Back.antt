@@ -21,7 +21,7 @@ use Rattle.text.specs.Write.{decimalText, fieldText, rows, lineText}
 use Rattle.text.proofs.Parts.{first-part}
 use Rattle.text.proofs.Back.{fields-exactly, same-back, number-exactly, dash-exactly}
 use Rattle.lines.specs.declared.Kind.{Kind}
-use Rattle.lines.specs.declared.Kind.the-variants.{NoRecord, BusLine, IntLine, AccLine, OfferLine}
+use Rattle.lines.specs.declared.Kind.the-variants.{NoRecord, BusLine, IntLine, AccLine, OfferLine, Bus3Line}
 use Rattle.lines.specs.declared.Line.{Line}
 use Rattle.lines.specs.Lines.{nameOf, kindOf, named, push, pushed, lineWith, lineFrom, lineOf, valueAt, dashAt}
 use Rattle.lines.specs.Lines.{formOf, dashKept, dashesKept, noDashes, isRecord, shaped}
@@ -33,17 +33,21 @@ use Rattle.lines.proofs.Written.{name-read, Plain, plain-first, line-re
 name-back : (name : List ℕ) → isRecord (kindOf name) ≡ true → name ≡ nameOf (kindOf name)
 unfolding kindOf
 name-back name d =
-    go (same name (nameOf BusLine)) (same name (nameOf IntLine)) (same name (nameOf AccLine)) (same name (nameOf OfferLine)) refl refl refl refl d
+    go (same name (nameOf BusLine)) (same name (nameOf IntLine)) (same name (nameOf AccLine)) (same name (nameOf OfferLine))
+    (same name (nameOf Bus3Line)) refl refl refl refl refl d
   where
-    go : (a b c e : Bool) → same name (nameOf BusLine) ≡ a → same name (nameOf IntLine) ≡ b → same name (nameOf AccLine) ≡ c
-        → same name (nameOf OfferLine) ≡ e
-        → isRecord (pick a BusLine (pick b IntLine (pick c AccLine (pick e OfferLine NoRecord)))) ≡ true
-        → name ≡ nameOf (pick a BusLine (pick b IntLine (pick c AccLine (pick e OfferLine NoRecord))))
-    go true b c e f g h i d = same-back name _ f
-    go false true c e f g h i d = same-back name _ g
-    go false false true e f g h i d = same-back name _ h
-    go false false false true f g h i d = same-back name _ i
-    go false false false false f g h i d = clash cc
+    kind : (a b c e z : Bool) → Kind
+    kind a b c e z = pick a BusLine (pick b IntLine (pick c AccLine (pick e OfferLine (pick z Bus3Line NoRecord))))
+
+    go : (a b c e z : Bool) → same name (nameOf BusLine) ≡ a → same name (nameOf IntLine) ≡ b → same name (nameOf AccLine) ≡ c
+        → same name (nameOf OfferLine) ≡ e → same name (nameOf Bus3Line) ≡ z
+        → isRecord (kind a b c e z) ≡ true → name ≡ nameOf (kind a b c e z)
+    go true b c e z f g h i j d = same-back name _ f
+    go false true c e z f g h i j d = same-back name _ g
+    go false false true e z f g h i j d = same-back name _ h
+    go false false false true z f g h i j d = same-back name _ i
+    go false false false false true f g h i j d = same-back name _ j
+    go false false false false false f g h i j d = clash cc
 
 pub name-exactly : (name : List ℕ) (k : Kind) → isRecord k ≡ true → (kindOf name ≡ k) ↔ (name ≡ nameOf k)
 name-exactly name k e = (λ q. name-back name (ap isRecord q ∙ e) ∙ ap nameOf q, λ q. ap kindOf q ∙ name-read k)

@@ -16,31 +16,39 @@ use Rattle.text.specs.Text.{parts, partLength, same, fieldOf}
 use Rattle.text.proofs.Parts.{part-next}
 use Rattle.folds.proofs.Folds.{picked, passed}
 use Rattle.lines.specs.declared.Kind.{Kind}
-use Rattle.lines.specs.declared.Kind.the-variants.{NoRecord, BusLine, IntLine, AccLine, OfferLine}
+use Rattle.lines.specs.declared.Kind.the-variants.{NoRecord, BusLine, IntLine, AccLine, OfferLine, Bus3Line}
 use Rattle.lines.specs.declared.Line.{Line}
-use Rattle.lines.specs.Lines.{kindOf, named, push, pushed, lineFrom, lineOf, formOf}
+use Rattle.lines.specs.Lines.{nameOf, kindOf, named, push, pushed, lineFrom, lineOf, formOf}
 
 -- the tests of a record name, one after the other
-module _ (name : List ℕ) (b : same name (98 ∷ 117 ∷ 115 ∷ []) ≡ false) where
-  pub kind-int : same name (105 ∷ 110 ∷ 116 ∷ []) ≡ true → kindOf name ≡ IntLine
+module _ (name : List ℕ) where
+  pub kind-bus : same name (nameOf BusLine) ≡ true → kindOf name ≡ BusLine
   unfolding kindOf
-  kind-int i = passed _ _ _ b ∙ picked _ _ _ i
+  kind-bus e = picked _ _ _ e
 
-  pub kind-acc : same name (105 ∷ 110 ∷ 116 ∷ []) ≡ false → same name (97 ∷ 99 ∷ 99 ∷ []) ≡ true → kindOf name ≡ AccLine
-  unfolding kindOf
-  kind-acc i a = passed _ _ _ b ∙ passed _ _ _ i ∙ picked _ _ _ a
+  module _ (b : same name (nameOf BusLine) ≡ false) where
+    pub kind-int : same name (nameOf IntLine) ≡ true → kindOf name ≡ IntLine
+    unfolding kindOf
+    kind-int e = passed _ _ _ b ∙ picked _ _ _ e
 
-  pub kind-offer : same name (105 ∷ 110 ∷ 116 ∷ []) ≡ false → same name (97 ∷ 99 ∷ 99 ∷ []) ≡ false → same name (111 ∷ []) ≡ true → kindOf name ≡ OfferLine
-  unfolding kindOf
-  kind-offer i a o = passed _ _ _ b ∙ passed _ _ _ i ∙ passed _ _ _ a ∙ picked _ _ _ o
+    module _ (i : same name (nameOf IntLine) ≡ false) where
+      pub kind-acc : same name (nameOf AccLine) ≡ true → kindOf name ≡ AccLine
+      unfolding kindOf
+      kind-acc e = passed _ _ _ b ∙ passed _ _ _ i ∙ picked _ _ _ e
 
-  pub kind-none : same name (105 ∷ 110 ∷ 116 ∷ []) ≡ false → same name (97 ∷ 99 ∷ 99 ∷ []) ≡ false → same name (111 ∷ []) ≡ false → kindOf name ≡ NoRecord
-  unfolding kindOf
-  kind-none i a o = passed _ _ _ b ∙ passed _ _ _ i ∙ passed _ _ _ a ∙ passed _ _ _ o
+      module _ (a : same name (nameOf AccLine) ≡ false) where
+        pub kind-offer : same name (nameOf OfferLine) ≡ true → kindOf name ≡ OfferLine
+        unfolding kindOf
+        kind-offer e = passed _ _ _ b ∙ passed _ _ _ i ∙ passed _ _ _ a ∙ picked _ _ _ e
 
-pub kind-bus : (name : List ℕ) → same name (98 ∷ 117 ∷ 115 ∷ []) ≡ true → kindOf name ≡ BusLine
-unfolding kindOf
-kind-bus name b = picked _ _ _ b
+        module _ (o : same name (nameOf OfferLine) ≡ false) where
+          pub kind-bus3 : same name (nameOf Bus3Line) ≡ true → kindOf name ≡ Bus3Line
+          unfolding kindOf
+          kind-bus3 e = passed _ _ _ b ∙ passed _ _ _ i ∙ passed _ _ _ a ∙ passed _ _ _ o ∙ picked _ _ _ e
+
+          pub kind-none : same name (nameOf Bus3Line) ≡ false → kindOf name ≡ NoRecord
+          unfolding kindOf
+          kind-none e = passed _ _ _ b ∙ passed _ _ _ i ∙ passed _ _ _ a ∙ passed _ _ _ o ∙ passed _ _ _ e
 
 pub form-count : (k : Kind) → formOf k .count ≤ 11
 form-count NoRecord = lit≤ tt
@@ -48,6 +56,7 @@ form-count BusLine = lit≤ tt
 form-count IntLine = lit≤ tt
 form-count AccLine = lit≤ tt
 form-count OfferLine = lit≤ tt
+form-count Bus3Line = lit≤ tt
 
 pub push-count : (l : Line) (f : Field) → push l f .count ≡ l .count + 1
 push-count l Malformed = refl

@@ -16,7 +16,7 @@ use Rattle.text.specs.Write.{fieldText, dash, numbers, lineText}
 use Rattle.text.proofs.Written.{Clean, clean-none, clean-more, AllClean, all-none, all-more, fields-read, number-read, number-clean}
 use Rattle.text.proofs.Back.{dash-exactly}
 use Rattle.lines.specs.declared.Kind.{Kind}
-use Rattle.lines.specs.declared.Kind.the-variants.{NoRecord, BusLine, IntLine, AccLine, OfferLine}
+use Rattle.lines.specs.declared.Kind.the-variants.{NoRecord, BusLine, IntLine, AccLine, OfferLine, Bus3Line}
 use Rattle.lines.specs.Lines.{formOf, nameOf, kindOf, lineWith, lineFrom, lineOf, limitsKept}
 use Rattle.lines.specs.LineText.{mayStand}
 use Rattle.lines.proofs.Limits.{most}
@@ -28,6 +28,7 @@ name-read BusLine = refl
 name-read IntLine = refl
 name-read AccLine = refl
 name-read OfferLine = refl
+name-read Bus3Line = refl
 
 -- no letter is a separator
 clean3 : {sep : ℕ} (a b c : ℕ) → sep < 48 → 48 < a → 48 < b → 48 < c → Clean sep (a ∷ b ∷ c ∷ [])
@@ -40,6 +41,8 @@ name-clean sep h BusLine = clean3 98 117 115 h (lit< tt) (lit< tt) (lit< tt)
 name-clean sep h IntLine = clean3 105 110 116 h (lit< tt) (lit< tt) (lit< tt)
 name-clean sep h AccLine = clean3 97 99 99 h (lit< tt) (lit< tt) (lit< tt)
 name-clean sep h OfferLine = clean-more {b = 111} (λ e. omega arith) clean-none
+name-clean sep h Bus3Line =
+    clean-more {b = 98} (λ e. omega arith) (clean3 117 115 51 h (lit< tt) (lit< tt) (lit< tt))
 
 pub field-clean : (sep : ℕ) → sep < 45 → (f : Field) → Clean sep (fieldText f)
 field-clean sep h Malformed = clean-none
@@ -89,6 +92,7 @@ high-below k i h = ltb-true _ _ (all-at (formOf k .count) (λ j. ltb (getD (form
     highs IntLine = refl
     highs AccLine = refl
     highs OfferLine = refl
+    highs Bus3Line = refl
 
 -- the n numbers of v from number i on
 unfoldable pub fieldsFrom : ℕ → ℕ → List ℕ → List ℕ

@@ -1,7 +1,9 @@
 -- A line of a file: its record name, its fields, and the tests 1 and 2 of document 01 ("The tree on paper").
 --
--- nameOf k             "A line begins with one of the record names bus, int or acc"; in a trace it is o
+-- nameOf k             "A line begins with one of the record names bus, int or acc"; in a trace it is o; "bus3 is a record name beside bus"
+--                      (document 02, item 7)
 -- kindOf name          the record of that name
+-- busKind a            the record of a bus, bus3 where a is true: "bus3 .. means AXI3"
 -- named k              a line of record k before its fields
 -- push l f             line l with one field more; past the eleventh, fields are only counted
 -- pushed l fs          line l with the fields fs
@@ -14,6 +16,8 @@
 --                      and their limits, in the order of the paper; "The bus line gains an optional last field"
 -- noDashes             no field may be "-"
 -- plainForm m n x y    the form of a record that has no "-": m to n fields, with the limits x to y
+-- busForm n            the form of a bus line where B is at most n: 256 on a bus line; bus3 is a record "with its fields and its place",
+--                      "there B is at most 16"
 -- dashKept f d i       field i is "-" only where it may be; dashesKept k d: so are all fields of record k
 -- isRecord k           k is a record
 -- shaped l             test 1: a record's name, as many fields as the record may have, none malformed, "-" only where it may stand
@@ -30,17 +34,18 @@ use Rattle.text.specs.declared.Field.the-variants.{Malformed, Dash, Number}
 use Rattle.text.specs.Text.{fields, same, fieldOf}
 use Rattle.folds.specs.Fold.{pick, all, within}
 use Rattle.lines.specs.declared.Kind.{Kind}
-use Rattle.lines.specs.declared.Kind.the-variants.{NoRecord, BusLine, IntLine, AccLine, OfferLine}
+use Rattle.lines.specs.declared.Kind.the-variants.{NoRecord, BusLine, IntLine, AccLine, OfferLine, Bus3Line}
 use Rattle.lines.specs.declared.Line.{Line}
 use Rattle.lines.specs.declared.Form.{Form}
 
--- "bus", "int", "acc", "o"
+-- "bus", "int", "acc", "o", "bus3"
 abbrev pub nameOf : Kind → List ℕ
 nameOf NoRecord = []
 nameOf BusLine = 98 ∷ 117 ∷ 115 ∷ []
 nameOf IntLine = 105 ∷ 110 ∷ 116 ∷ []
 nameOf AccLine = 97 ∷ 99 ∷ 99 ∷ []
 nameOf OfferLine = 111 ∷ []
+nameOf Bus3Line = 98 ∷ 117 ∷ 115 ∷ 51 ∷ []
 
 unfoldable pub kindOf : List ℕ → Kind
 kindOf name =
@@ -48,7 +53,12 @@ kindOf name =
     (pick (same name (nameOf IntLine)) IntLine
     (pick (same name (nameOf AccLine)) AccLine
     (pick (same name (nameOf OfferLine)) OfferLine
-    NoRecord)))
+    (pick (same name (nameOf Bus3Line)) Bus3Line
+    NoRecord))))
+
+abbrev pub busKind : Bool → Kind
+busKind true = Bus3Line
+busKind false = BusLine
 
 abbrev pub named : Kind → Line
 named k = record { kind = k; count = 0; malformed = false; dashes = replicate 11 false; values = replicate 11 0 }
@@ -87,16 +97,19 @@ noDashes = replicate 11 false
 abbrev pub plainForm : ℕ → ℕ → List ℕ → List ℕ → Form
 plainForm least count lows highs = record { least = least; count = count; dashes = noDashes; lows = lows; highs = highs }
 
--- bus: P, tA, dA, dD, dB, pR, pW, tD, tB, B, and the return delay r ("0 to 15 slots; absent means 0": it is then held as 0)
+-- bus, bus3: P, tA, dA, dD, dB, pR, pW, tD, tB, B, and the return delay r ("0 to 15 slots; absent means 0": it is then held as 0)
+abbrev pub busForm : ℕ → Form
+busForm beats =
+    plainForm 10 11
+    (1 ∷ 1 ∷ 0 ∷ 0 ∷ 0 ∷ 0 ∷ 0 ∷ 1 ∷ 1 ∷ 1 ∷ 0 ∷ [])
+    (65535 ∷ 255 ∷ 255 ∷ 255 ∷ 255 ∷ 4095 ∷ 4095 ∷ 255 ∷ 255 ∷ beats ∷ 15 ∷ [])
+
 -- int: number, parent, port on the parent, granularity g
 -- acc: number, interconnect, port, phi, budget, Nr, Nw, C, T
 -- o:   slot, accelerator ("no limit of its own": the greatest of ten digits), count
 abbrev pub formOf : Kind → Form
 formOf NoRecord = plainForm 0 0 (replicate 11 0) (replicate 11 0)
-formOf BusLine =
-    plainForm 10 11
-    (1 ∷ 1 ∷ 0 ∷ 0 ∷ 0 ∷ 0 ∷ 0 ∷ 1 ∷ 1 ∷ 1 ∷ 0 ∷ [])
-    (65535 ∷ 255 ∷ 255 ∷ 255 ∷ 255 ∷ 4095 ∷ 4095 ∷ 255 ∷ 255 ∷ 256 ∷ 15 ∷ [])
+formOf BusLine = busForm 256
 formOf IntLine =
     record {
       least = 4;
@@ -113,6 +126,7 @@ formOf OfferLine =
     plainForm 3 3
     (0 ∷ 0 ∷ 1 ∷ 0 ∷ 0 ∷ 0 ∷ 0 ∷ 0 ∷ 0 ∷ 0 ∷ 0 ∷ [])
     (4294967294 ∷ 9999999999 ∷ 16 ∷ 0 ∷ 0 ∷ 0 ∷ 0 ∷ 0 ∷ 0 ∷ 0 ∷ 0 ∷ [])
+formOf Bus3Line = busForm 16
 
 abbrev pub dashKept : Form → List Bool → ℕ → Bool
 dashKept f d i = getD (f .dashes) i false || not (getD d i false)
@@ -126,6 +140,7 @@ isRecord BusLine = true
 isRecord IntLine = true
 isRecord AccLine = true
 isRecord OfferLine = true
+isRecord Bus3Line = true
 
 unfoldable pub shaped : Line → Bool
 shaped l =
@@ -144,6 +159,7 @@ inTree BusLine = true
 inTree IntLine = true
 inTree AccLine = true
 inTree OfferLine = false
+inTree Bus3Line = true
 
 abbrev pub inTrace : Kind → Bool
 inTrace NoRecord = false
@@ -151,3 +167,4 @@ inTrace BusLine = false
 inTrace IntLine = false
 inTrace AccLine = false
 inTrace OfferLine = true
+inTrace Bus3Line = false

@@ -10,7 +10,7 @@ use text::same_bytes;
 ghost use mathlib.Core.Path.{_≡_};
 ghost use Prim.Native.Nat.{_<_};
 ghost use Rattle.lines.specs.Answer.{answerNumber, answerLine};
-ghost use Rattle.lines.specs.Lines.{kindOf, named, push, lineOf, plainForm, formOf, dashesKept, limitsKept, isRecord, shaped};
+ghost use Rattle.lines.specs.Lines.{kindOf, named, push, lineOf, plainForm, busForm, formOf, dashesKept, limitsKept, isRecord, shaped};
 
 // What a line's record name says.
 pub enum Kind {
@@ -19,6 +19,7 @@ pub enum Kind {
     IntLine,
     AccLine,
     OfferLine,
+    Bus3Line,
 }
 
 // A line: its record name, how many fields follow it, whether one of them is malformed, and of the first eleven which are
@@ -54,6 +55,9 @@ fn kind_of(name: &[u8]) -> Kind
     }
     if same_bytes(name, b"o") {
         return Kind::OfferLine;
+    }
+    if same_bytes(name, b"bus3") {
+        return Kind::Bus3Line;
     }
     Kind::NoRecord
 }
@@ -155,18 +159,25 @@ fn plain_form(least: usize, count: usize, lows: [u64; 11], highs: [u64; 11]) -> 
     }
 }
 
+// The form of a bus line and of a bus3 line, where a burst has at most so many beats.
+fn bus_form(beats: u64) -> Form
+    ensures { λ r. ⌜ r ≡ busForm beats ⌝ }
+{
+    plain_form(
+        10,
+        11,
+        [1, 1, 0, 0, 0, 0, 0, 1, 1, 1, 0],
+        [65535, 255, 255, 255, 255, 4095, 4095, 255, 255, beats, 15],
+    )
+}
+
 // The form of each kind of line.
 pub fn form_of(kind: Kind) -> Form
     ensures { λ r. ⌜ r ≡ formOf kind ⌝ }
 {
     match kind {
         Kind::NoRecord => plain_form(0, 0, [0; 11], [0; 11]),
-        Kind::BusLine => plain_form(
-            10,
-            11,
-            [1, 1, 0, 0, 0, 0, 0, 1, 1, 1, 0],
-            [65535, 255, 255, 255, 255, 4095, 4095, 255, 255, 256, 15],
-        ),
+        Kind::BusLine => bus_form(256),
         Kind::IntLine => Form {
             least: 4,
             count: 4,
@@ -181,6 +192,7 @@ pub fn form_of(kind: Kind) -> Form
             [0, 0, 1, 0, 0, 0, 0, 0, 0, 0, 0],
             [4294967294, 9999999999, 16, 0, 0, 0, 0, 0, 0, 0, 0],
         ),
+        Kind::Bus3Line => bus_form(16),
     }
 }
 
@@ -207,6 +219,7 @@ pub fn is_record(kind: Kind) -> bool
         Kind::IntLine => true,
         Kind::AccLine => true,
         Kind::OfferLine => true,
+        Kind::Bus3Line => true,
     }
 }
 

@@ -9,11 +9,13 @@
 -- withTurns s l o        state s with the last ports l and the allowances o
 -- atSlot s x m n         state s with the returns x, the admitted counts m and the slot count n
 -- withBus t b            configuration t with the bus b
+-- speaking a b           the bus b on a board that speaks AXI3 where a is true, else AXI4
 -- withInterconnects t n l  configuration t with n interconnects, those of the list l
 -- withAccelerators t n l   configuration t with n accelerators, those of the list l
 -- carrying c p x         interconnect c with port p carrying x
 -- withJob r w c T x      accelerator x with r reads, w writes, computing c and period T
 use Prim.Native.Nat.{ℕ}
+use mathlib.Core.Bool.{Bool}
 use mathlib.Core.List.{List}
 use lib.ListN.{set, replicate}
 use Rattle.model.specs.declared.Tree.{Tree}
@@ -45,6 +47,23 @@ atSlot s x m n = stateWith (s .channel) (s .waiting) x m (s .last) (s .allowance
 abbrev pub withBus : Tree → Bus → Tree
 withBus t bus =
     record { bus = bus; interconnects = t .interconnects; accelerators = t .accelerators; ints = t .ints; accs = t .accs }
+
+abbrev pub speaking : Bool → Bus → Bus
+speaking a b =
+    record {
+      window = b .window;
+      ta = b .ta;
+      da = b .da;
+      dd = b .dd;
+      db = b .db;
+      pr = b .pr;
+      pw = b .pw;
+      td = b .td;
+      tb = b .tb;
+      burst = b .burst;
+      delay = b .delay;
+      axi3 = a;
+    }
 
 abbrev pub withInterconnects : Tree → ℕ → List Interconnect → Tree
 withInterconnects t ints interconnects =

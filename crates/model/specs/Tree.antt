@@ -21,6 +21,8 @@
 -- path t a              the crossings of accelerator a, from its own interconnect up to the root
 -- levelOf t j           the level of interconnect j ("A level is the count of interconnects from the root to here, the
 --                       root 1")
+-- beatLimit b           the most beats of a burst on the bus b: "AMBA AXI3 allows bursts of at most 16 beats, AXI4 incrementing bursts of
+--                       up to 256"; "bus3 .. means AXI3", "A record named bus keeps today's meaning" (document 02, item 7)
 -- delayOf t             the return delay r, in slots (document 02, item 2: "the return delay r, 0 to 15 slots")
 -- waitingOf s a         the transactions of accelerator a that wait
 -- bit d x               bit d of the number x
@@ -39,6 +41,7 @@ use lib.Dec.{eqb}
 use lib.Count.{ones}
 use Rattle.model.specs.declared.Tree.{Tree}
 use Rattle.model.specs.declared.State.{State}
+use Rattle.model.specs.declared.Bus.{Bus}
 use Rattle.model.specs.declared.Interconnect.{Interconnect}
 use Rattle.model.specs.declared.Accelerator.{Accelerator}
 use Rattle.model.specs.declared.PortCell.{PortCell}
@@ -111,6 +114,9 @@ path t a = record { interconnect = homeOf t a; port = homePortOf t a } ∷ above
 
 abbrev pub levelOf : Tree → ℕ → ℕ
 levelOf t j = suc (length (above 15 t j))
+
+abbrev pub beatLimit : Bus → ℕ
+beatLimit b = pick (b .axi3) 16 256
 
 abbrev pub delayOf : Tree → ℕ
 delayOf t = t .bus .delay

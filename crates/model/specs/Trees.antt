@@ -22,6 +22,7 @@
 -- worked               the tree of the report's worked listing
 -- nested               a tree whose shares tell the plain sum of capacities from nested minima
 use Prim.Native.Nat.{ℕ, _-_}
+use mathlib.Core.Bool.{false}
 use mathlib.Core.List.{List, [], _∷_, _++_}
 use lib.ListN.{length, replicate}
 use Rattle.model.specs.declared.Tree.{Tree}
@@ -46,7 +47,7 @@ block j p phi b =
 
 abbrev pub greatestBus : Bus
 greatestBus =
-    record { window = 65535; ta = 255; da = 255; dd = 255; db = 255; pr = 4095; pw = 4095; td = 255; tb = 255; burst = 256; delay = 15 }
+    record { window = 65535; ta = 255; da = 255; dd = 255; db = 255; pr = 4095; pw = 4095; td = 255; tb = 255; burst = 256; delay = 15; axi3 = false }
 
 abbrev pub busiest : ℕ → ℕ → Accelerator
 busiest j p = withJob 65535 65535 4294967295 4294967295 (block j p 16 1024)
@@ -54,7 +55,7 @@ busiest j p = withJob 65535 65535 4294967295 4294967295 (block j p 16 1024)
 abbrev pub treeWith : ℕ → ℕ → List Interconnect → List Accelerator → Tree
 treeWith P r xs ys =
     record {
-      bus = record { window = P; ta = 1; da = 4; dd = 2; db = 2; pr = 30; pw = 25; td = 1; tb = 1; burst = 16; delay = r };
+      bus = record { window = P; ta = 1; da = 4; dd = 2; db = 2; pr = 30; pw = 25; td = 1; tb = 1; burst = 16; delay = r; axi3 = false };
       interconnects = xs ++ replicate (15 - length xs) noInterconnect;
       accelerators = ys ++ replicate (32 - length ys) noAccelerator;
       ints = length xs;

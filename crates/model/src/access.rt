@@ -1,5 +1,6 @@
 // Reading a configuration and a state: total, by value.
 use crate::Accelerator;
+use crate::Bus;
 use crate::Channel;
 use crate::Interconnect;
 use crate::Port;
@@ -9,8 +10,18 @@ use crate::Tree;
 ghost use mathlib.Core.Path.{_≡_};
 ghost use Prim.Native.Nat.{_≤_, _*_, _^_};
 ghost use lib.ListN.{length};
-ghost use Rattle.model.specs.Tree.{interconnectOf, acceleratorOf, jobOf, limitOf, portOf, levelOf, above, waitingOf, returnsOf, outstandingOf, admittedOf, lastOf, allowanceOf};
+ghost use Rattle.model.specs.Tree.{beatLimit, interconnectOf, acceleratorOf, jobOf, limitOf, portOf, levelOf, above, waitingOf, returnsOf, outstandingOf, admittedOf, lastOf, allowanceOf};
 ghost use Rattle.model.specs.Beneath.{weightIn, under, inside, weightUnder, waitsUnder};
+
+// The most beats of a burst: 16 in AXI3, 256 in AXI4.
+pub fn beat_limit(b: Bus) -> u32
+    ensures { λ r. ⌜ (r ≡ beatLimit b) × (r ≤ 256) ⌝ }
+{
+    if b.axi3 {
+        return 16;
+    }
+    256
+}
 
 pub fn interconnect_at(t: Tree, j: u8) -> Interconnect
     ensures { λ r. ⌜ r ≡ interconnectOf t j ⌝ }

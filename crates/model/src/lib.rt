@@ -23,7 +23,7 @@ pub struct PortCell {
 }
 
 // The bus line: the window P in slots; the delays tA, dA, dD, dB, pR, pW, tD, tB in clock cycles; the burst length B; the
-// return delay r in slots, 0 where the line leaves it out.
+// return delay r in slots, 0 where the line leaves it out; whether its record name is bus3, which means AXI3.
 pub struct Bus {
     pub window: u16,
     pub ta: u8,
@@ -36,6 +36,7 @@ pub struct Bus {
     pub tb: u8,
     pub burst: u16,
     pub delay: u8,
+    pub axi3: bool,
 }
 
 // An interconnect: the parent and the port on it that carries this one (0 and 0 at the root, whose line has "-" there),

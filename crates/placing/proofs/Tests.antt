@@ -1,8 +1,8 @@
 -- The answer of each chain of tests at each return, over any values: the same order of tests in code and definition.
 use Prim.Native.Nat.{ℕ, _≤_, _<_}
-use mathlib.Core.Bool.{true, false, _&&_}
+use mathlib.Core.Bool.{Bool, true, false, _&&_}
 use mathlib.Core.List.{List}
-use mathlib.Core.Path.{_≡_, _∙_, ap}
+use mathlib.Core.Path.{_≡_, refl, _∙_, ap}
 use lib.Dec.{ltb, eqb}
 use lib.ListN.{getD}
 use borrow.Author.Tests.{lt-ltb, le-ltb, le-leb, lt-leb, eq-eqb, ne-eqb, eqb-true}
@@ -13,10 +13,10 @@ use Rattle.rules.specs.Rules.{isEmpty}
 use Rattle.folds.proofs.Folds.{picked, passed, both}
 use Rattle.lines.specs.declared.Kind.{Kind}
 use Rattle.lines.specs.declared.Line.{Line}
-use Rattle.lines.specs.Lines.{limitsKept, valueAt, shaped, inTree}
+use Rattle.lines.specs.Lines.{busKind, limitsKept, valueAt, shaped, inTree}
 use Rattle.lines.proofs.Limits.{yes-not, no-not}
 use Rattle.records.specs.Records.{withRoot, withChild, withAcc}
-use Rattle.placing.specs.Placing.{refusedAt, given, intInOrder, rootRule, childLine, intLine, accLine, recordLine, treeLine}
+use Rattle.placing.specs.Placing.{refusedAt, given, busLine, intInOrder, rootRule, childLine, intLine, accLine, recordLine, treeLine}
 
 module _ (n : ℕ) (t : Tree) (v : List ℕ) where
   pub child-taken : isEmpty (portOf t (getD v 1 0) (getD v 2 0)) ≡ false → childLine n t v ≡ refusedAt Taken n
@@ -48,6 +48,11 @@ module _ (n : ℕ) (t : Tree) (v : List ℕ) where
   acc-given h k f = passed _ _ _ (lt-leb _ _ h) ∙ passed _ _ _ (le-ltb _ _ k) ∙ passed _ _ _ (no-not _ f)
 
 module _ (n : ℕ) (t : Tree) (l : Line) where
+  -- a bus line under either name
+  pub bus-record : (a : Bool) → recordLine (busKind a) n t l ≡ busLine n t a (l .values)
+  bus-record true = refl
+  bus-record false = refl
+
   pub int-order : intInOrder t l ≡ false → intLine n t l ≡ refusedAt Order n
   unfolding intLine
   int-order e = picked _ _ _ (yes-not _ e)

@@ -3,7 +3,8 @@
 --
 -- refusedAt r n        refused by r at line n; the tree given beside it is the empty one
 -- given t              accepted, with tree t
--- busLine n t v        a bus line: "One bus line comes first"
+-- busLine n t a v      a bus line, a bus3 line where a is true: "One bus line comes first"; "bus3 is a record name beside bus, with its fields
+--                      and its place" (document 02, item 7)
 -- intInOrder t l       an int line comes after the bus line and before any acc line ("then int lines 0, 1, 2 and on
 --                      without a gap, a parent smaller than its child, then acc lines")
 -- rootRule l           "Interconnect 0 is the root, and its parent and port are both "-""; "On another int line "-" there
@@ -16,7 +17,7 @@
 -- recordLine k n t l   a line of record k, by its name
 -- treeLine n t l       "Within a tree line: 1, then 2 field by field, 3, 4, 5"
 use Prim.Native.Nat.{ℕ}
-use mathlib.Core.Bool.{Bool, _&&_, not}
+use mathlib.Core.Bool.{Bool, true, false, _&&_, not}
 use mathlib.Core.List.{List}
 use lib.ListN.{getD}
 use lib.Dec.{leb, ltb, eqb}
@@ -27,7 +28,7 @@ use Rattle.folds.specs.Fold.{pick, all}
 use Rattle.model.specs.Tree.{portOf, phiOf, levelOf}
 use Rattle.rules.specs.Rules.{isEmpty}
 use Rattle.lines.specs.declared.Kind.{Kind}
-use Rattle.lines.specs.declared.Kind.the-variants.{NoRecord, BusLine, IntLine, AccLine, OfferLine}
+use Rattle.lines.specs.declared.Kind.the-variants.{NoRecord, BusLine, IntLine, AccLine, OfferLine, Bus3Line}
 use Rattle.lines.specs.declared.Line.{Line}
 use Rattle.lines.specs.declared.FileAnswer.the-variants.{Accepted, Refused}
 use Rattle.model.specs.Builders.{withBus}
@@ -41,8 +42,8 @@ refusedAt r n = record { answer = Refused r n; tree = emptyTree }
 abbrev pub given : Tree → TreeRead
 given t = record { answer = Accepted; tree = t }
 
-unfoldable pub busLine : ℕ → Tree → List ℕ → TreeRead
-busLine n t v = pick (ltb 0 (t .bus .window)) (refusedAt Order n) (given (withBus t (busOf v)))
+unfoldable pub busLine : ℕ → Tree → Bool → List ℕ → TreeRead
+busLine n t axi3 v = pick (ltb 0 (t .bus .window)) (refusedAt Order n) (given (withBus t (busOf axi3 v)))
 
 abbrev pub rootRule : Line → Bool
 rootRule l =
@@ -83,10 +84,11 @@ finish n t = pick (complete t) (given t) (refusedAt Order n)
 -- the records by name
 abbrev pub recordLine : Kind → ℕ → Tree → Line → TreeRead
 recordLine NoRecord n t l = refusedAt Shape n
-recordLine BusLine n t l = busLine n t (l .values)
+recordLine BusLine n t l = busLine n t false (l .values)
 recordLine IntLine n t l = intLine n t l
 recordLine AccLine n t l = accLine n t (l .values)
 recordLine OfferLine n t l = refusedAt Shape n
+recordLine Bus3Line n t l = busLine n t true (l .values)
 
 unfoldable pub treeLine : ℕ → Tree → Line → TreeRead
 treeLine n t l =

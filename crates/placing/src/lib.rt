@@ -22,7 +22,7 @@ ghost use lib.Dec.{ltb};
 ghost use Rattle.folds.specs.Fold.{all};
 ghost use Rattle.rules.specs.Rules.{isEmpty};
 ghost use Rattle.model.specs.Tree.{portOf, phiOf};
-ghost use Rattle.lines.specs.Lines.{limitsKept, inTree};
+ghost use Rattle.lines.specs.Lines.{busKind, limitsKept, inTree};
 ghost use Rattle.records.specs.Records.{hasRoom};
 ghost use Rattle.placing.specs.Placing.{refusedAt, given, busLine, intInOrder, rootRule, childLine, intLine, accLine, finish, treeLine};
 
@@ -52,14 +52,14 @@ fn accepted(t: Tree) -> TreeRead
     }
 }
 
-fn bus_line(n: u32, t: Tree, v: [u64; 11]) -> TreeRead
-    requires { ⌜ limitsKept Kind.BusLine v ≡ true ⌝ }
-    ensures { λ r. ⌜ r ≡ busLine n t v ⌝ }
+fn bus_line(n: u32, t: Tree, axi3: bool, v: [u64; 11]) -> TreeRead
+    requires { ⌜ limitsKept (busKind axi3) v ≡ true ⌝ }
+    ensures { λ r. ⌜ r ≡ busLine n t axi3 v ⌝ }
 {
     if 0 < t.bus.window {
         return refused(Refusal::Order, n);
     }
-    accepted(store_bus(t, v))
+    accepted(store_bus(t, axi3, v))
 }
 
 // Parent and port of the root are "-", those of any other interconnect numbers, the parent the smaller one.
@@ -171,6 +171,7 @@ fn in_tree(kind: Kind) -> bool
         Kind::IntLine => true,
         Kind::AccLine => true,
         Kind::OfferLine => false,
+        Kind::Bus3Line => true,
     }
 }
 
@@ -188,9 +189,10 @@ pub fn tree_line(n: u32, t: Tree, l: Line) -> TreeRead
     }
     match kind {
         Kind::NoRecord => refused(Refusal::Shape, n),
-        Kind::BusLine => bus_line(n, t, v),
+        Kind::BusLine => bus_line(n, t, false, v),
         Kind::IntLine => int_line(n, t, l),
         Kind::AccLine => acc_line(n, t, v),
         Kind::OfferLine => refused(Refusal::Shape, n),
+        Kind::Bus3Line => bus_line(n, t, true, v),
     }
 }

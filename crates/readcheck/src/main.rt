@@ -1,5 +1,5 @@
 // Runs the readers on edge files and writes the answer to each: for a tree its interconnects, accelerators and return
-// delay, for a trace its requests and the sum of their counts, walked from the bytes; or the refusal's number and line.
+// delay, and bus3 where that is the name of its bus line, for a trace its requests and the sum of their counts, walked from the bytes; or the refusal's number and line.
 //
 // Standard input holds the files, each after a line of three fields: t for a tree or o for a trace, a name, and how many
 // bytes the file has. A trace is read on the first tree of document 01's report. Files near the size limit are made here.
@@ -47,8 +47,11 @@ fn show(answer: FileAnswer) -> bool {
     }
 }
 
-fn figure_delay(b: Bus) {
+fn figure_bus(b: Bus) {
     figure(b.delay as u64);
+    if b.axi3 {
+        words(b"\tbus3");
+    }
 }
 
 fn try_tree(name: &[u8], s: &[u8]) {
@@ -59,7 +62,7 @@ fn try_tree(name: &[u8], s: &[u8]) {
     if show(answer) {
         figure(t.ints as u64);
         figure(t.accs as u64);
-        figure_delay(t.bus);
+        figure_bus(t.bus);
     }
     words(b"\n");
 }

@@ -14,7 +14,7 @@ use Rattle.text.specs.declared.Field.{Field}
 use Rattle.text.specs.Text.{partLength, fieldOf}
 use Rattle.text.proofs.Parts.{part-most}
 use Rattle.lines.specs.declared.Kind.{Kind}
-use Rattle.lines.specs.declared.Kind.the-variants.{NoRecord, BusLine, IntLine, AccLine, OfferLine}
+use Rattle.lines.specs.declared.Kind.the-variants.{NoRecord, BusLine, IntLine, AccLine, OfferLine, Bus3Line}
 use Rattle.lines.specs.declared.Form.{Form}
 use Rattle.lines.specs.Lines.{formOf}
 use Rattle.lines.specs.LineText.{mayStand}
@@ -23,12 +23,13 @@ use Rattle.reasons.specs.Words.{firstField, fromPart, sentence}
 use Rattle.reasons.specs.Reasons.{fieldBytes, readable, unread, unreadText, malformedText, outside, limitText, fieldText, totalText}
 use Rattle.reasons.specs.Reasons.{valueText, has, foundText, fromLine, slotBefore, causeText}
 
-pub first-field-most : (k : Kind) → firstField k ≤ 31
+pub first-field-most : (k : Kind) → firstField k ≤ 32
 first-field-most NoRecord = omega arith
 first-field-most BusLine = omega arith
 first-field-most IntLine = omega arith
 first-field-most AccLine = omega arith
 first-field-most OfferLine = omega arith
+first-field-most Bus3Line = omega arith
 
 -- a field of a record is one of eleven
 pub field-below : (i : ℕ) (k : Kind) {F : Form} → F ≡ formOf k → i < F .count → i < 11

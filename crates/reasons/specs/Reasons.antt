@@ -44,7 +44,7 @@ use Rattle.text.specs.Text.{partLength, fieldOf}
 use Rattle.text.specs.Write.{decimalText}
 use Rattle.put.specs.Page.{bytes, ended}
 use Rattle.lines.specs.declared.Kind.{Kind}
-use Rattle.lines.specs.declared.Kind.the-variants.{NoRecord, BusLine, IntLine, AccLine, OfferLine}
+use Rattle.lines.specs.declared.Kind.the-variants.{NoRecord, BusLine, IntLine, AccLine, OfferLine, Bus3Line}
 use Rattle.lines.specs.declared.Line.{Line}
 use Rattle.lines.specs.declared.Form.{Form}
 use Rattle.lines.specs.Lines.{lineOf, formOf, limitKept, valueAt, inTree, inTrace, isRecord}
@@ -137,6 +137,7 @@ onPort BusLine = false
 onPort IntLine = true
 onPort AccLine = true
 onPort OfferLine = false
+onPort Bus3Line = false
 
 abbrev pub isInt : Kind → Bool
 isInt NoRecord = false
@@ -144,6 +145,7 @@ isInt BusLine = false
 isInt IntLine = true
 isInt AccLine = false
 isInt OfferLine = false
+isInt Bus3Line = false
 
 abbrev pub orderRow : Kind → ℕ
 orderRow NoRecord = 3
@@ -151,6 +153,7 @@ orderRow BusLine = 29
 orderRow IntLine = 30
 orderRow AccLine = 31
 orderRow OfferLine = 3
+orderRow Bus3Line = 29
 
 abbrev pub numberRow : ℕ → ℕ
 numberRow n = pick (ltb 16 n) 0 (pick (ltb 12 n) (22 + n) n)

@@ -6,7 +6,7 @@
 -- marked b x           the byte b of a sentence, or the number x where b is #
 -- filled s x y         the sentence s with x in place of its first # and y in place of each later one
 -- sentence j x y       row j of the sentences, with x and y in it
--- names                the field names of bus, int, acc and o in the order of the paper, and then the record names
+-- names                the field names of bus, int, acc and o in the order of the paper, and then the record names; bus3 has the fields of bus
 -- recordRow k          the row of a record's name; firstField k: the row of its first field's name
 -- fieldRow k i         the row of the name of field i of record k; past the eleventh field a row that is empty
 -- recordName k         the name of record k
@@ -24,7 +24,7 @@ use Rattle.text.specs.Text.{partLength}
 use Rattle.text.specs.Write.{decimalText}
 use Rattle.put.specs.Page.{bytes}
 use Rattle.lines.specs.declared.Kind.{Kind}
-use Rattle.lines.specs.declared.Kind.the-variants.{NoRecord, BusLine, IntLine, AccLine, OfferLine}
+use Rattle.lines.specs.declared.Kind.the-variants.{NoRecord, BusLine, IntLine, AccLine, OfferLine, Bus3Line}
 
 unfoldable pub fromPart : ℕ → ℕ → List ℕ → List ℕ
 fromPart sep k [] = []
@@ -58,7 +58,7 @@ sentences =
     ++ bytes "the last line does not end in LF\n"
     ++ bytes "the line is empty\n"
     -- 18 to 23: a wrong shape, by record and fields; what was found stands before 18, 22 and 23, a record name before 21
-    ++ bytes " is no record: a tree has bus, int and acc, a trace has o\n"
+    ++ bytes " is no record: a tree has bus or bus3, int and acc, a trace has o\n"
     ++ bytes "this is a line of a trace, in place of a tree\n"
     ++ bytes "this is a line of a tree, in place of a trace\n"
     ++ bytes " has # fields, and # were found\n"
@@ -71,11 +71,11 @@ sentences =
     ++ bytes "# is smaller than # in the line before\n"
     ++ bytes "the tree has no accelerator #\n"
     -- 29 to 31: said of a record; 32: of the end of a file
-    ++ bytes ": wrong order: one bus line comes first, and no other\n"
-    ++ bytes " #: wrong order: int lines are 0, 1, 2 and on without a gap, after the bus line and before the acc lines; "
+    ++ bytes ": wrong order: one bus or bus3 line comes first, and no other\n"
+    ++ bytes " #: wrong order: int lines are 0, 1, 2 and on without a gap, after the bus or bus3 line and before the acc lines; "
     ++ bytes "parent and port are \"-\" on int 0 alone, and a parent is smaller than its child\n"
     ++ bytes " #: wrong order: acc lines come after the int lines, each number once, on an interconnect that an int line names\n"
-    ++ bytes "the file ends too early: the bus line, int 0, an acc line, or an acc number below the highest is missing\n"
+    ++ bytes "the file ends too early: the bus or bus3 line, int 0, an acc line, or an acc number below the highest is missing\n"
     -- 33: the number 2 without a line
     ++ bytes "above 65536, the limit of a file's bytes and of SLOTS\n"
     -- 34: a wrong count of fields, said of a record whose last field may be left out
@@ -83,7 +83,7 @@ sentences =
     -- 35 to 38: the cause of number 13 to 16 in general
     ++ bytes "the lent buffer is shorter than the text of the tree\n"
     ++ bytes "the accelerator has no transactions on this channel\n"
-    ++ bytes "a burst has 1 to 256 beats, and a beat has 1, 2, 4, 8, 16, 32, 64 or 128 bytes\n"
+    ++ bytes "a burst has 1 to 256 beats, 1 to 16 where the tree begins with bus3, and a beat has 1, 2, 4, 8, 16, 32, 64 or 128 bytes\n"
     ++ bytes "the burst crosses a multiple of 4096\n"
 
 -- # is byte 35
@@ -103,24 +103,26 @@ names =
     ++ bytes "number\nparent\nport\ng\n"
     ++ bytes "number\ninterconnect\nport\nphi\nbudget\nNr\nNw\nC\nT\n"
     ++ bytes "slot\naccelerator\ncount\n"
-    ++ bytes "bus\nint\nacc\no\n"
+    ++ bytes "bus\nint\nacc\no\nbus3\n"
 
 abbrev pub recordRow : Kind → ℕ
-recordRow NoRecord = 31
+recordRow NoRecord = 32
 recordRow BusLine = 27
 recordRow IntLine = 28
 recordRow AccLine = 29
 recordRow OfferLine = 30
+recordRow Bus3Line = 31
 
 abbrev pub firstField : Kind → ℕ
-firstField NoRecord = 31
+firstField NoRecord = 32
 firstField BusLine = 0
 firstField IntLine = 11
 firstField AccLine = 15
 firstField OfferLine = 24
+firstField Bus3Line = 0
 
 abbrev pub fieldRow : Kind → ℕ → ℕ
-fieldRow k i = pick (ltb i 11) (firstField k + i) 31
+fieldRow k i = pick (ltb i 11) (firstField k + i) 32
 
 abbrev pub recordName : Kind → List ℕ
 recordName k = partAt 10 (recordRow k) names

@@ -46,6 +46,7 @@ pub fn fits(trace: bool, kind: Kind) -> bool
         Kind::IntLine => !trace,
         Kind::AccLine => !trace,
         Kind::OfferLine => trace,
+        Kind::Bus3Line => !trace,
     }
 }
 
@@ -161,7 +162,7 @@ fn put_no_record(out: &mut [u8], at: usize, name: &[u8]) -> usize
 
 // A line of a record has this count of fields, which is not the count that it may have.
 fn put_count(out: &mut [u8], at: usize, kind: Kind, count: usize) -> usize
-    ensures { λ r. ⌜ Put 48134 (now (out .entry)) at (countText kind count) (now (out .exit)) r ⌝ }
+    ensures { λ r. ⌜ Put 48139 (now (out .entry)) at (countText kind count) (now (out .exit)) r ⌝ }
 {
     let f = form_of(kind);
     if f.least == f.count {

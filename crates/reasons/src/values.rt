@@ -86,6 +86,7 @@ fn on_port(kind: Kind) -> bool
         Kind::IntLine => true,
         Kind::AccLine => true,
         Kind::OfferLine => false,
+        Kind::Bus3Line => false,
     }
 }
 
@@ -98,6 +99,7 @@ fn is_int(kind: Kind) -> bool
         Kind::IntLine => true,
         Kind::AccLine => false,
         Kind::OfferLine => false,
+        Kind::Bus3Line => false,
     }
 }
 
@@ -111,6 +113,7 @@ fn order_row(kind: Kind) -> usize
         Kind::IntLine => 30,
         Kind::AccLine => 31,
         Kind::OfferLine => 3,
+        Kind::Bus3Line => 29,
     }
 }
 

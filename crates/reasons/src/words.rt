@@ -71,7 +71,7 @@ pub fn put_sentence(out: &mut [u8], at: usize, j: usize, x: u64, y: u64) -> usiz
         a space stands in the line, whose fields are parted by one tab\n\
         the last line does not end in LF\n\
         the line is empty\n\
-        \x20is no record: a tree has bus, int and acc, a trace has o\n\
+        \x20is no record: a tree has bus or bus3, int and acc, a trace has o\n\
         this is a line of a trace, in place of a tree\n\
         this is a line of a tree, in place of a trace\n\
         \x20has # fields, and # were found\n\
@@ -82,28 +82,28 @@ pub fn put_sentence(out: &mut [u8], at: usize, j: usize, x: u64, y: u64) -> usiz
         below interconnect # the level would be 5, and 4 is the highest\n\
         # is smaller than # in the line before\n\
         the tree has no accelerator #\n\
-        : wrong order: one bus line comes first, and no other\n\
-        \x20#: wrong order: int lines are 0, 1, 2 and on without a gap, after the bus line and before the acc lines; \
+        : wrong order: one bus or bus3 line comes first, and no other\n\
+        \x20#: wrong order: int lines are 0, 1, 2 and on without a gap, after the bus or bus3 line and before the acc lines; \
         parent and port are \"-\" on int 0 alone, and a parent is smaller than its child\n\
         \x20#: wrong order: acc lines come after the int lines, each number once, on an interconnect that an int line names\n\
-        the file ends too early: the bus line, int 0, an acc line, or an acc number below the highest is missing\n\
+        the file ends too early: the bus or bus3 line, int 0, an acc line, or an acc number below the highest is missing\n\
         above 65536, the limit of a file's bytes and of SLOTS\n\
         \x20has # fields, or one more for the return delay, and # were found\n\
         the lent buffer is shorter than the text of the tree\n\
         the accelerator has no transactions on this channel\n\
-        a burst has 1 to 256 beats, and a beat has 1, 2, 4, 8, 16, 32, 64 or 128 bytes\n\
+        a burst has 1 to 256 beats, 1 to 16 where the tree begins with bus3, and a beat has 1, 2, 4, 8, 16, 32, 64 or 128 bytes\n\
         the burst crosses a multiple of 4096\n";
     put_filled(out, at, part(sentences, 10, j), x, y)
 }
 
 fn put_name(out: &mut [u8], at: usize, k: usize) -> usize
-    ensures { λ r. ⌜ Put 134 (now (out .entry)) at (partAt 10 k names) (now (out .exit)) r ⌝ }
+    ensures { λ r. ⌜ Put 139 (now (out .entry)) at (partAt 10 k names) (now (out .exit)) r ⌝ }
 {
     let names = b"P\ntA\ndA\ndD\ndB\npR\npW\ntD\ntB\nB\nr\n\
         number\nparent\nport\ng\n\
         number\ninterconnect\nport\nphi\nbudget\nNr\nNw\nC\nT\n\
         slot\naccelerator\ncount\n\
-        bus\nint\nacc\no\n";
+        bus\nint\nacc\no\nbus3\n";
     put_bytes(out, at, part(names, 10, k))
 }
 
@@ -111,11 +111,12 @@ fn record_row(kind: Kind) -> usize
     ensures { λ r. ⌜ r ≡ recordRow kind ⌝ }
 {
     match kind {
-        Kind::NoRecord => 31,
+        Kind::NoRecord => 32,
         Kind::BusLine => 27,
         Kind::IntLine => 28,
         Kind::AccLine => 29,
         Kind::OfferLine => 30,
+        Kind::Bus3Line => 31,
     }
 }
 
@@ -123,11 +124,12 @@ fn first_field(kind: Kind) -> usize
     ensures { λ r. ⌜ r ≡ firstField kind ⌝ }
 {
     match kind {
-        Kind::NoRecord => 31,
+        Kind::NoRecord => 32,
         Kind::BusLine => 0,
         Kind::IntLine => 11,
         Kind::AccLine => 15,
         Kind::OfferLine => 24,
+        Kind::Bus3Line => 0,
     }
 }
 
@@ -137,11 +139,11 @@ fn field_row(kind: Kind, i: usize) -> usize
     if i < 11 {
         return first_field(kind) + i;
     }
-    31
+    32
 }
 
 fn put_record(out: &mut [u8], at: usize, kind: Kind) -> usize
-    ensures { λ r. ⌜ Put 134 (now (out .entry)) at (recordName kind) (now (out .exit)) r ⌝ }
+    ensures { λ r. ⌜ Put 139 (now (out .entry)) at (recordName kind) (now (out .exit)) r ⌝ }
 {
     put_name(out, at, record_row(kind))
 }
@@ -199,7 +201,7 @@ pub fn put_quoted(out: &mut [u8], at: usize, s: &[u8]) -> usize
 
 // Sentence j, said of a record.
 pub fn put_of_record(out: &mut [u8], at: usize, kind: Kind, j: usize, x: u64, y: u64) -> usize
-    ensures { λ r. ⌜ Put 48134 (now (out .entry)) at (recordSays kind j x y) (now (out .exit)) r ⌝ }
+    ensures { λ r. ⌜ Put 48139 (now (out .entry)) at (recordSays kind j x y) (now (out .exit)) r ⌝ }
 {
     let next = put_record(out, at, kind);
     put_sentence(out, next, j, x, y)

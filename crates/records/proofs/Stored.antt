@@ -1,18 +1,32 @@
 -- A record that can be held is stored: the test picks it. And what an interconnect and an accelerator are stored in.
 use Prim.Native.Nat.{ℕ, max, _+_, _<_}
-use mathlib.Core.Bool.{true}
+use mathlib.Core.Bool.{Bool, true, false}
 use mathlib.Core.List.{List}
 use mathlib.Core.Path.{_≡_, _∙_, ap, ap₂}
+use native.Mathlib.Omega.{arith}
+use lib.Dec.{leb}
 use lib.ListN.{getD, set}
-use borrow.Author.Tests.{lt-ltb, ltb-true}
+use borrow.Author.Tests.{lt-ltb, ltb-true, le-leb, leb-true}
+use Rattle.folds.specs.Fold.{all, within}
 use Rattle.model.specs.declared.Tree.{Tree}
 use Rattle.model.specs.declared.Accelerator.{Accelerator}
 use Rattle.model.specs.declared.Port.the-variants.{Acc, Int}
 use Rattle.folds.proofs.Folds.{picked, both, joined}
-use Rattle.lines.specs.declared.Kind.the-variants.{BusLine, IntLine, AccLine}
-use Rattle.lines.specs.Lines.{limitsKept}
+use Rattle.lines.specs.declared.Kind.the-variants.{BusLine, IntLine, AccLine, Bus3Line}
+use Rattle.lines.specs.Lines.{busKind, formOf, limitKept, limitsKept}
 use Rattle.model.specs.Builders.{withBus, withAccelerators}
 use Rattle.records.specs.Records.{withPort, withInterconnect, busOf, withRoot, withChild, accOf, withAcc, busStored, hasRoom, rootStored, childStored, accStored}
+
+-- the fields of a bus3 line are in the limits of a bus line: only the burst length's differ
+pub narrower : (a : Bool) (v : List ℕ) → limitsKept (busKind a) v ≡ true → limitsKept BusLine v ≡ true
+unfolding all
+narrower false v e = e
+narrower true v e =
+    let h = both (all 10 (limitKept (formOf Bus3Line) v)) (within 0 (getD v 10 0) 15) e in
+    let g = both (all 9 (limitKept (formOf Bus3Line) v)) (within 1 (getD v 9 0) 16) (h .0) in
+    let b = both (leb 1 (getD v 9 0)) _ (g .1) in
+    let few = le-leb (getD v 9 0) 256 (omega (arith, leb-true (getD v 9 0) 16 (b .1))) in
+    joined _ _ (joined _ _ (g .0) (joined _ _ (b .0) few)) (h .1)
 
 module _ (t : Tree) (v : List ℕ) where
   -- an int line that has room is in its limits, and there is an entry left; and the other way
@@ -22,9 +36,9 @@ module _ (t : Tree) (v : List ℕ) where
   pub has-room : limitsKept IntLine v ≡ true → t .ints < 15 → hasRoom t v ≡ true
   has-room e h = joined _ _ e (lt-ltb _ _ h)
 
-  pub bus-stored : limitsKept BusLine v ≡ true → busStored t v ≡ withBus t (busOf v)
+  pub bus-stored : (a : Bool) → limitsKept (busKind a) v ≡ true → busStored t a v ≡ withBus t (busOf a v)
   unfolding busStored
-  bus-stored e = picked _ _ _ e
+  bus-stored a e = picked _ _ _ e
 
   pub root-stored : hasRoom t v ≡ true → rootStored t v ≡ withRoot t (getD v 3 0)
   unfolding rootStored

@@ -5,18 +5,18 @@
 -- emptyTree            the tree before the first line: no window, no interconnect, no accelerator. While a file is read,
 --                      what is read so far is held as a tree: a window of 0 says that no bus line was read, a phi of 0
 --                      that the accelerator's line was not read
--- busOf v, accOf v     the bus and the accelerator that the fields v write
+-- busOf a v            the bus that the fields v of a bus line write, of a bus3 line where a is true; accOf v: the accelerator
 -- withPort t j p x     tree t with port p of interconnect j carrying x
 -- withInterconnect     tree t with one interconnect more, number j, its eight ports empty
 -- withRoot t g         tree t with the root; withChild t j p q g: with interconnect j on port q of interconnect p
 -- withAcc t v          tree t with the accelerator that the fields v write
--- busStored t v        tree t with the bus that the fields v write, and t itself where a field is outside its limits
+-- busStored t a v      tree t with the bus that the fields v so write, and t itself where a field is outside its limits
 -- hasRoom t v          the fields v of an int line are in their limits, and tree t has an entry left for an interconnect
 -- rootStored t v       tree t with the root that the fields v write, and t itself where it has no room; childStored t v: with
 --                      another interconnect
 -- accStored t v        tree t with the accelerator that the fields v write, and t itself where a field is outside its limits
 use Prim.Native.Nat.{ℕ, _+_, max}
-use mathlib.Core.Bool.{Bool, _&&_}
+use mathlib.Core.Bool.{Bool, false, _&&_}
 use mathlib.Core.List.{List}
 use lib.ListN.{getD, set, replicate}
 use lib.Dec.{ltb}
@@ -28,11 +28,11 @@ use Rattle.model.specs.declared.Port.the-variants.{Acc, Int}
 use Rattle.folds.specs.Fold.{pick}
 use Rattle.model.specs.Tree.{emptyCell, noInterconnect, noAccelerator, interconnectOf}
 use Rattle.model.specs.Builders.{withBus, withInterconnects, withAccelerators, carrying}
-use Rattle.lines.specs.declared.Kind.the-variants.{BusLine, IntLine, AccLine}
-use Rattle.lines.specs.Lines.{limitsKept}
+use Rattle.lines.specs.declared.Kind.the-variants.{IntLine, AccLine}
+use Rattle.lines.specs.Lines.{busKind, limitsKept}
 
 abbrev pub noBus : Bus
-noBus = record { window = 0; ta = 0; da = 0; dd = 0; db = 0; pr = 0; pw = 0; td = 0; tb = 0; burst = 0; delay = 0 }
+noBus = record { window = 0; ta = 0; da = 0; dd = 0; db = 0; pr = 0; pw = 0; td = 0; tb = 0; burst = 0; delay = 0; axi3 = false }
 
 abbrev pub emptyTree : Tree
 emptyTree =
@@ -44,8 +44,8 @@ emptyTree =
       accs = 0;
     }
 
-abbrev pub busOf : List ℕ → Bus
-busOf v =
+abbrev pub busOf : Bool → List ℕ → Bus
+busOf axi3 v =
     record {
       window = getD v 0 0;
       ta = getD v 1 0;
@@ -58,6 +58,7 @@ busOf v =
       tb = getD v 8 0;
       burst = getD v 9 0;
       delay = getD v 10 0;
+      axi3 = axi3;
     }
 
 abbrev pub withPort : Tree → ℕ → ℕ → Port → Tree
@@ -92,8 +93,8 @@ withAcc t v =
     withAccelerators (withPort t (getD v 1 0) (getD v 2 0) (Acc (getD v 0 0))) (max (t .accs) (getD v 0 0 + 1))
     (set (t .accelerators) (getD v 0 0) (accOf v))
 
-unfoldable pub busStored : Tree → List ℕ → Tree
-busStored t v = pick (limitsKept BusLine v) (withBus t (busOf v)) t
+unfoldable pub busStored : Tree → Bool → List ℕ → Tree
+busStored t axi3 v = pick (limitsKept (busKind axi3) v) (withBus t (busOf axi3 v)) t
 
 -- v: number, parent, port, g
 abbrev pub hasRoom : Tree → List ℕ → Bool

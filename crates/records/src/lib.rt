@@ -12,7 +12,7 @@ use model::Tree;
 ghost use mathlib.Core.Path.{_≡_};
 ghost use mathlib.Core.Bool.{true};
 ghost use Prim.Native.Nat.{_<_, max};
-ghost use Rattle.lines.specs.Lines.{limitsKept};
+ghost use Rattle.lines.specs.Lines.{busKind, limitsKept};
 ghost use Rattle.records.specs.Records.{emptyTree, busOf, withPort, withInterconnect, accOf, busStored, hasRoom, rootStored, childStored, accStored};
 
 // The tree before the first line.
@@ -31,6 +31,7 @@ pub fn empty_tree() -> Tree
         tb: 0,
         burst: 0,
         delay: 0,
+        axi3: false,
     };
     let ports = [PortCell { port: Port::Empty }; 8];
     let interconnect = Interconnect {
@@ -58,9 +59,19 @@ pub fn empty_tree() -> Tree
     }
 }
 
-fn bus_of(v: [u64; 11]) -> Bus
-    requires { ⌜ limitsKept Kind.BusLine v ≡ true ⌝ }
-    ensures { λ r. ⌜ r ≡ busOf v ⌝ }
+// The record of a bus: bus3 where it speaks AXI3.
+fn bus_kind(axi3: bool) -> Kind
+    ensures { λ r. ⌜ r ≡ busKind axi3 ⌝ }
+{
+    if axi3 {
+        return Kind::Bus3Line;
+    }
+    Kind::BusLine
+}
+
+fn bus_of(axi3: bool, v: [u64; 11]) -> Bus
+    requires { ⌜ limitsKept (busKind axi3) v ≡ true ⌝ }
+    ensures { λ r. ⌜ r ≡ busOf axi3 v ⌝ }
 {
     Bus {
         window: v[0] as u16,
@@ -74,17 +85,18 @@ fn bus_of(v: [u64; 11]) -> Bus
         tb: v[8] as u8,
         burst: v[9] as u16,
         delay: v[10] as u8,
+        axi3: axi3,
     }
 }
 
-// The fields v of a bus line stored.
-pub fn store_bus(t: Tree, v: [u64; 11]) -> Tree
-    ensures { λ r. ⌜ r ≡ busStored t v ⌝ }
+// The fields v of a bus line stored, or of a bus3 line, where the bus speaks AXI3.
+pub fn store_bus(t: Tree, axi3: bool, v: [u64; 11]) -> Tree
+    ensures { λ r. ⌜ r ≡ busStored t axi3 v ⌝ }
 {
-    if !limits_kept(Kind::BusLine, v) {
+    if !limits_kept(bus_kind(axi3), v) {
         return t;
     }
-    let b = bus_of(v);
+    let b = bus_of(axi3, v);
     let mut r = t;
     r.bus = b;
     r

@@ -1,20 +1,21 @@
 -- The rules of a tree and of a state as plain facts: each test that passes is read as what it tests.
 use Prim.Native.Nat.{ℕ, zero, suc, _+_, _%_, _^_, _≤_, _<_}
-use mathlib.Core.Bool.{true}
+use mathlib.Core.Bool.{Bool, true, false}
 use mathlib.Core.List.{List, [], _∷_}
 use mathlib.Core.Path.{_≡_, refl, sym, _∙_, ap, subst}
 use native.Mathlib.Decide.{decLt, ℕ-discrete}
 use native.Mathlib.Omega.{arith}
 use lib.ListN.{getD, length}
-use lib.Dec.{eqb}
+use lib.Dec.{eqb, lit≤}
 use borrow.Author.Tests.{eqb-true, lt-ltb, le-ltb, eq-eqb, ne-eqb}
 use Rattle.model.specs.declared.Tree.{Tree}
 use Rattle.model.specs.declared.State.{State}
+use Rattle.model.specs.declared.Bus.{Bus}
 use Rattle.model.specs.declared.Channel.{Channel}
 use Rattle.model.specs.declared.Port.{Port}
 use Rattle.model.specs.declared.Port.the-variants.{Empty, Acc, Int}
 use Rattle.folds.specs.Fold.{pick}
-use Rattle.model.specs.Tree.{noInterconnect, noAccelerator, interconnectOf, portOf, granularityOf, parentOf, parentPortOf, homeOf, homePortOf, jobOf, phiOf, limitOf, budgetOf, levelOf, above, delayOf, waitingOf, returnsOf, outstandingOf, admittedOf, lastOf, allowanceOf}
+use Rattle.model.specs.Tree.{beatLimit, noInterconnect, noAccelerator, interconnectOf, portOf, granularityOf, parentOf, parentPortOf, homeOf, homePortOf, jobOf, phiOf, limitOf, budgetOf, levelOf, above, delayOf, waitingOf, returnsOf, outstandingOf, admittedOf, lastOf, allowanceOf}
 use Rattle.model.specs.Beneath.{waitsUnder}
 use Rattle.rules.specs.Rules.{busKeeps, carries, isAcc, isInt, childPlaced, usedInterconnect, usedAccelerator, unusedAccelerator, treeKeeps, sized, recordKeeps, turnKeeps, stateKeeps, keeps}
 use Rattle.folds.proofs.Folds.{both, joined, tests, picked, passed, clash}
@@ -46,6 +47,13 @@ pub record Sound (t : Tree) : Type 0 where
       → (a < t .accs) × (homeOf t a ≡ j) × (homePortOf t a ≡ p)
   pub int-place : (j p k : ℕ) → j < t .ints → p < 8 → portOf t j p ≡ Int k
       → (0 < k) × (k < t .ints) × (parentOf t k ≡ j) × (parentPortOf t k ≡ p)
+
+-- no bus takes bursts of more than 256 beats, one of AXI3 none of more than 16
+pub beat-most : (b : Bus) → beatLimit b ≤ 256
+beat-most b = go (b .axi3) where
+  go : (a : Bool) → pick a 16 256 ≤ 256
+  go true = lit≤ tt
+  go false = lit≤ tt
 
 -- the outstanding limit on a channel: none where the job has no transactions there, else phi
 pub limit-none : (t : Tree) (c : Channel) (a : ℕ) → jobOf t c a ≡ 0 → limitOf t c a ≡ 0

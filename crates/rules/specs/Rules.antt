@@ -1,7 +1,7 @@
 -- The rules of a configuration and of a state (document 01, "The tree on paper" and the last paragraph of "What is
 -- refused").
 --
--- busKeeps b             the bus line's limits
+-- busKeeps b             the bus line's limits; those of a bus3 line where it is one: "there B is at most 16" (document 02, item 7)
 -- carries t j p x        port p of interconnect j may carry x: what it names is in the tree and names this place
 -- isEmpty x              the port x carries nothing
 -- isAcc a x, isInt j x   the port x carries accelerator a, interconnect j
@@ -35,7 +35,7 @@ use Rattle.model.specs.declared.State.{State}
 use Rattle.model.specs.declared.Port.{Port}
 use Rattle.model.specs.declared.Port.the-variants.{Empty, Acc, Int}
 use Rattle.folds.specs.Fold.{pick, all, within}
-use Rattle.model.specs.Tree.{interconnectOf, portOf, granularityOf, parentOf, parentPortOf, homeOf, homePortOf, phiOf, limitOf, budgetOf, levelOf, acceleratorOf, delayOf, waitingOf, returnsOf, outstandingOf, admittedOf, lastOf, allowanceOf}
+use Rattle.model.specs.Tree.{beatLimit, interconnectOf, portOf, granularityOf, parentOf, parentPortOf, homeOf, homePortOf, phiOf, limitOf, budgetOf, levelOf, acceleratorOf, delayOf, waitingOf, returnsOf, outstandingOf, admittedOf, lastOf, allowanceOf}
 use Rattle.model.specs.Beneath.{waitsUnder}
 
 unfoldable pub busKeeps : Bus → Bool
@@ -49,7 +49,7 @@ busKeeps b =
     && within 0 (b .pw) 4095
     && within 1 (b .td) 255
     && within 1 (b .tb) 255
-    && within 1 (b .burst) 256
+    && within 1 (b .burst) (beatLimit b)
     && within 0 (b .delay) 15
 
 abbrev pub isEmpty : Port → Bool

@@ -7,6 +7,7 @@ use model::Tree;
 use model::access::accelerator_at;
 use model::access::admitted_of;
 use model::access::allowance_of;
+use model::access::beat_limit;
 use model::access::interconnect_at;
 use model::access::last_of;
 use model::access::level_of;
@@ -19,13 +20,21 @@ use model::access::waits_under;
 ghost use mathlib.Core.Path.{_≡_};
 ghost use Prim.Native.Nat.{_-_, min};
 ghost use Rattle.folds.specs.Fold.{all, within};
-ghost use Rattle.model.specs.Tree.{portOf};
+ghost use Rattle.model.specs.Tree.{beatLimit, portOf};
 ghost use Rattle.rules.specs.Rules.{busKeeps, isEmpty, isAcc, isInt, carries, rootPlaced, childPlaced, isPlaced, usedInterconnect, unusedInterconnect, interconnectKeeps, usedAccelerator, unusedAccelerator, acceleratorKeeps, treeKeeps, onTheWay, recordKeeps, turnKeeps, stateKeeps, keeps};
 
 fn in_limits(low: u64, x: u64, high: u64) -> bool
     ensures { λ r. ⌜ r ≡ within low x high ⌝ }
 {
     (low <= x) & (x <= high)
+}
+
+// The burst length has as many beats as a burst may have.
+fn burst_keeps(b: Bus) -> bool
+    ensures { λ r. ⌜ r ≡ within 1 (b .burst) (beatLimit b) ⌝ }
+{
+    let most = beat_limit(b);
+    in_limits(1, b.burst as u64, most as u64)
 }
 
 fn bus_keeps(b: Bus) -> bool
@@ -40,7 +49,7 @@ fn bus_keeps(b: Bus) -> bool
         & in_limits(0, b.pw as u64, 4095)
         & in_limits(1, b.td as u64, 255)
         & in_limits(1, b.tb as u64, 255)
-        & in_limits(1, b.burst as u64, 256)
+        & burst_keeps(b)
         & (b.delay <= 15)
 }
 

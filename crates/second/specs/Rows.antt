@@ -2,6 +2,7 @@
 --
 -- cellOf d r c         the number in column c of row r
 -- rowsOf d             how many rows there are; intsOf d, accsOf d: how many of them are int lines, acc lines
+-- isOlder d            the first line is named bus3
 -- intRow i             the row of interconnect i: int lines come right after the bus line, in order
 -- accRow d a           the row of accelerator a
 -- isOn d i p r         row r is there, after the bus line, and its block is on port p of interconnect i
@@ -26,6 +27,9 @@ intsOf d = numberAt d 529 0
 
 abbrev pub accsOf : List ℕ → ℕ
 accsOf d = numberAt d 530 0
+
+abbrev pub isOlder : List ℕ → Bool
+isOlder d = eqb (numberAt d 532 0) 1
 
 abbrev pub intRow : ℕ → ℕ
 intRow i = (i + 1) % 2 ^ 64

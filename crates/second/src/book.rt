@@ -1,10 +1,15 @@
 // The second reader of a tree. The tree is its lines: row r of the store holds the numbers of the file's line r + 1, eleven
-// to a row. Whatever a tree says is looked up by going through the rows.
+// to a row; whether its first line is named bus or bus3 stands beside them. Whatever a tree says is looked up by going through the rows.
+use crate::LONG_LET_IN;
+use crate::LONG_REFUSED;
+use crate::NO_WRONG_RULE;
 use crate::ORDER_FIRST;
 use crate::OTHER_CHANNEL;
+use crate::OTHER_NAME;
 use crate::Said;
 use crate::scan::ACC;
 use crate::scan::BUS;
+use crate::scan::BUS3;
 use crate::scan::INT;
 use crate::scan::Scan;
 use crate::scan::answer;
@@ -22,7 +27,7 @@ use store::clear;
 use store::get;
 use store::put;
 ghost use mathlib.Core.Path.{_≡_};
-ghost use Rattle.second.specs.Rows.{cellOf, rowsOf, intsOf, accsOf, intRow, accRow, isOn, blockOf, carriedOf};
+ghost use Rattle.second.specs.Rows.{cellOf, rowsOf, intsOf, accsOf, isOlder, intRow, accRow, isOn, blockOf, carriedOf};
 
 // How many rows there are, how many of them are int lines and acc lines, and for each accelerator its row.
 const ROWS: usize = 528;
@@ -35,6 +40,9 @@ const ROW_OF: usize = 560;
 
 // 1 if the configuration breaks its rules.
 const BROKEN: usize = 531;
+
+// 1 if the first line is named bus3.
+const OLDER: usize = 532;
 
 // The channels.
 pub const READ: usize = 0;
@@ -67,6 +75,18 @@ pub fn accs(d: &[usize; 16384]) -> usize
     ensures { λ r. ⌜ r ≡ accsOf (now (d .entry)) ⌝ }
 {
     get(d, ACCS, 0)
+}
+
+// Is the bus line of the tree named bus3? Then it is a tree of the older kind, AXI3.
+pub fn is_older(d: &[usize; 16384]) -> bool
+    ensures { λ r. ⌜ r ≡ isOlder (now (d .entry)) ⌝ }
+{
+    get(d, OLDER, 0) == 1
+}
+
+// The most beats that a burst has, and the most that B may be: 16 in AXI3, 256 in AXI4.
+pub fn most_beats(older: bool) -> usize {
+    if older { 16 } else { 256 }
 }
 
 // The row of an interconnect: int lines come right after the bus line, in order.
@@ -214,12 +234,17 @@ fn bus_shaped(numbers: usize, d: &[usize; 16384]) -> bool {
     false
 }
 
+// Is this the record name of a bus line, of either kind?
+fn is_bus(name: usize) -> bool {
+    (name == BUS) | (name == BUS3)
+}
+
 fn shaped(s: Scan, d: &[usize; 16384]) -> bool {
     if s.bad {
         return false;
     }
     let name = s.name;
-    if name == BUS {
+    if is_bus(name) {
         return bus_shaped(std::num::wrapping_sub_usize(s.fields, 1), d);
     }
     if name == INT {
@@ -231,13 +256,24 @@ fn shaped(s: Scan, d: &[usize; 16384]) -> bool {
     false
 }
 
-fn bus_limits(d: &[usize; 16384]) -> bool {
+// The most that B may be on a line of this name. A wrong rule has one limit for both names.
+fn longest(name: usize, wrong: usize) -> usize {
+    if wrong == LONG_LET_IN {
+        return most_beats(false);
+    }
+    if wrong == LONG_REFUSED {
+        return most_beats(true);
+    }
+    most_beats(name == BUS3)
+}
+
+fn bus_limits(d: &[usize; 16384], most: usize) -> bool {
     let window = within(d, 1, 1, 65535);
     let address = within(d, 2, 1, 255) & within(d, 3, 0, 255);
     let back = within(d, 4, 0, 255) & within(d, 5, 0, 255);
     let memory = within(d, 6, 0, 4095) & within(d, 7, 0, 4095);
     let data = within(d, 8, 1, 255) & within(d, 9, 1, 255);
-    let burst = within(d, 10, 1, 256) & within(d, 11, 0, 15);
+    let burst = within(d, 10, 1, most) & within(d, 11, 0, 15);
     window & address & back & memory & data & burst
 }
 
@@ -254,9 +290,9 @@ fn acc_limits(d: &[usize; 16384]) -> bool {
     place & limits & job & within(d, 8, 0, 4294967295) & within(d, 9, 1, 4294967295)
 }
 
-fn limits(name: usize, d: &[usize; 16384]) -> bool {
-    if name == BUS {
-        return bus_limits(d);
+fn limits(name: usize, d: &[usize; 16384], wrong: usize) -> bool {
+    if is_bus(name) {
+        return bus_limits(d, longest(name, wrong));
     }
     if name == INT {
         return int_limits(d);
@@ -289,7 +325,7 @@ fn listed(d: &[usize; 16384], a: usize) -> bool {
 }
 
 fn in_order(name: usize, d: &[usize; 16384]) -> bool {
-    if name == BUS {
+    if is_bus(name) {
         return rows(d) == 0;
     }
     if name == INT {
@@ -306,6 +342,9 @@ fn enter(name: usize, d: &mut [usize; 16384]) {
         put(d, row * 11, i, x);
     }
     add(d, ROWS, 0, 1);
+    if name == BUS3 {
+        put(d, OLDER, 0, 1);
+    }
     if name == INT {
         add(d, INTS, 0, 1);
     }
@@ -318,7 +357,7 @@ fn enter(name: usize, d: &mut [usize; 16384]) {
 
 // The refusals 4 and 5 of a line, or 0.
 fn misplaced(name: usize, d: &[usize; 16384]) -> usize {
-    if (name == BUS) | is_dash(d, 2) {
+    if is_bus(name) | is_dash(d, 2) {
         return 0;
     }
     let at = field(d, 2);
@@ -333,7 +372,7 @@ fn misplaced(name: usize, d: &[usize; 16384]) -> usize {
 
 // A line of the right shape: is it accepted? Then it is in its row.
 pub(crate) fn fits(name: usize, d: &mut [usize; 16384]) -> bool {
-    if !limits(name, d) {
+    if !limits(name, d, NO_WRONG_RULE) {
         return false;
     }
     if !in_order(name, d) {
@@ -353,7 +392,15 @@ fn fill_in(s: Scan, d: &mut [usize; 16384]) {
     }
 }
 
-// The refusal of a line, or 0 and the line is in its row.
+// Is it a bus line, after one of the other record name?
+fn is_other(name: usize, d: &[usize; 16384]) -> bool {
+    if name == BUS {
+        return is_older(d);
+    }
+    (name == BUS3) & (0 < rows(d)) & !is_older(d)
+}
+
+// The refusal of a line, or 0 and the line is in its row; by a wrong rule a second bus line may be in none.
 fn judge(s: Scan, d: &mut [usize; 16384], wrong: usize) -> usize {
     let name = s.name;
     if !shaped(s, d) {
@@ -363,8 +410,11 @@ fn judge(s: Scan, d: &mut [usize; 16384], wrong: usize) -> usize {
     if (wrong == ORDER_FIRST) & !in_order(name, d) {
         return 3;
     }
-    if !limits(name, d) {
+    if !limits(name, d, wrong) {
         return 2;
+    }
+    if (wrong == OTHER_NAME) & is_other(name, d) {
+        return 0;
     }
     if !in_order(name, d) {
         return 3;

@@ -2,6 +2,8 @@
 // and a piece begins where the one before has all its beats. The joiner counts down the pieces that are not answered. An offered burst
 // is single offers on the queues.
 use crate::AFTER_LAST;
+use crate::BEATS_16;
+use crate::BEATS_256;
 use crate::BURST_FIRST;
 use crate::BY_LENGTH;
 use crate::DONE_EARLY;
@@ -17,6 +19,8 @@ use crate::REFUSED_COUNTED;
 use crate::THREE_BYTES;
 use crate::book::cell;
 use crate::book::is_broken;
+use crate::book::is_older;
+use crate::book::most_beats;
 use crate::calls::offer_one;
 use crate::calls::rules_broken;
 use store::add;
@@ -116,9 +120,20 @@ fn crosses(b: Asked, wrong: usize) -> bool {
     leaves_block(b, wrong)
 }
 
-// The refusals 15 and 16 of a burst, or 0. A wrong rule tests 16 first.
-fn bad_burst(b: Asked, wrong: usize) -> usize {
-    let bad = (b.beats == 0) | (256 < b.beats) | !is_size(b.size, wrong);
+// The most beats of a burst on the tree in the rows, by its bus line's name. A wrong rule has one limit for every tree.
+fn most_taken(d: &[usize; 16384], wrong: usize) -> usize {
+    if wrong == BEATS_256 {
+        return most_beats(false);
+    }
+    if wrong == BEATS_16 {
+        return most_beats(true);
+    }
+    most_beats(is_older(d))
+}
+
+// The refusals 15 and 16 of a burst of at most so many beats, or 0. A wrong rule tests 16 first.
+fn bad_burst(b: Asked, most: usize, wrong: usize) -> usize {
+    let bad = (b.beats == 0) | (most < b.beats) | !is_size(b.size, wrong);
     if bad & (wrong != PAGE_FIRST) {
         return 15;
     }
@@ -129,11 +144,11 @@ fn bad_burst(b: Asked, wrong: usize) -> usize {
 }
 
 // The refusal of a burst, or 0. A wrong rule tests 11 last.
-fn refusal(broken: bool, b: Asked, wrong: usize) -> usize {
+fn refusal(broken: bool, b: Asked, d: &[usize; 16384], wrong: usize) -> usize {
     if broken & (wrong != BURST_FIRST) {
         return 11;
     }
-    let number = bad_burst(b, wrong);
+    let number = bad_burst(b, most_taken(d, wrong), wrong);
     if broken & (number == 0) {
         return 11;
     }
@@ -203,7 +218,7 @@ fn cut(b: Asked, d: &mut [usize; 16384], wrong: usize) -> usize {
 
 // The splitter, on the configuration in the rows. A refusal leaves the entries.
 pub fn split_one(b: Asked, d: &mut [usize; 16384], wrong: usize) -> Split {
-    let number = refusal(is_broken(d), b, wrong);
+    let number = refusal(is_broken(d), b, d, wrong);
     let mut pieces = 0;
     if number == 0 {
         pieces = cut(b, d, wrong);
@@ -276,7 +291,7 @@ pub fn offer_burst(
     d: &mut [usize; 16384],
     wrong: usize,
 ) -> Offered {
-    let number = refusal(rules_broken(d, NO_WRONG_RULE), b, wrong);
+    let number = refusal(rules_broken(d, NO_WRONG_RULE), b, d, wrong);
     if number != 0 {
         return Offered {
             number: number,

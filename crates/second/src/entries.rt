@@ -4,6 +4,7 @@ use crate::book::fits;
 use crate::book::set_broken;
 use crate::scan::ACC;
 use crate::scan::BUS;
+use crate::scan::BUS3;
 use crate::scan::INT;
 use crate::scan::set_dash;
 use crate::scan::set_field;
@@ -24,9 +25,13 @@ pub fn put_dash(d: &mut [usize; 16384], i: usize) {
     set_dash(d, i);
 }
 
-// Is the line a bus line, an int line, an acc line that a file may have here?
+// Is the line a bus line, a bus3 line, an int line, an acc line that a file may have here?
 pub fn bus_fits(d: &mut [usize; 16384]) -> bool {
     fits(BUS, d)
+}
+
+pub fn bus3_fits(d: &mut [usize; 16384]) -> bool {
+    fits(BUS3, d)
 }
 
 pub fn int_fits(d: &mut [usize; 16384]) -> bool {

@@ -1,4 +1,4 @@
-// A second implementation of document 01's readers, machine, runner and bounds, and of document 02's items 1, 2 and 4 to 6, written
+// A second implementation of document 01's readers, machine, runner and bounds, and of document 02's items 1, 2 and 4 to 7, written
 // separately from the library and its definitions: it shares no code with them.
 //
 // Test code: it is proved that each function is safe and ends. Those that a comparison with the library reads its entries by have
@@ -120,8 +120,20 @@ pub const AFTER_LAST: usize = 49;
 pub const ONE_OFFER: usize = 50;
 // from its first piece on, whichever it is to begin with,
 pub const FROM_FIRST: usize = 51;
-// and a refused piece counted among those admitted.
+// and a refused piece counted among those admitted;
 pub const REFUSED_COUNTED: usize = 52;
+// B up to 256 on a bus3 line,
+pub const LONG_LET_IN: usize = 53;
+// or up to 16 only on a bus line,
+pub const LONG_REFUSED: usize = 54;
+// a second bus line passed over if its record name is the other one,
+pub const OTHER_NAME: usize = 55;
+// bus3 written back as bus,
+pub const NAME_LOST: usize = 56;
+// bursts of up to 256 beats taken on every tree,
+pub const BEATS_256: usize = 57;
+// or of up to 16 only.
+pub const BEATS_16: usize = 58;
 
 // An answer on a file: 0 where it is accepted, or the number of a refusal; and the line.
 pub struct Said {

@@ -7,6 +7,8 @@ use store::put;
 // A record name is held as one number: a 1 and then its bytes, in base 256.
 pub const BUS: usize = 23229811;
 
+pub const BUS3: usize = 5946831667;
+
 pub const INT: usize = 23686772;
 
 pub const ACC: usize = 23159651;
@@ -59,11 +61,12 @@ fn spoilt(mut s: Scan) -> Scan {
     s
 }
 
+// A byte of the record name, which has at most four.
 fn name_byte(mut s: Scan, b: u8) -> Scan {
-    if 2 < s.bytes {
+    if 3 < s.bytes {
         return spoilt(s);
     }
-    let longer = (s.name % 16777216) * 256 + (b as usize);
+    let longer = (s.name % 4294967296) * 256 + (b as usize);
     s.name = longer;
     s.bytes = std::num::wrapping_add_usize(s.bytes, 1);
     s

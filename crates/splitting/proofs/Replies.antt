@@ -8,7 +8,7 @@ use Rattle.placing.specs.declared.TreeRead.{TreeRead}
 use Rattle.burst.specs.declared.Burst.{Burst}
 use Rattle.burst.specs.Burst.{splitBy, startsAfter, beatsAfter}
 use Rattle.splitting.specs.declared.Reply.{Reply}
-use Rattle.splitting.specs.Splitting.{replyOf, treeDenied, onAccepted, replyFrom, startsFrom, beatsFrom}
+use Rattle.splitting.specs.Splitting.{replyIn, treeDenied, onAccepted, replyFrom, startsFrom, beatsFrom}
 
 abbrev chosen : {A : Type 0} → (TreeRead → A) → (TreeRead → A) → TreeRead → A
 chosen f g q = onAccepted (q .answer) (f q) (g q)
@@ -18,9 +18,9 @@ module _ {x q : TreeRead} (h : x ≡ q) {a : FileAnswer} (t : x .answer ≡ a) w
   chosen-by f g r p = p ∙ sym (ap (λ (k : FileAnswer). onAccepted k (f x) (g x)) t) ∙ ap (chosen f g) h
 
   module _ (b : Burst) where
-    pub replied : (r : Reply) → r ≡ onAccepted a (replyOf b (splitBy (x .tree) b)) (treeDenied (x .answer)) → r ≡ replyFrom q b
+    pub replied : (r : Reply) → r ≡ onAccepted a (replyIn (x .tree) b) (treeDenied (x .answer)) → r ≡ replyFrom q b
     unfolding replyFrom
-    replied r p = chosen-by (λ (y : TreeRead). replyOf b (splitBy (y .tree) b)) (λ (y : TreeRead). treeDenied (y .answer)) r p
+    replied r p = chosen-by (λ (y : TreeRead). replyIn (y .tree) b) (λ (y : TreeRead). treeDenied (y .answer)) r p
 
     pub started : (d r : List ℕ) → r ≡ onAccepted a (startsAfter (splitBy (x .tree) b) (x .tree .bus .burst) b d) d → r ≡ startsFrom q b d
     unfolding startsFrom

@@ -13,13 +13,13 @@ use Rattle.put.specs.Page.{joined}
 use Rattle.lines.specs.declared.FileAnswer.{FileAnswer}
 use Rattle.lines.specs.declared.FileAnswer.the-variants.{Accepted, Refused, Broken}
 use Rattle.model.specs.declared.Tree.{Tree}
-use Rattle.rules.specs.Rules.{treeKeeps}
+use Rattle.model.specs.Tree.{beatLimit}
 use Rattle.placing.specs.declared.TreeRead.{TreeRead}
 use Rattle.burst.specs.declared.Burst.{Burst}
-use Rattle.burst.specs.Burst.{beatLimit, Split, pieces, notSplit, splitBy, listed, startOf, beatsOf, startsAfter, beatsAfter}
-use Rattle.burst.proofs.Cut.{cut, splits}
-use Rattle.rules.proofs.Sound.{sound}
-use Rattle.splitting.specs.Splitting.{replyOf, treeDenied, onAccepted, replyFrom, startsFrom, beatsFrom}
+use Rattle.burst.specs.Burst.{Split, pieces, notSplit, splitBy, listed, startOf, beatsOf, startsAfter, beatsAfter}
+use Rattle.burst.proofs.Boards.{on-board}
+use Rattle.rules.proofs.Sound.{beat-most}
+use Rattle.splitting.specs.Splitting.{replyOf, replyIn, treeDenied, onAccepted, replyFrom, startsFrom, beatsFrom}
 use Rattle.splitting.specs.Lines.{pieceText, piecesText, countText, listText, replyText, cutText, splitText}
 
 joined-same : (k : ℕ) (f g : ℕ → List ℕ) → ((i : ℕ) → i < k → f i ≡ g i) → joined k f ≡ joined k g
@@ -36,7 +36,7 @@ module _ (t : Tree) (b : Burst) (d e : List ℕ) where
   n = t .bus .burst
 
   few : (k : ℕ) → splitBy t b ≡ pieces k → k ≤ 256
-  few k s = splits beatLimit (treeKeeps t) n b k (sound t (cut beatLimit (treeKeeps t) n b k s .keeps) .burst) s .count .2
+  few k s = omega (arith, on-board t b .shown k s .count .2, beat-most (t .bus))
 
   lines-said : (k : ℕ) → k ≤ 256 → piecesText k (listed k (startOf n b)) (listed k (beatsOf n b))
       ≡ joined k (λ i. pieceText (startOf n b i) (beatsOf n b i))
@@ -46,11 +46,11 @@ module _ (t : Tree) (b : Burst) (d e : List ℕ) where
       ap (λ (m : ℕ). joined m (λ i. pieceText (getD (listed k (startOf n b)) i 0) (getD (listed k (beatsOf n b)) i 0))) e
       ∙ joined-same k _ _ (λ i l. ap₂ pieceText (entry k (startOf n b) i h l) (entry k (beatsOf n b) i h l))
 
-  cut-said : (x : Split) → splitBy t b ≡ x
-      → replyText (replyOf b x) (startsAfter x n b d) (beatsAfter x n b e) ≡ cutText (replyOf b x) n b
+  cut-said : (limit : ℕ) (x : Split) → splitBy t b ≡ x
+      → replyText (replyOf limit b x) (startsAfter x n b d) (beatsAfter x n b e) ≡ cutText (replyOf limit b x) n b
   unfolding listText
-  cut-said (pieces k) s = ap (λ (l : List ℕ). l ++ countText k) (lines-said k (few k s))
-  cut-said (notSplit m) s = refl
+  cut-said limit (pieces k) s = ap (λ (l : List ℕ). l ++ countText k) (lines-said k (few k s))
+  cut-said limit (notSplit m) s = refl
 
 -- what is printed, whatever both arrays had: for each piece its line, and then the count; or the refusal
 pub text-said : (q : TreeRead) (b : Burst) (d e : List ℕ)
@@ -60,9 +60,9 @@ text-said q b d e = go (q .answer) where
   t : Tree
   t = q .tree
 
-  go : (x : FileAnswer) → replyText (onAccepted x (replyOf b (splitBy t b)) (treeDenied x))
+  go : (x : FileAnswer) → replyText (onAccepted x (replyIn t b) (treeDenied x))
       (onAccepted x (startsAfter (splitBy t b) (t .bus .burst) b d) d) (onAccepted x (beatsAfter (splitBy t b) (t .bus .burst) b e) e)
-      ≡ cutText (onAccepted x (replyOf b (splitBy t b)) (treeDenied x)) (t .bus .burst) b
-  go Accepted = cut-said t b d e (splitBy t b) refl
+      ≡ cutText (onAccepted x (replyIn t b) (treeDenied x)) (t .bus .burst) b
+  go Accepted = cut-said t b d e (beatLimit (t .bus)) (splitBy t b) refl
   go (Refused r m) = refl
   go Broken = refl

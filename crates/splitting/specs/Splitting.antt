@@ -5,9 +5,10 @@
 --                      no address, or one of the words no number
 -- splitAsked n a b c d what `split` does, started with n words, of which a, b, c and d are the first four: help, if asked; with four
 --                      words, a no option, the burst that b, c and d name; usage for any other words
--- burstPart b          what makes b no burst, 15: BEATS, "0 or over 256 beats", else SIZE, "a bad beat size"
--- deniedPart b n       what a refusal of the burst b by number n is of: 15 of BEATS or of SIZE, 16 of ADDRESS, and 11 of the tree
--- replyOf b x          what is answered where the splitter answers x to the burst b; a refusal has no line, which is said as 0
+-- burstPart l b        what makes b no burst of at most l beats, 15: BEATS, "0 or over 256 beats" where l is 256, else SIZE, "a bad beat size"
+-- deniedPart l b n     what a refusal of the burst b by number n is of: 15 of BEATS or of SIZE, 16 of ADDRESS, and 11 of the tree
+-- replyOf l b x        what is answered where the splitter answers x to the burst b; a refusal has no line, which is said as 0
+-- replyIn t b          what is answered for the tree t, whose record name says which limit l is (document 02, item 7)
 -- treeDenied x         what is answered where the tree's reading answers the refusal x
 -- onAccepted x y z     y where the reading answers x by accepting, else z
 -- replyFrom q b        the answer for the reading q of a tree file and the burst b: the tree is read first
@@ -17,6 +18,8 @@ use mathlib.Core.Bool.{_&&_, _||_, not}
 use mathlib.Core.List.{List}
 use lib.Dec.{eqb}
 use Rattle.folds.specs.Fold.{pick, within}
+use Rattle.model.specs.declared.Tree.{Tree as Plan}
+use Rattle.model.specs.Tree.{beatLimit}
 use Rattle.text.specs.Text.{decimal}
 use Rattle.lines.specs.declared.FileAnswer.{FileAnswer}
 use Rattle.lines.specs.declared.FileAnswer.the-variants.{Accepted, Refused as FileRefused, Broken}
@@ -26,7 +29,7 @@ use Rattle.usage.specs.declared.NumberWord.{NumberWord}
 use Rattle.usage.specs.declared.NumberWord.the-variants.{NoNumber, Number}
 use Rattle.usage.specs.Usage.{asksHelp, helpAsked, isOption, plainNumber, addressAsked}
 use Rattle.burst.specs.declared.Burst.{Burst}
-use Rattle.burst.specs.Burst.{beatLimit, Split, pieces, notSplit, splitBy, startsAfter, beatsAfter}
+use Rattle.burst.specs.Burst.{Split, pieces, notSplit, splitBy, startsAfter, beatsAfter}
 use Rattle.splitting.specs.declared.Asked.{Asked}
 use Rattle.splitting.specs.declared.Asked.the-variants.{Usage, Help, Split as Cut}
 use Rattle.splitting.specs.declared.Part.{Part}
@@ -49,15 +52,18 @@ splitAsked n a b c d =
     pick (helpAsked a b c || asksHelp d) Help
     (pick (eqb n 4 && not (isOption a)) (burstAsked (addressAsked b) c d) Usage)
 
-abbrev pub burstPart : Burst → Part
-burstPart b = pick (within 1 (b .beats) beatLimit) Size Beats
+abbrev pub burstPart : ℕ → Burst → Part
+burstPart limit b = pick (within 1 (b .beats) limit) Size Beats
 
-abbrev pub deniedPart : Burst → ℕ → Part
-deniedPart b n = pick (eqb n 15) (burstPart b) (pick (eqb n 16) Address Tree)
+abbrev pub deniedPart : ℕ → Burst → ℕ → Part
+deniedPart limit b n = pick (eqb n 15) (burstPart limit b) (pick (eqb n 16) Address Tree)
 
-abbrev pub replyOf : Burst → Split → Reply
-replyOf b (pieces k) = Pieces k
-replyOf b (notSplit n) = Refused (deniedPart b n) n 0
+abbrev pub replyOf : ℕ → Burst → Split → Reply
+replyOf limit b (pieces k) = Pieces k
+replyOf limit b (notSplit n) = Refused (deniedPart limit b n) n 0
+
+abbrev pub replyIn : Plan → Burst → Reply
+replyIn t b = replyOf (beatLimit (t .bus)) b (splitBy t b)
 
 abbrev pub treeDenied : FileAnswer → Reply
 treeDenied x = Refused Tree (answerNumber x) (answerLine x)
@@ -68,7 +74,7 @@ onAccepted (FileRefused r n) y z = z
 onAccepted Broken y z = z
 
 unfoldable pub replyFrom : TreeRead → Burst → Reply
-replyFrom q b = onAccepted (q .answer) (replyOf b (splitBy (q .tree) b)) (treeDenied (q .answer))
+replyFrom q b = onAccepted (q .answer) (replyIn (q .tree) b) (treeDenied (q .answer))
 
 unfoldable pub startsFrom : TreeRead → Burst → List ℕ → List ℕ
 startsFrom q b d = onAccepted (q .answer) (startsAfter (splitBy (q .tree) b) (q .tree .bus .burst) b d) d

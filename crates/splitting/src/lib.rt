@@ -6,6 +6,8 @@ use lines::FileAnswer;
 use lines::answer_line;
 use lines::answer_number;
 use listing::refusal_text;
+use model::Tree;
+use model::access::beat_limit;
 use model::number;
 use put::put_bytes;
 use put::put_field;
@@ -22,8 +24,9 @@ ghost use Rattle.put.specs.Page.{Written};
 ghost use Rattle.put.specs.Put.{Put};
 ghost use Rattle.reader.specs.TreeFile.{readTree};
 ghost use Rattle.usage.specs.Usage.{addressAsked};
+ghost use Rattle.burst.specs.Burst.{splitBy, startsAfter, beatsAfter};
 ghost use Rattle.burst.specs.Answers.{splitMeans};
-ghost use Rattle.splitting.specs.Splitting.{burstAsked, splitAsked, burstPart, deniedPart, replyOf, treeDenied, replyFrom, startsFrom, beatsFrom};
+ghost use Rattle.splitting.specs.Splitting.{burstAsked, splitAsked, burstPart, deniedPart, replyOf, replyIn, treeDenied, replyFrom, startsFrom, beatsFrom};
 ghost use Rattle.splitting.specs.Lines.{pieceText, countText, piecesText, listText, replyText};
 
 // What `split` does by its words: it cuts a burst, or says its usage or its help. 4,294,967,295 stands for every count of beats and
@@ -84,22 +87,22 @@ pub fn split_asked(count: usize, tree: &[u8], address: &[u8], beats: &[u8], size
     Asked::Usage
 }
 
-// Which word makes a burst be none: BEATS where they are not 1 to 256, else SIZE.
-fn burst_part(b: Burst) -> Part
-    ensures { λ r. ⌜ r ≡ burstPart b ⌝ }
+// Which word makes a burst be none: BEATS where they are not 1 to `limit`, else SIZE.
+fn burst_part(limit: u32, b: Burst) -> Part
+    ensures { λ r. ⌜ r ≡ burstPart limit b ⌝ }
 {
-    if (1 <= b.beats) & (b.beats <= 256) {
+    if (1 <= b.beats) & (b.beats <= limit) {
         return Part::Size;
     }
     Part::Beats
 }
 
-// What a refusal of the burst by this number is of.
-fn denied_part(b: Burst, number: u8) -> Part
-    ensures { λ r. ⌜ r ≡ deniedPart b number ⌝ }
+// What a refusal of the burst by this number is of, where a burst has at most `limit` beats.
+fn denied_part(limit: u32, b: Burst, number: u8) -> Part
+    ensures { λ r. ⌜ r ≡ deniedPart limit b number ⌝ }
 {
     if number == 15 {
-        return burst_part(b);
+        return burst_part(limit, b);
     }
     if number == 16 {
         return Part::Address;
@@ -107,17 +110,27 @@ fn denied_part(b: Burst, number: u8) -> Part
     Part::Tree
 }
 
-// The answer for a tree that was read.
-fn reply_of(b: Burst, answer: SplitAnswer) -> Reply
-    ensures { λ r. ⌜ r ≡ replyOf b (splitMeans answer) ⌝ }
+// The answer for a tree that was read, where a burst has at most `limit` beats.
+fn reply_of(limit: u32, b: Burst, answer: SplitAnswer) -> Reply
+    ensures { λ r. ⌜ r ≡ replyOf limit b (splitMeans answer) ⌝ }
 {
     match answer {
         SplitAnswer::Pieces(k) => Reply::Pieces(k),
         SplitAnswer::Refused(r) => {
             let n = number(r);
-            Reply::Refused(denied_part(b, n), n, 0)
+            Reply::Refused(denied_part(limit, b, n), n, 0)
         }
     }
+}
+
+// Cuts a burst into pieces of the burst length of the tree.
+fn reply_in(t: Tree, b: Burst, starts: &mut [u32; 256], beats: &mut [u32; 256]) -> Reply
+    ensures answer { λ r. ⌜ r ≡ replyIn t b ⌝ }
+    ensures starts { λ r. ⌜ now (starts .exit) ≡ startsAfter (splitBy t b) (t .bus .burst) b (now (starts .entry)) ⌝ }
+    ensures beats { λ r. ⌜ now (beats .exit) ≡ beatsAfter (splitBy t b) (t .bus .burst) b (now (beats .entry)) ⌝ }
+{
+    let limit = beat_limit(t.bus);
+    reply_of(limit, b, burst::split(t, b, starts, beats))
 }
 
 // The answer for a tree file that is refused.
@@ -137,7 +150,7 @@ pub fn split_file(tree: &[u8], b: Burst, starts: &mut [u32; 256], beats: &mut [u
     let x = read_tree(tree);
     let answer = x.answer;
     match answer {
-        FileAnswer::Accepted => reply_of(b, burst::split(x.tree, b, starts, beats)),
+        FileAnswer::Accepted => reply_in(x.tree, b, starts, beats),
         FileAnswer::Refused(_, _) => tree_denied(answer),
         FileAnswer::Broken => tree_denied(answer),
     }

@@ -625,6 +625,30 @@ fn say_numbers() {
     say_of_tree(tree, &[13, 14, 15, 16, 17, 255, 1, 2, 3], 0);
 }
 
+// What a bus3 line may be refused for, and names that are no record.
+fn say_older() {
+    say_each(
+        false,
+        b"bus33\t8\n;\
+        BUS3\t8\n;\
+        bus3\n;\
+        bus3\t8\t1\t4\t2\t2\t30\t25\t1\t1\t-\n;",
+        1,
+        1,
+    );
+    say(true, b"bus3\t8\n", 1, 1);
+    say_each(
+        false,
+        b"bus3\t8\t1\t4\t2\t2\t30\t25\t1\t1\t17\n;\
+        bus3\t8\t1\t4\t2\t2\t30\t25\t1\t1\t16\t16\n;",
+        2,
+        1,
+    );
+    say(false, b"bus3\t8\t1\t4\t2\t2\t30\t25\t1\t1\t16\n", 3, 1);
+    say(false, b"bus3\t8\t1\t4\t2\t2\t30\t25\t1\t1\t16\n", 4, 1);
+    say(false, b"bus3\t8\t1\t4\t2\t2\t30\t25\t1\t1\t16\n", 5, 1);
+}
+
 // Of a refusal also what is refused.
 fn run_over(served: &mut [u8], channel: Channel, tree: &[u8], trace: &[u8]) {
     let o = razhikum::razhikum_run(tree, channel_number(channel), trace, served);
@@ -877,6 +901,31 @@ fn rewritings() {
     rewrite(b"bus\t8\t1\t4\t2\t2\t30\t25\t1\t1\t16\t16\n");
 }
 
+// A board that speaks AXI3: report and text, and bursts of up to 16 beats and of more, with B 5.
+fn older_board() {
+    let tree =
+        b"bus3\t8\t1\t4\t2\t2\t30\t25\t1\t1\t5\t0\nint\t0\t-\t-\t1\nacc\t0\t0\t0\t4\t2\t10\t5\t1000\t2000\n";
+    report(tree);
+    rewrite(tree);
+    split(tree, 3, 16, 4);
+    split(tree, 3, 17, 4);
+    split(tree, 0, 256, 1);
+    split(tree, 0, 0, 4);
+    split(tree, 0, 16, 3);
+    split(tree, 4095, 17, 3);
+    split(tree, 4095, 16, 4);
+}
+
+// Its bus line refused: B, a second bus line of either name, and names that no record has.
+fn older_refused() {
+    rewrite(b"bus3\t8\t1\t4\t2\t2\t30\t25\t1\t1\t17\n");
+    rewrite(b"bus3\t8\t1\t4\t2\t2\t30\t25\t1\t1\t16\nbus\t8\t1\t4\t2\t2\t30\t25\t1\t1\t16\n");
+    rewrite(b"bus\t8\t1\t4\t2\t2\t30\t25\t1\t1\t17\nbus3\t8\t1\t4\t2\t2\t30\t25\t1\t1\t16\n");
+    rewrite(b"bus33\t8\t1\t4\t2\t2\t30\t25\t1\t1\t16\n");
+    rewrite(b"BUS3\t8\t1\t4\t2\t2\t30\t25\t1\t1\t16\n");
+    rewrite(b"bus \t8\t1\t4\t2\t2\t30\t25\t1\t1\t16\n");
+}
+
 // The texts of the programs on a tree: the reports, the rewritings, the runs, the waits, the pieces.
 fn programs(tree: &[u8]) {
     reports(tree);
@@ -887,6 +936,8 @@ fn programs(tree: &[u8]) {
     why_words(tree);
     why_writes(tree);
     splits(tree);
+    older_board();
+    older_refused();
 }
 
 fn main() {
@@ -905,4 +956,5 @@ fn main() {
     say_fields();
     say_limits();
     say_numbers();
+    say_older();
 }

@@ -18,7 +18,7 @@ use Rattle.text.proofs.Fields.{field-unended, field-then, field-last}
 use Rattle.folds.specs.Fold.{all}
 use Rattle.folds.proofs.Folds.{picked, passed, both, clash}
 use Rattle.lines.specs.declared.Kind.{Kind}
-use Rattle.lines.specs.declared.Kind.the-variants.{NoRecord, BusLine, IntLine, AccLine, OfferLine}
+use Rattle.lines.specs.declared.Kind.the-variants.{NoRecord, BusLine, IntLine, AccLine, OfferLine, Bus3Line}
 use Rattle.lines.specs.declared.Line.{Line}
 use Rattle.lines.specs.Lines.{nameOf, kindOf, named, push, pushed, lineWith, lineFrom, lineOf, valueAt, shaped, limitsKept, inTrace}
 use Rattle.lines.proofs.Back.{pushed-kind, pushed-count, shape-count, name-exactly}
@@ -175,6 +175,7 @@ inTrace-says BusLine e = clash cc
 inTrace-says IntLine e = clash cc
 inTrace-says AccLine e = clash cc
 inTrace-says OfferLine e = refl
+inTrace-says Bus3Line e = clash cc
 
 name-says : (name : List ℕ) → kindOf name ≡ OfferLine → same name (nameOf OfferLine) ≡ true
 unfolding same

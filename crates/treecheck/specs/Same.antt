@@ -1,7 +1,8 @@
 -- Which number of the store stands for which entry of the library's tree: the tree is the same if each entry is that number.
 --
 -- sameNumbers b d      the ten numbers that each bus line has: they are the first ten columns of row 0
--- sameBus b d          the bus line: those, and the return delay in the eleventh column
+-- sameName x d         the bus line's record name: bus3 exactly if x, that the tree is one of AXI3, is true
+-- sameBus b d          the bus line: the ten numbers, the return delay in the eleventh column, and the record name
 -- codeOf x             what a port carries, as the rows say it: 255 nothing, an accelerator's number, 32 + an interconnect's
 -- placeSaid d i c      column c of interconnect i's row, its parent or port: 0 at the root, and past the last interconnect
 -- grainSaid d i        its granularity: 0 past the last interconnect
@@ -13,7 +14,7 @@
 -- sameAccs t d         as many accelerators, and the records of all thirty-two
 -- sameTree t d         the whole tree
 use Prim.Native.Nat.{ℕ, _+_}
-use mathlib.Core.Bool.{Bool, _&&_}
+use mathlib.Core.Bool.{Bool, true, false, _&&_, not}
 use mathlib.Core.List.{List}
 use lib.Dec.{ltb, eqb}
 use Rattle.folds.specs.Fold.{pick, all}
@@ -24,7 +25,7 @@ use Rattle.model.specs.declared.Port.{Port}
 use Rattle.model.specs.declared.Port.the-variants.{Empty, Acc, Int}
 use Rattle.model.specs.declared.Tree.{Tree}
 use Rattle.model.specs.Tree.{interconnectOf, acceleratorOf, portOf}
-use Rattle.second.specs.Rows.{cellOf, intsOf, accsOf, intRow, accRow, carriedOf}
+use Rattle.second.specs.Rows.{cellOf, intsOf, accsOf, isOlder, intRow, accRow, carriedOf}
 
 unfoldable pub sameNumbers : Bus → List ℕ → Bool
 sameNumbers b d =
@@ -39,8 +40,12 @@ sameNumbers b d =
     && eqb (b .tb) (cellOf d 0 8)
     && eqb (b .burst) (cellOf d 0 9)
 
+abbrev pub sameName : Bool → List ℕ → Bool
+sameName true d = isOlder d
+sameName false d = not (isOlder d)
+
 abbrev pub sameBus : Bus → List ℕ → Bool
-sameBus b d = sameNumbers b d && eqb (b .delay) (cellOf d 0 10)
+sameBus b d = sameNumbers b d && eqb (b .delay) (cellOf d 0 10) && sameName (b .axi3) d
 
 abbrev pub codeOf : Port → ℕ
 codeOf Empty = 255

@@ -18,10 +18,12 @@ use second::book::carried;
 use second::book::cell;
 use second::book::int_row;
 use second::book::ints;
+use second::book::is_older;
 use second::entries::acc_fits;
 use second::entries::begin;
 use second::entries::break_rules;
 use second::entries::bus_fits;
+use second::entries::bus3_fits;
 use second::entries::int_fits;
 use second::entries::put_dash;
 use second::entries::put_entry;
@@ -29,7 +31,7 @@ ghost use mathlib.Core.Path.{_≡_};
 ghost use mathlib.Core.Bool.{_&&_};
 ghost use Rattle.folds.specs.Fold.{all};
 ghost use Rattle.model.specs.Tree.{interconnectOf, acceleratorOf};
-ghost use Rattle.treecheck.specs.Same.{sameNumbers, sameBus, codeOf, placeSaid, grainSaid, sameInt, samePorts, sameInts, entrySaid, sameAcc, sameAccs, sameTree};
+ghost use Rattle.treecheck.specs.Same.{sameNumbers, sameName, sameBus, codeOf, placeSaid, grainSaid, sameInt, samePorts, sameInts, entrySaid, sameAcc, sameAccs, sameTree};
 
 fn same_numbers(b: Bus, d: &[usize; 16384]) -> bool
     ensures { λ r. ⌜ r ≡ sameNumbers b (now (d .entry)) ⌝ }
@@ -46,11 +48,22 @@ fn same_numbers(b: Bus, d: &[usize; 16384]) -> bool
         & (b.burst as usize == cell(d, 0, 9))
 }
 
-// The ten numbers that each bus line has, and the return delay.
+// Is the bus line named bus3 in the rows exactly if the tree is one of AXI3?
+fn same_name(axi3: bool, d: &[usize; 16384]) -> bool
+    ensures { λ r. ⌜ r ≡ sameName axi3 (now (d .entry)) ⌝ }
+{
+    let older = is_older(d);
+    if axi3 {
+        return older;
+    }
+    !older
+}
+
+// The ten numbers that each bus line has, the return delay, and the record name.
 fn same_bus(b: Bus, d: &[usize; 16384]) -> bool
     ensures { λ r. ⌜ r ≡ sameBus b (now (d .entry)) ⌝ }
 {
-    same_numbers(b, d) & (b.delay as usize == cell(d, 0, 10))
+    same_numbers(b, d) & (b.delay as usize == cell(d, 0, 10)) & same_name(b.axi3, d)
 }
 
 // What a port of the library's tree carries, as the rows say it.
@@ -201,11 +214,14 @@ fn put_delays(b: Bus, d: &mut [usize; 16384]) {
     put_nine(numbers, d);
 }
 
-// The bus line.
+// The bus line, named bus3 if the tree is one of AXI3.
 fn put_bus(b: Bus, d: &mut [usize; 16384]) -> bool {
     put_delays(b, d);
     put_entry(d, 10, b.burst as usize);
     put_entry(d, 11, b.delay as usize);
+    if b.axi3 {
+        return bus3_fits(d);
+    }
     bus_fits(d)
 }
 

@@ -82,7 +82,7 @@ abbrev pub rewriteHelp : List ℕ
 rewriteHelp =
     bytes "rewrite [FILE]: writes the tree of a tree file back as text; two files of the same tree give the same text.\n"
     ++ bytes "FILE is a tree file; standard input without one, or with -.\n"
-    ++ bytes "The bus line, without a return delay of 0; the int lines by number; the acc lines by interconnect, then by port.\n"
+    ++ bytes "The bus or bus3 line, without a return delay of 0; the int lines by number; the acc lines by interconnect, then by port.\n"
     ++ bytes "The text goes to standard output. Do not send it to FILE itself, which the shell empties before it is read.\n"
     ++ bytes "A refused file prints \"refused\", the number of the cause and the line; standard error says it in words.\n"
     ++ bytes "example: rewrite scanner.tree\n"
@@ -121,8 +121,8 @@ splitUsage = bytes "usage: split TREE ADDRESS BEATS SIZE\nexample: split scanner
 abbrev pub splitHelp : List ℕ
 splitHelp =
     bytes "split TREE ADDRESS BEATS SIZE: cuts a burst into pieces of the tree's burst length B.\n"
-    ++ bytes "TREE is a tree file, or -, standard input. The other words are decimal: ADDRESS is 0 to 4294967295, BEATS 1 to 256, and\n"
-    ++ bytes "SIZE, the bytes of a beat, 1, 2, 4, 8, 16, 32, 64 or 128.\n"
+    ++ bytes "TREE is a tree file, or -, standard input. The other words are decimal: ADDRESS is 0 to 4294967295, BEATS 1 to 256, or\n"
+    ++ bytes "to 16 where the first line of TREE is bus3, and SIZE, the bytes of a beat, 1, 2, 4, 8, 16, 32, 64 or 128.\n"
     ++ bytes "A line for each piece: its start address and its beats, which are B except perhaps in the last; then pieces, and their count.\n"
     ++ bytes "Each piece is one transaction for phi and for the budget.\n"
     ++ bytes "Other BEATS or another SIZE are refused by 15, a burst that crosses a multiple of 4096 by 16, both with line 0.\n"

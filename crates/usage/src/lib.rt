@@ -207,7 +207,7 @@ pub fn rewrite_help(out: &mut [u8; 65536]) -> usize
         0,
         b"rewrite [FILE]: writes the tree of a tree file back as text; two files of the same tree give the same text.\n\
         FILE is a tree file; standard input without one, or with -.\n\
-        The bus line, without a return delay of 0; the int lines by number; the acc lines by interconnect, then by port.\n\
+        The bus or bus3 line, without a return delay of 0; the int lines by number; the acc lines by interconnect, then by port.\n\
         The text goes to standard output. Do not send it to FILE itself, which the shell empties before it is read.\n\
         A refused file prints \"refused\", the number of the cause and the line; standard error says it in words.\n\
         example: rewrite scanner.tree\n",
@@ -291,8 +291,8 @@ pub fn split_help(out: &mut [u8; 65536]) -> usize
         out,
         0,
         b"split TREE ADDRESS BEATS SIZE: cuts a burst into pieces of the tree's burst length B.\n\
-        TREE is a tree file, or -, standard input. The other words are decimal: ADDRESS is 0 to 4294967295, BEATS 1 to 256, and\n\
-        SIZE, the bytes of a beat, 1, 2, 4, 8, 16, 32, 64 or 128.\n\
+        TREE is a tree file, or -, standard input. The other words are decimal: ADDRESS is 0 to 4294967295, BEATS 1 to 256, or\n\
+        to 16 where the first line of TREE is bus3, and SIZE, the bytes of a beat, 1, 2, 4, 8, 16, 32, 64 or 128.\n\
         A line for each piece: its start address and its beats, which are B except perhaps in the last; then pieces, and their count.\n\
         Each piece is one transaction for phi and for the budget.\n\
         Other BEATS or another SIZE are refused by 15, a burst that crosses a multiple of 4096 by 16, both with line 0.\n\

@@ -1,7 +1,7 @@
 -- The text of a configuration that keeps its rules has at most 1,973 bytes: each field is in its limits, so each line is short, and the
 -- numbers that have one digit are counted as such.
 use Prim.Native.Nat.{ℕ, zero, suc, _+_, _^_, _≤_, _<_}
-use mathlib.Core.Bool.{true}
+use mathlib.Core.Bool.{Bool, true, false}
 use mathlib.Core.List.{List, [], _∷_, _++_, map}
 use mathlib.Core.Path.{_≡_, refl, sym, _∙_, ap}
 use native.Mathlib.Decide.{decLt, ℕ-discrete}
@@ -16,13 +16,13 @@ use Rattle.model.specs.declared.Tree.{Tree}
 use Rattle.model.specs.declared.Bus.{Bus}
 use Rattle.folds.specs.Fold.{pick, sum}
 use Rattle.folds.proofs.Folds.{picked, passed, tests, sum-mono}
-use Rattle.model.specs.Tree.{granularityOf, parentOf, parentPortOf, acceleratorOf}
+use Rattle.model.specs.Tree.{beatLimit, granularityOf, parentOf, parentPortOf, acceleratorOf}
 use Rattle.rules.specs.Rules.{busKeeps, treeKeeps}
 use Rattle.rules.proofs.Sound.{Sound, sound}
 use Rattle.lines.specs.declared.Kind.the-variants.{IntLine, AccLine}
-use Rattle.lines.specs.Lines.{nameOf}
+use Rattle.lines.specs.Lines.{busKind, nameOf}
 use Rattle.put.specs.Page.{ended}
-use Rattle.writer.specs.Lines.{busFront, accValues, busWhole, busShort, busWritten, rootWritten, childWritten, busText, intText, accText}
+use Rattle.writer.specs.Lines.{busFront, accValues, busName, busWhole, busShort, busWritten, rootWritten, childWritten, busText, intText, accText}
 use Rattle.writer.specs.Writer.{portOrder, writtenText}
 use Rattle.writer.proofs.Limits.{bus-limits, acc-ranges}
 use Rattle.writer.proofs.Texts.{row-more, text-parts}
@@ -42,15 +42,34 @@ most-fields (most-more {n} {x} {xs} k h M) =
 line-most : (name : List ℕ) {n : ℕ} {xs : List ℕ} → Most n xs → length (lineText name (numbers xs)) ≤ length name + n
 line-most name {n} {xs} M = omega (arith, length-append name (fieldsText (numbers xs)), most-fields M)
 
--- the bus line's fields before the return delay, and what stands after them
-bus-front : (b : Bus) → busKeeps b ≡ true → {n : ℕ} {xs : List ℕ} → Most n xs → length (fieldsText (numbers (busFront b ++ xs))) ≤ 44 + n
+-- the bus line's fields before the return delay, where the burst length has k + 1 digits, and what stands after them
+bus-front : (b : Bus) → busKeeps b ≡ true → (k : ℕ) → b .burst < 10 ^ suc k → {n : ℕ} {xs : List ℕ} → Most n xs
+    → length (fieldsText (numbers (busFront b ++ xs))) ≤ 42 + k + n
 unfolding busKeeps
-bus-front b e M =
+bus-front b e k l M =
     let h = simp tests at e in
-    let last = most-more {x = b .td} 2 (omega arith) (most-more {x = b .tb} 2 (omega arith) (most-more {x = b .burst} 2 (omega arith) M)) in
+    let last = most-more {x = b .td} 2 (omega arith) (most-more {x = b .tb} 2 (omega arith) (most-more {x = b .burst} k l M)) in
     let memory = most-more {x = b .pr} 3 (omega arith) (most-more {x = b .pw} 3 (omega arith) last) in
     let latencies = most-more {x = b .da} 2 (omega arith) (most-more {x = b .dd} 2 (omega arith) (most-more {x = b .db} 2 (omega arith) memory)) in
     omega (arith, most-fields (most-more {x = b .window} 4 (omega arith) (most-more {x = b .ta} 2 (omega arith) latencies)))
+
+-- what the record name has more under bus3, the burst length has less
+bus-line : (b : Bus) → busKeeps b ≡ true → {n : ℕ} {xs : List ℕ} → Most n xs → length (lineText (busName b) (numbers (busFront b ++ xs))) ≤ 47 + n
+unfolding busKeeps
+bus-line b e {n} {xs} M =
+    let h = simp tests at e in
+    let l = length-append (busName b) (fieldsText (numbers (busFront b ++ xs))) in
+    go (b .axi3) refl (h .0 .1 .1) l
+  where
+    go : (a : Bool) → b .axi3 ≡ a → b .burst ≤ beatLimit b
+        → length (lineText (busName b) (numbers (busFront b ++ xs))) ≡ length (busName b) + length (fieldsText (numbers (busFront b ++ xs)))
+        → length (lineText (busName b) (numbers (busFront b ++ xs))) ≤ 47 + n
+    go true q m l =
+        let few : beatLimit b ≡ 16 = ap (λ (a : Bool). pick a 16 256) q in
+        omega (arith, l, ap (λ (a : Bool). length (nameOf (busKind a))) q, bus-front b e 1 (omega arith) M)
+    go false q m l =
+        let many : beatLimit b ≡ 256 = ap (λ (a : Bool). pick a 16 256) q in
+        omega (arith, l, ap (λ (a : Bool). length (nameOf (busKind a))) q, bus-front b e 2 (omega arith) M)
 
 bus-most : (b : Bus) → busKeeps b ≡ true → length (busWritten b) ≤ 50
 unfolding busKeeps
@@ -58,8 +77,8 @@ bus-most b e =
     let h = simp tests at e in
     let delay = most-more {x = b .delay} 1 (omega arith) most-none in
     elim (ℕ-discrete (b .delay) 0) [
-      | yes z ↦ omega (arith, ap length (picked _ (busShort b) (busWhole b) (eq-eqb (b .delay) 0 z)), bus-front b e most-none)
-      | no d ↦ omega (arith, ap length (passed _ (busShort b) (busWhole b) (ne-eqb (b .delay) 0 d)), bus-front b e delay)
+      | yes z ↦ omega (arith, ap length (picked _ (busShort b) (busWhole b) (eq-eqb (b .delay) 0 z)), bus-line b e most-none)
+      | no d ↦ omega (arith, ap length (passed _ (busShort b) (busWhole b) (ne-eqb (b .delay) 0 d)), bus-line b e delay)
     ]
 
 -- the greatest length of an int line and of an acc line, by number, each with its LF

@@ -1,5 +1,6 @@
 -- Which text a line has, by the tests that the code makes.
 use Prim.Native.Nat.{ℕ}
+use mathlib.Core.Bool.{Bool}
 use mathlib.Core.List.{List, [], _∷_, map}
 use mathlib.Core.Path.{_≡_, refl, ap, sym, _∙_}
 use borrow.Author.Tests.{eq-eqb, ne-eqb}
@@ -13,17 +14,20 @@ use Rattle.model.specs.declared.Port.the-variants.{Acc}
 use Rattle.model.specs.Tree.{interconnectOf, acceleratorOf}
 use Rattle.text.specs.Write.{decimalText, digits, numbers, fieldsText, lineText, fileText}
 use Rattle.lines.specs.declared.Kind.the-variants.{IntLine}
-use Rattle.lines.specs.Lines.{nameOf}
+use Rattle.lines.specs.Lines.{busKind, nameOf}
 use Rattle.put.specs.Page.{bytes, ended}
-use Rattle.writer.specs.Lines.{busWhole, busShort, busWritten, rootWritten, childWritten, accWritten, intText, accText}
+use Rattle.writer.specs.Lines.{busFront, busValues, busAs, busWritten, rootWritten, childWritten, accWritten, intText, accText}
 use Rattle.writer.specs.Writer.{carriedBy}
 use Rattle.writer.proofs.Texts.{file-none, file-one}
 
-pub bus-short : (b : Bus) → b .delay ≡ 0 → busShort b ≡ busWritten b
-bus-short b e = sym (picked _ _ _ (eq-eqb _ _ e))
+pub bus-short : (name : List ℕ) (b : Bus) → b .delay ≡ 0 → lineText name (numbers (busFront b)) ≡ busAs name b
+bus-short name b e = sym (picked _ _ _ (eq-eqb _ _ e))
 
-pub bus-whole : (b : Bus) → (b .delay ≡ 0 → ⊥) → busWhole b ≡ busWritten b
-bus-whole b d = sym (passed _ _ _ (ne-eqb _ _ d))
+pub bus-whole : (name : List ℕ) (b : Bus) → (b .delay ≡ 0 → ⊥) → lineText name (numbers (busValues b)) ≡ busAs name b
+bus-whole name b d = sym (passed _ _ _ (ne-eqb _ _ d))
+
+pub bus-named : (b : Bus) (a : Bool) → b .axi3 ≡ a → busAs (nameOf (busKind a)) b ≡ busWritten b
+bus-named b a e = ap (λ (x : Bool). busAs (nameOf (busKind x)) b) (sym e)
 
 -- the root's number and its two "-" are always the same bytes
 root-bytes : (g : ℕ) → lineText (bytes "int\t0\t-\t-") (numbers (g ∷ [])) ≡ rootWritten g

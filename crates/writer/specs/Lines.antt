@@ -2,12 +2,14 @@
 --
 -- busFront b           the numbers of the bus line before its "optional last field, the return delay r"
 -- busValues b          all numbers of the bus line; accValues a x: of an acc line
+-- busName b            the record name of the bus b: "The writer keeps the record name" (document 02, item 7)
 -- busWhole b           a bus line: P, tA, dA, dD, dB, pR, pW, tD, tB, B, r
 -- busShort b           the same without r
+-- busAs name b         a bus line under the record name `name`: "It leaves out a return delay of 0" (document 02, item 4)
 -- rootWritten g        the int line of interconnect 0: "its parent and port are both "-""
 -- childWritten j i p g the int line of another one: number, parent, port on the parent, granularity
 -- accWritten a x       an acc line: number, interconnect, port, phi, budget, Nr, Nw, C, T
--- busWritten b         the bus line of b: "It leaves out a return delay of 0" (document 02, item 4)
+-- busWritten b         the bus line of b, under its record name
 -- busText t, intText t j, accText t a
 --                      the bus line of t, the int line of its interconnect j, the acc line of its accelerator a
 use Prim.Native.Nat.{ℕ}
@@ -19,8 +21,8 @@ use Rattle.model.specs.declared.Accelerator.{Accelerator}
 use Rattle.folds.specs.Fold.{pick}
 use Rattle.model.specs.Tree.{granularityOf, parentOf, parentPortOf, acceleratorOf}
 use Rattle.text.specs.Write.{decimalText, dash, numbers, lineText}
-use Rattle.lines.specs.declared.Kind.the-variants.{BusLine, IntLine, AccLine}
-use Rattle.lines.specs.Lines.{nameOf}
+use Rattle.lines.specs.declared.Kind.the-variants.{IntLine, AccLine}
+use Rattle.lines.specs.Lines.{busKind, nameOf}
 
 abbrev pub busFront : Bus → List ℕ
 busFront b = b .window ∷ b .ta ∷ b .da ∷ b .dd ∷ b .db ∷ b .pr ∷ b .pw ∷ b .td ∷ b .tb ∷ b .burst ∷ []
@@ -31,11 +33,17 @@ busValues b = busFront b ++ (b .delay ∷ [])
 abbrev pub accValues : ℕ → Accelerator → List ℕ
 accValues a x = a ∷ x .interconnect ∷ x .port ∷ x .phi ∷ x .budget ∷ x .reads ∷ x .writes ∷ x .computing ∷ x .period ∷ []
 
+abbrev pub busName : Bus → List ℕ
+busName b = nameOf (busKind (b .axi3))
+
 abbrev pub busWhole : Bus → List ℕ
-busWhole b = lineText (nameOf BusLine) (numbers (busValues b))
+busWhole b = lineText (busName b) (numbers (busValues b))
 
 abbrev pub busShort : Bus → List ℕ
-busShort b = lineText (nameOf BusLine) (numbers (busFront b))
+busShort b = lineText (busName b) (numbers (busFront b))
+
+abbrev pub busAs : List ℕ → Bus → List ℕ
+busAs name b = pick (eqb (b .delay) 0) (lineText name (numbers (busFront b))) (lineText name (numbers (busValues b)))
 
 abbrev pub rootWritten : ℕ → List ℕ
 rootWritten g = lineText (nameOf IntLine) (decimalText 0 ∷ dash ∷ dash ∷ decimalText g ∷ [])
@@ -47,7 +55,7 @@ abbrev pub accWritten : ℕ → Accelerator → List ℕ
 accWritten a x = lineText (nameOf AccLine) (numbers (accValues a x))
 
 abbrev pub busWritten : Bus → List ℕ
-busWritten b = pick (eqb (b .delay) 0) (busShort b) (busWhole b)
+busWritten b = busAs (busName b) b
 
 abbrev pub busText : Tree → List ℕ
 busText t = busWritten (t .bus)

@@ -16,7 +16,7 @@ ghost use mathlib.Core.List.{map};
 ghost use lib.ListN.{length};
 ghost use Rattle.text.specs.Write.{fieldsText, numbers, lineText, rows, fileText};
 ghost use Rattle.put.specs.Page.{ended};
-ghost use Rattle.writer.specs.Lines.{busWritten, intText, accWritten, accText};
+ghost use Rattle.writer.specs.Lines.{busAs, busWritten, intText, accWritten, accText};
 ghost use Rattle.writer.specs.Writer.{carriedBy, carriedIn, portOrder, writtenText, writeOf, writeBuffer, Stored};
 ghost use Rattle.writer.specs.Answers.{writeMeans};
 
@@ -52,9 +52,9 @@ fn put_line(out: &mut [u8], at: usize, name: &[u8], values: &[u64]) -> usize
     put_byte(out, next, b'\n')
 }
 
-// The bus line, at the start of the text; a return delay of 0 is left out.
-fn put_bus(out: &mut [u8], b: Bus) -> usize
-    ensures { λ r. ⌜ Stored (ended (busWritten b)) (now (out .entry)) 0 (now (out .exit)) r ⌝ }
+// The bus line, under this record name, at the start of the text; a return delay of 0 is left out.
+fn put_bus_as(out: &mut [u8], name: &[u8], b: Bus) -> usize
+    ensures { λ r. ⌜ Stored (ended (busAs (now (name .entry)) b)) (now (out .entry)) 0 (now (out .exit)) r ⌝ }
 {
     let delay = b.delay as u64;
     let burst = b.burst as u64;
@@ -72,9 +72,19 @@ fn put_bus(out: &mut [u8], b: Bus) -> usize
         delay,
     ];
     if delay == 0 {
-        return put_line(out, 0, b"bus", &values[..10]);
+        return put_line(out, 0, name, &values[..10]);
     }
-    put_line(out, 0, b"bus", &values)
+    put_line(out, 0, name, &values)
+}
+
+// The bus line, under its own record name.
+fn put_bus(out: &mut [u8], b: Bus) -> usize
+    ensures { λ r. ⌜ Stored (ended (busWritten b)) (now (out .entry)) 0 (now (out .exit)) r ⌝ }
+{
+    if b.axi3 {
+        return put_bus_as(out, b"bus3", b);
+    }
+    put_bus_as(out, b"bus", b)
 }
 
 // The int line of interconnect j.

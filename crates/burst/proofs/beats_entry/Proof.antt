@@ -6,7 +6,7 @@ use native.Mathlib.Omega.{arith}
 use borrow.Author.Needs.{needs}
 use borrow.Author.Tests.{le-ltb, lt-ltb}
 use Rattle.folds.proofs.Folds.{picked, passed}
-use Rattle.burst.specs.Burst.{beatLimit}
+use Rattle.burst.specs.Burst.{mostBeats}
 use Rattle.burst.proofs.Cut.{cut, before-it}
 use Rattle.burst.proofs.beats_entry.Statement.{statement}
 use Rattle.burst.proofs.beats_entry.Tie as tie
@@ -21,8 +21,8 @@ mul-left c =
     record {
       fits = omega (
         arith,
-        before-it beatLimit (a .n) (a .b) (a .k) (a .i) (p .0) (p .2) (c .if1 .left),
-        cut beatLimit true (a .n) (a .b) (a .k) (p .2) .burst .few,
+        before-it mostBeats (a .n) (a .b) (a .k) (a .i) (p .0) (p .2) (c .if1 .left),
+        cut mostBeats true (a .n) (a .b) (a .k) (p .2) .burst .few,
       );
     }
 
@@ -30,7 +30,7 @@ sub-left : tie.Need-sub-left
 sub-left c =
     let a = c .before .before .args in
     let p = c .before .before .pre in
-    omega (arith, before-it beatLimit (a .n) (a .b) (a .k) (a .i) (p .0) (p .2) (c .before .if1 .left))
+    omega (arith, before-it mostBeats (a .n) (a .b) (a .k) (a .i) (p .0) (p .2) (c .before .if1 .left))
 
 returns-2 : tie.Need-returns-2
 returns-2 c =

@@ -7,36 +7,36 @@ use native.Mathlib.Omega.{arith}
 use lib.Dec.{eqb}
 use borrow.Author.Needs.{needs}
 use Rattle.burst.specs.declared.Burst.{Burst}
-use Rattle.burst.specs.Burst.{beatLimit}
+use Rattle.burst.specs.Burst.{mostBeats}
 use Rattle.burst.proofs.Cut.{Fits, fits}
 use Rattle.burst.proofs.crosses_page.Statement.{statement}
 use Rattle.burst.proofs.crosses_page.Tie as tie
 
 -- the bytes of the beats
-some-bytes : (b : Burst) → Fits beatLimit b → 1 ≤ b .beats * b .size
+some-bytes : (b : Burst) → Fits mostBeats b → 1 ≤ b .beats * b .size
 some-bytes b f = mul-le-mul (f .some) (f .size .0)
 
-few-bytes : (b : Burst) → Fits beatLimit b → b .beats * b .size ≤ 32768
+few-bytes : (b : Burst) → Fits mostBeats b → b .beats * b .size ≤ 32768
 few-bytes b f = mul-le-mul (f .few) (f .size .1)
 
 low-of-requires : tie.Need-low-of-requires
-low-of-requires c κs = fits beatLimit (c .args .b) (c .pre) .size .0
+low-of-requires c κs = fits mostBeats (c .args .b) (c .pre) .size .0
 
 mul-last : tie.Need-mul-last
 mul-last c =
     let b = c .before .before .before .args .b in
-    record { fits = omega (arith, few-bytes b (fits beatLimit b (c .before .before .before .pre))) }
+    record { fits = omega (arith, few-bytes b (fits mostBeats b (c .before .before .before .pre))) }
 
 add-last : tie.Need-add-last
 add-last c =
     let b = c .before .before .before .args .b in
     let s : b .start ≤ 4294967295 = search needs in
-    record { fits = omega (arith, c .before .before .low-of .ensures .1, few-bytes b (fits beatLimit b (c .before .before .before .pre))) }
+    record { fits = omega (arith, c .before .before .low-of .ensures .1, few-bytes b (fits mostBeats b (c .before .before .before .pre))) }
 
 sub-last : tie.Need-sub-last
 sub-last c =
     let b = c .before .before .before .args .b in
-    omega (arith, some-bytes b (fits beatLimit b (c .before .before .before .pre)))
+    omega (arith, some-bytes b (fits mostBeats b (c .before .before .before .pre)))
 
 returns : tie.Need-returns
 returns c =

@@ -8,24 +8,24 @@ use borrow.Author.Needs.{needs}
 use borrow.Author.Tests.{le-ltb, lt-ltb, eq-eqb, ne-eqb}
 use Rattle.folds.proofs.Folds.{picked, passed}
 use Rattle.burst.specs.declared.Burst.{Burst}
-use Rattle.burst.specs.Burst.{beatLimit, lowOf, pieces, splitOf, startOf}
+use Rattle.burst.specs.Burst.{mostBeats, lowOf, pieces, splitOf, startOf}
 use Rattle.burst.proofs.Cut.{cut, splits, before-it}
 use Rattle.burst.proofs.start_entry.Statement.{statement}
 use Rattle.burst.proofs.start_entry.Tie as tie
 
 -- a later piece, of a burst that is split
-module _ (n : ℕ) (b : Burst) (k i : ℕ) (N : 1 ≤ n) (e : splitOf beatLimit true n b ≡ pieces k) (l : i < k) where
+module _ (n : ℕ) (b : Burst) (k i : ℕ) (N : 1 ≤ n) (e : splitOf mostBeats true n b ≡ pieces k) (l : i < k) where
   before-few : i * n ≤ 256
-  before-few = omega (arith, before-it beatLimit n b k i N e l, cut beatLimit true n b k e .burst .few)
+  before-few = omega (arith, before-it mostBeats n b k i N e l, cut mostBeats true n b k e .burst .few)
 
   bytes-few : i * n * b .size ≤ 32768
-  bytes-few = mul-le-mul before-few (cut beatLimit true n b k e .burst .size .1)
+  bytes-few = mul-le-mul before-few (cut mostBeats true n b k e .burst .size .1)
 
   later : (i ≡ 0 → ⊥) → startOf n b i ≡ lowOf b + i * n * b .size
   later d = passed _ _ _ (ne-eqb i 0 d)
 
   within-32 : b .start ≤ 4294967295 → startOf n b i ≤ 4294967295
-  within-32 h = omega (arith, splits beatLimit true n b k N e .addresses i l (omega arith))
+  within-32 h = omega (arith, splits mostBeats true n b k N e .addresses i l (omega arith))
 
 returns : tie.Need-returns
 returns c = sym (passed _ _ _ (le-ltb _ _ (c .if1 .taken)))
@@ -42,7 +42,7 @@ mul-before c =
 low-of-requires : tie.Need-low-of-requires
 low-of-requires c κs =
     let a = c .before .before .args in
-    cut beatLimit true (a .n) (a .b) (a .k) (c .before .before .pre .2) .burst .size .0
+    cut mostBeats true (a .n) (a .b) (a .k) (c .before .before .pre .2) .burst .size .0
 
 mul-result : tie.Need-mul-result
 mul-result c =

@@ -9,7 +9,7 @@ use Rattle.rules.proofs.bus_keeps.Tie as tie
 
 returns : tie.Need-returns
 unfolding busKeeps
-returns c = and-cong (and-cong (and-cong (and-cong (and-cong (and-cong (and-cong (and-cong (and-cong (and-cong (c .before .before .before .before .before .before .before .before .before .before .before .before .before .before .before .before .before .before .before .in-limits .ensures) (c .before .before .before .before .before .before .before .before .before .before .before .before .before .before .before .before .before .in-limits2 .ensures)) (c .before .before .before .before .before .before .before .before .before .before .before .before .before .before .before .in-limits3 .ensures)) (c .before .before .before .before .before .before .before .before .before .before .before .before .before .in-limits4 .ensures)) (c .before .before .before .before .before .before .before .before .before .before .before .in-limits5 .ensures)) (c .before .before .before .before .before .before .before .before .before .in-limits6 .ensures)) (c .before .before .before .before .before .before .before .in-limits7 .ensures)) (c .before .before .before .before .before .in-limits8 .ensures)) (c .before .before .before .in-limits9 .ensures)) (c .before .in-limits10 .ensures)) (no-low (c .before .before .before .before .before .before .before .before .before .before .before .before .before .before .before .before .before .before .before .before .before .args .b .delay) 15)
+returns c = and-cong (and-cong (and-cong (and-cong (and-cong (and-cong (and-cong (and-cong (and-cong (and-cong (c .before .before .before .before .before .before .before .before .before .before .before .before .before .before .before .before .before .before .in-limits .ensures) (c .before .before .before .before .before .before .before .before .before .before .before .before .before .before .before .before .in-limits2 .ensures)) (c .before .before .before .before .before .before .before .before .before .before .before .before .before .before .in-limits3 .ensures)) (c .before .before .before .before .before .before .before .before .before .before .before .before .in-limits4 .ensures)) (c .before .before .before .before .before .before .before .before .before .before .in-limits5 .ensures)) (c .before .before .before .before .before .before .before .before .in-limits6 .ensures)) (c .before .before .before .before .before .before .in-limits7 .ensures)) (c .before .before .before .before .in-limits8 .ensures)) (c .before .before .in-limits9 .ensures)) (c .before .burst-keeps .ensures)) (no-low (c .before .before .before .before .before .before .before .before .before .before .before .before .before .before .before .before .before .before .before .before .args .b .delay) 15)
 
 pub bus-keeps-spec : {M : Type 1} → statement M
 bus-keeps-spec =
@@ -33,6 +33,5 @@ bus-keeps-spec =
     (λ c κs. search needs)
     (λ c. fits-widen tt (c .struct-known9 .given .1 .1 .1 .1 .1 .1 .1 .1 .0))
     (λ c κs. search needs)
-    (λ c. fits-widen tt (c .struct-known10 .given .1 .1 .1 .1 .1 .1 .1 .1 .1 .0))
     (λ c κs. search needs)
     returns)

@@ -11,15 +11,17 @@ use Rattle.splitting.proofs.reply_of.Statement.{statement}
 use Rattle.splitting.proofs.reply_of.Tie as tie
 
 returns : tie.Need-returns
-returns c = sym (ap (λ (x : SplitAnswer). replyOf (c .before .before .before .args .b) (splitMeans x)) (c .before .answer .given .1))
+returns c =
+    let a = c .before .before .before .args in
+    sym (ap (λ (x : SplitAnswer). replyOf (a .limit) (a .b) (splitMeans x)) (c .before .answer .given .1))
 
 returns-2 : tie.Need-returns-2
 returns-2 c =
-    let b = c .before .before .before .before .before .args .b in
+    let a = c .before .before .before .before .before .args in
     let n = c .before .number in
     ap (λ (p : Part). Refused p (n .result) 0) (c .denied-part .ensures)
-    ∙ ap (λ (k : ℕ). Refused (deniedPart b k) k 0) (n .ensures)
-    ∙ sym (ap (λ (x : SplitAnswer). replyOf b (splitMeans x)) (c .before .before .before .answer2 .given .1))
+    ∙ ap (λ (k : ℕ). Refused (deniedPart (a .limit) (a .b) k) k 0) (n .ensures)
+    ∙ sym (ap (λ (x : SplitAnswer). replyOf (a .limit) (a .b) (splitMeans x)) (c .before .before .before .answer2 .given .1))
 
 pub reply-of-spec : {M : Type 1} → statement M
 reply-of-spec =

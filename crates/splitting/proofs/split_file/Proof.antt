@@ -1,20 +1,17 @@
 -- `split_file` meets its contract: in each arm answer and arrays are those of the reading which the arm names.
-use mathlib.Core.Path.{refl, ap, _∙_}
+use mathlib.Core.Path.{refl}
 use borrow.Author.Needs.{needs}
-use Rattle.splitting.specs.Splitting.{replyOf}
 use Rattle.splitting.proofs.Replies.{replied, started, counted}
 use Rattle.splitting.proofs.split_file.Statement.{statement}
 use Rattle.splitting.proofs.split_file.Tie as tie
 
 returns : tie.Need-returns
 returns c =
-    let read = c .before .before .before .before .before .before .read-tree .ensures in
-    let told = c .before .before .before .before .enum-told .given .1 in
-    let b = c .before .before .before .before .before .before .before .before .args .b in
-    let cut = c .before .split .ensures in (
-      replied read told b _ (c .reply-of .ensures ∙ ap (replyOf b) (cut .0)),
-      (started read told b _ _ (cut .1 .0), counted read told b _ _ (cut .1 .1)),
-    )
+    let read = c .before .before .before .before .before .read-tree .ensures in
+    let told = c .before .before .before .enum-told .given .1 in
+    let b = c .before .before .before .before .before .before .before .args .b in
+    let cut = c .reply-in .ensures in
+    (replied read told b _ (cut .0), (started read told b _ _ (cut .1 .0), counted read told b _ _ (cut .1 .1)))
 
 returns-2 : tie.Need-returns-2
 returns-2 c =
@@ -36,7 +33,6 @@ split-file-spec =
     (tie.spec
     (λ c κs. search needs)
     (λ c. search needs)
-    (λ c κs. search needs)
     (λ c κs. search needs)
     (λ c. search needs)
     (λ c κs. search needs)

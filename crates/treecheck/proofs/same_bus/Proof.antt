@@ -1,4 +1,4 @@
--- `same_bus` meets its contract: the ten numbers, and the return delay.
+-- `same_bus` meets its contract: the ten numbers, the return delay, and the record name.
 use mathlib.Core.Path.{ap}
 use lib.Dec.{eqb}
 use Rattle.model.proofs.Lists.{and-cong}
@@ -7,7 +7,8 @@ use Rattle.treecheck.proofs.same_bus.Statement.{statement}
 use Rattle.treecheck.proofs.same_bus.Tie as tie
 
 returns : tie.Need-returns
-returns c = and-cong (c .before .before .same-numbers .ensures) (ap (eqb _) (c .cell .ensures))
+returns c =
+    and-cong (and-cong (c .before .before .before .same-numbers .ensures) (ap (eqb _) (c .before .cell .ensures))) (c .same-name .ensures)
 
 pub same-bus-spec : {M : Type 1} → statement M
-same-bus-spec = tie.close (tie.spec (λ c κs. search needs) (λ c. search needs) (λ c κs. search needs) returns)
+same-bus-spec = tie.close (tie.spec (λ c κs. search needs) (λ c. search needs) (λ c κs. search needs) (λ c κs. search needs) returns)

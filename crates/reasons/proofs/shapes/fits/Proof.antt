@@ -21,7 +21,10 @@ returns-4 c = fits-tree (c .before .before .args .trace) ∙ ap (fits (c .before
 returns-5 : tie.Need-returns-5
 returns-5 c = fits-trace (c .before .before .args .trace) ∙ ap (fits (c .before .before .args .trace)) (sym (c .enum-told5 .given .1))
 
+returns-6 : tie.Need-returns-6
+returns-6 c = fits-tree (c .before .before .args .trace) ∙ ap (fits (c .before .before .args .trace)) (sym (c .enum-told6 .given .1))
+
 pub fits-spec : {M : Type 1} → statement M
 fits-spec =
     tie.close (tie.spec (λ c. search needs) (λ c. search needs) (λ c. search needs) (λ c. search needs)
-    (λ c. search needs) returns returns-2 returns-3 returns-4 returns-5)
+    (λ c. search needs) (λ c. search needs) returns returns-2 returns-3 returns-4 returns-5 returns-6)
