@@ -9,6 +9,10 @@
  * A file is passed as its bytes and their number. A file of more than RAZHIKUM_LIMIT bytes is refused like any other. The bus line of
  * a tree file may have an eleventh field, the return delay, 0 to 15 slots; a tree without it has the delay 0.
  *
+ * The first line of a tree file is named bus for a board of AMBA AXI4, whose bursts have at most 256 beats, or bus3 for one of AXI3, whose
+ * bursts have at most 16. The fields are the same. The name limits the tree's nominal burst length B, the tenth field, and the beats that
+ * razhikum_split takes, and razhikum_rewrite keeps it; no other answer depends on it. A second line of either name is refused by 3.
+ *
  * A channel is reads or writes. They travel apart, each on a machine of its own with the same tree and budgets, so a run or a wait is of
  * one channel: the call names it after the tree, and the trace holds the requests of that one. A trace has no mark of its channel. The
  * machine of a channel admits nothing of an accelerator whose job has 0 transactions there. That is no refusal of the trace: such
@@ -33,8 +37,8 @@
 extern "C" {
 #endif
 
-/* The version of this header: 10000 for each first figure, 100 for each second, 1 for each third. 20100 is 2.1.0. */
-#define RAZHIKUM_VERSION 20100
+/* The version of this header: 10000 for each first figure, 100 for each second, 1 for each third. 20200 is 2.2.0. */
+#define RAZHIKUM_VERSION 20200
 
 /* The version of the archive. Where it is not RAZHIKUM_VERSION, header and archive do not belong together. */
 uint32_t razhikum_version(void);
@@ -52,7 +56,8 @@ uint32_t razhikum_version(void);
 /* The most bytes of a tree's text as razhikum_rewrite writes it: a buffer of so many bytes is long enough for every tree. */
 #define RAZHIKUM_TREE_TEXT 1973
 
-/* The most pieces of a burst, and so the entries of each array that razhikum_split writes. */
+/* The most pieces of a burst, and so the entries of each array that razhikum_split writes. Where the tree file begins with bus3, a burst
+ * has at most 16. */
 #define RAZHIKUM_PIECES 256
 
 /* The byte of an idle slot. */
@@ -72,7 +77,7 @@ enum razhikum_channel { RAZHIKUM_READ = 0, RAZHIKUM_WRITE = 1 };
 enum razhikum_refusal {
     RAZHIKUM_ACCEPTED = 0,
     RAZHIKUM_SHAPE = 1,        /* a line of wrong shape: name, count of fields, a malformed number, a missing last LF */
-    RAZHIKUM_RANGE = 2,        /* a value, a total, a size or a channel outside its limits */
+    RAZHIKUM_RANGE = 2,        /* a value, a total, a size or a channel outside its limits; B over 16 on a bus3 line */
     RAZHIKUM_ORDER = 3,        /* a record out of order, misnumbered, on an unknown interconnect, or missing */
     RAZHIKUM_PORT_TAKEN = 4,   /* a port already taken */
     RAZHIKUM_LEVEL = 5,        /* a level above 4 */
@@ -85,7 +90,8 @@ enum razhikum_refusal {
     RAZHIKUM_NOT_SERVED = 12,  /* the number of a transaction is 0, or the run serves fewer of its accelerator */
     RAZHIKUM_TOO_SHORT = 13,   /* the buffer is shorter than the text */
     RAZHIKUM_NO_JOB = 14,      /* the accelerator's job has 0 transactions on this channel */
-    RAZHIKUM_BURST = 15,       /* a burst of 0 or over 256 beats, or a beat size that is no power of two from 1 to 128 */
+    RAZHIKUM_BURST = 15,       /* a burst of 0 or over 256 beats, over 16 where the tree file begins with bus3, or a beat size that is
+                                * no power of two from 1 to 128 */
     RAZHIKUM_PAGE_CROSSED = 16 /* a burst that crosses a multiple of 4,096 bytes, or the end of the 32-bit addresses */
 };
 
@@ -212,7 +218,7 @@ enum razhikum_stack {
     RAZHIKUM_STACK_RUN = 18432,
     RAZHIKUM_STACK_WHY = 84992,
     RAZHIKUM_STACK_BOUND = 21504,
-    RAZHIKUM_STACK_SPLIT = 22528,
+    RAZHIKUM_STACK_SPLIT = 23552,
     RAZHIKUM_STACK_JOIN = 1024
 };
 
@@ -231,9 +237,10 @@ razhikum_counted razhikum_count(const uint8_t *tree, size_t tree_bytes);
 razhikum_page razhikum_report(const uint8_t *tree, size_t tree_bytes, uint8_t *out);
 
 /* Writes the tree of a tree file back: its text, at the beginning of `out`, which is not the file's own buffer. The text is the bus
- * line, without the return delay where that is 0, the int lines by number, and the acc lines by interconnect and then by port, both
- * rising, whatever their order in the file. Read again it gives the same tree, and two files of one tree give the same bytes. It has
- * at most RAZHIKUM_TREE_TEXT bytes. The bytes past it keep their contents, and on a refusal all do: `bytes` is 0 then.
+ * line, with the name that it has in the file, bus or bus3, and without the return delay where that is 0, the int lines by number, and
+ * the acc lines by interconnect and then by port, both rising, whatever their order in the file. Read again it gives the same tree, and
+ * two files of one tree give the same bytes. It has at most RAZHIKUM_TREE_TEXT bytes. The bytes past it keep their contents, and on a
+ * refusal all do: `bytes` is 0 then.
  *
  * Checked in this order: the tree (1 to 5), then with line 0 the size of `out`: 2 where it has more than RAZHIKUM_SLOTS bytes, 13
  * where it is shorter than the text. */
@@ -272,11 +279,11 @@ razhikum_wait razhikum_why(
 razhikum_row razhikum_bound(const uint8_t *tree, size_t tree_bytes, uint8_t accelerator);
 
 /* Cuts a burst into pieces of B beats, the nominal burst length of the tree file: the last one has what is left, 1 to B. A burst has a
- * start address, `beats` from 1 to 256, and a beat of `size` bytes, a power of two from 1 to 128. Its bytes run from the start address to
- * the start address rounded down to `size`, plus `beats` * `size`, less 1. The first piece keeps the start address; each later one starts
- * at the start address rounded down to `size`, plus the beats before it * `size`. Each beat is in exactly one piece, and no piece crosses a
- * multiple of 4,096 bytes. Each piece is one transaction for phi and for the budget, and a bound on waits is one for a piece: a trace that
- * asks for a burst asks for `pieces` transactions.
+ * start address, `beats` from 1 to 256, or from 1 to 16 where the tree file begins with bus3, and a beat of `size` bytes, a power of two
+ * from 1 to 128. Its bytes run from the start address to the start address rounded down to `size`, plus `beats` * `size`, less 1. The
+ * first piece keeps the start address; each later one starts at the start address rounded down to `size`, plus the beats before it *
+ * `size`. Each beat is in exactly one piece, and no piece crosses a multiple of 4,096 bytes. Each piece is one transaction for phi and for
+ * the budget, and a bound on waits is one for a piece: a trace that asks for a burst asks for `pieces` transactions.
  *
  * `starts` and `lengths` have RAZHIKUM_PIECES entries each. Entry i, counted from 0, of `starts` is the start address of piece i + 1, that of
  * `lengths` its beats; the beat size of each piece is `size`. The entries from `pieces` on become 0. A refusal leaves all entries of both as
@@ -293,7 +300,8 @@ razhikum_cut razhikum_split(
  * before. The first call has `answered` 0; each later one has what the last reply says. The answers are taken in order, and the reply says
  * done at the last and only there.
  *
- * Refused by 11: a piece out of turn or after the last; `pieces` 0 or more than RAZHIKUM_PIECES; more `answered` than `pieces`. */
+ * Refused by 11: a piece out of turn or after the last; `pieces` 0 or more than RAZHIKUM_PIECES, whatever the tree; more `answered` than
+ * `pieces`. */
 razhikum_joined razhikum_join(uint32_t pieces, uint32_t answered, uint32_t number);
 
 #ifdef __cplusplus

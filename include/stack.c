@@ -1,8 +1,8 @@
-/* Measures the stack that each call uses, its caller's frame included: on a full tree, a small one, one with the longest numbers and
- * one with a level too many, each whole and cut short, runs and waits on both channels and on one that is neither, bursts and joiners,
- * taken and refused. The call is made on a thread that has painted its stack below the caller's frame, and the lowest byte that has
- * lost its paint says how deep the call went. Prints for each call the most that was used and what the header says, and fails where
- * the first is more.
+/* Measures the stack that each call uses, its caller's frame included: on a full tree, a small one, one with the longest numbers, one
+ * with a level too many and two of AXI3, each whole and cut short, runs and waits on both channels and on one that is neither, bursts
+ * and joiners, taken and refused. The call is made on a thread that has painted its stack below the caller's frame, and the lowest byte
+ * that has lost its paint says how deep the call went. Prints for each call the most that was used and what the header says, and fails
+ * where the first is more.
  *
  *     cc -pthread -Iinclude include/stack.c target/staticlib/librazhikum.a -o stack && ./stack examples
  */
@@ -71,8 +71,8 @@ static void make_call(void) {
         }
         break;
     case SPLIT:
-        /* Accepted at the end of a page, refused by 15 and by 16. */
-        for (uint32_t beats = 0; beats <= 256; beats += 32) {
+        /* Accepted, also at the end of a page and with the most beats of AXI3; refused by 15 and by 16. */
+        for (uint32_t beats = 0; beats <= 256; beats += 16) {
             answered = razhikum_split(tree.text, tree.bytes, 2048, beats, 16, starts, lengths).pieces;
         }
         break;
@@ -181,6 +181,12 @@ int main(int arguments, char **words) {
     measure_cut(20);
     text(&tree, "bus\t1\t1\t0\t0\t0\t0\t0\t1\t1\t1\nint\t0\t-\t-\t1\nacc\t0\t0\t0\t1\t1\t0\t0\t0\t1\n");
     text(&trace, "o\t0\t0\t1\n");
+    measure_cut(20);
+    /* AXI3, with the longest bus line and with a B that is refused. */
+    text(&tree, "bus3\t65535\t255\t255\t255\t255\t4095\t4095\t255\t255\t16\t15\nint\t0\t-\t-\t16\n"
+                "acc\t0\t0\t0\t16\t1024\t65535\t65535\t4294967295\t4294967295\n");
+    measure_cut(20);
+    text(&tree, "bus3\t1\t1\t0\t0\t0\t0\t0\t1\t1\t17\nint\t0\t-\t-\t1\nacc\t0\t0\t0\t1\t1\t0\t0\t0\t1\n");
     measure_cut(20);
     int above = 0;
     for (int c = 0; c < CALLS; c++) {

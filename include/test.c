@@ -1,6 +1,6 @@
 /* Holds header and archive together: the layout of each struct by offsets, the version, every number that a file or a burst can be
- * refused by, runs and waits on both channels and on none, bursts and joiners, and the values that the archive answers in each field,
- * so that two columns exchanged would be seen. Compiled as C and as C++. include/test.sh builds and runs it.
+ * refused by, runs and waits on both channels and on none, bursts and joiners, trees of AXI3, and the values that the archive answers in
+ * each field, so that two columns exchanged would be seen. Compiled as C and as C++. include/test.sh builds and runs it.
  */
 #include <assert.h>
 #include <stdio.h>
@@ -347,6 +347,8 @@ static void tree_is_refused(unsigned number, unsigned line) {
 #define BUS "bus 8 1 4 2 2 30 25 1 1 16\n"
 /* The same with a return delay. */
 #define DELAYED(delay) "bus 8 1 4 2 2 30 25 1 1 16 " delay "\n"
+/* The same of AXI3, with this B and what comes after it. */
+#define BUS3(end) "bus3 8 1 4 2 2 30 25 1 1 " end "\n"
 #define ROOT "int 0 - - 1\n"
 #define ACCS "acc 0 0 0 4 2 10 5 1000 2000\nacc 1 0 3 4 2 1 0 0 100\n"
 
@@ -362,6 +364,26 @@ static void refused_trees(void) {
     tree_is_refused(RAZHIKUM_SHAPE, 1);
     spaced(&tree, DELAYED("1 1") ROOT ACCS);
     tree_is_refused(RAZHIKUM_SHAPE, 1);
+    spaced(&tree, "bus 8 1 4 2 2 30 25 1 1 257\n" ROOT ACCS);
+    tree_is_refused(RAZHIKUM_RANGE, 1);
+    spaced(&tree, BUS3("17") ROOT ACCS);
+    tree_is_refused(RAZHIKUM_RANGE, 1);
+    spaced(&tree, BUS3("256 15") ROOT ACCS);
+    tree_is_refused(RAZHIKUM_RANGE, 1);
+    spaced(&tree, BUS3("16 16") ROOT ACCS);
+    tree_is_refused(RAZHIKUM_RANGE, 1);
+    spaced(&tree, BUS3("16 1 1") ROOT ACCS);
+    tree_is_refused(RAZHIKUM_SHAPE, 1);
+    spaced(&tree, "bus33 8 1 4 2 2 30 25 1 1 16\n" ROOT ACCS);
+    tree_is_refused(RAZHIKUM_SHAPE, 1);
+    spaced(&tree, "BUS3 8 1 4 2 2 30 25 1 1 16\n" ROOT ACCS);
+    tree_is_refused(RAZHIKUM_SHAPE, 1);
+    spaced(&tree, BUS BUS3("16") ROOT ACCS);
+    tree_is_refused(RAZHIKUM_ORDER, 2);
+    spaced(&tree, BUS3("16") BUS ROOT ACCS);
+    tree_is_refused(RAZHIKUM_ORDER, 2);
+    spaced(&tree, BUS BUS3("17") ROOT ACCS);
+    tree_is_refused(RAZHIKUM_RANGE, 2);
     spaced(&tree, BUS ROOT ACCS);
     memset(tree.text + tree.bytes, '\n', sizeof tree.text - tree.bytes);
     tree.bytes = RAZHIKUM_LIMIT + 1;
@@ -505,15 +527,15 @@ static void returns(void) {
 }
 
 /* The tree with the longest text: every field is as long as it can be, all accelerators are on interconnects of two digits, and so
- * are the interconnects that can be. */
+ * are the interconnects that can be. Where it begins with bus3 the name is a byte longer, and B a byte shorter. */
 #define LONGEST                                                                                                       \
-    "bus 65535 255 255 255 255 4095 4095 255 255 256 15\nint 0 - - 16\nint 1 0 0 16\nint 2 0 1 16\nint 3 0 2 16\n"    \
-    "int 4 0 3 16\nint 5 0 4 16\nint 6 0 5 16\nint 7 0 6 16\nint 8 0 7 16\nint 9 1 0 16\nint 10 1 1 16\n"            \
-    "int 11 10 0 16\nint 12 10 1 16\nint 13 10 2 16\nint 14 10 3 16\n"
+    "int 0 - - 16\nint 1 0 0 16\nint 2 0 1 16\nint 3 0 2 16\nint 4 0 3 16\nint 5 0 4 16\nint 6 0 5 16\nint 7 0 6 16\n"  \
+    "int 8 0 7 16\nint 9 1 0 16\nint 10 1 1 16\nint 11 10 0 16\nint 12 10 1 16\nint 13 10 2 16\nint 14 10 3 16\n"
 
 /* Its acc lines by interconnect and port, or by number. */
-static void longest(file *into, bool by_place) {
-    char lines[4096] = LONGEST;
+static void longest(file *into, const char *bus, bool by_place) {
+    char lines[4096];
+    snprintf(lines, sizeof lines, "%s" LONGEST, bus);
     for (int line = 0; line < 32; line++) {
         int place = by_place ? 4 + line : 35 - line;
         size_t at = strlen(lines);
@@ -540,10 +562,22 @@ static void texts(const char *folder) {
     spaced(&tree, DELAYED("15") INTS AT_1_7 AT_2_3 AT_1_0 AT_2_7 AT_0_1);
     spaced(&written, DELAYED("15") INTS AT_0_1 AT_1_0 AT_1_7 AT_2_3 AT_2_7);
     is_written();
-    longest(&tree, false);
-    longest(&written, true);
-    same("the most bytes of a text", written.bytes, RAZHIKUM_TREE_TEXT);
+    spaced(&tree, BUS3("16 0") INTS AT_1_7 AT_2_3 AT_1_0 AT_2_7 AT_0_1);
+    spaced(&written, BUS3("16") INTS AT_0_1 AT_1_0 AT_1_7 AT_2_3 AT_2_7);
     is_written();
+    spaced(&tree, BUS3("1 15") INTS AT_2_7 AT_1_7 AT_2_3 AT_1_0 AT_0_1);
+    spaced(&written, BUS3("1 15") INTS AT_0_1 AT_1_0 AT_1_7 AT_2_3 AT_2_7);
+    is_written();
+    static const char *const buses[] = {
+        "bus 65535 255 255 255 255 4095 4095 255 255 256 15\n",
+        "bus3 65535 255 255 255 255 4095 4095 255 255 16 15\n",
+    };
+    for (size_t i = 0; i < sizeof buses / sizeof buses[0]; i++) {
+        longest(&tree, buses[i], false);
+        longest(&written, buses[i], true);
+        same("the most bytes of a text", written.bytes, RAZHIKUM_TREE_TEXT);
+        is_written();
+    }
     load(&tree, folder, "layout.tree");
     load(&written, folder, "layout.written");
     is_written();
@@ -663,6 +697,61 @@ static void bursts(void) {
     page_ends();
 }
 
+/* The same tree of AXI3. */
+static void nominal3(unsigned burst) {
+    char text[64];
+    snprintf(text, sizeof text, "bus3 8 1 4 2 2 30 25 1 1 %u\n" ROOT "acc 0 0 0 4 2 1 1 0 1\n", burst);
+    spaced(&tree, text);
+}
+
+/* AXI3: bursts of up to 16 beats are cut, to any B, and more are refused by 15, also where they cross. */
+static void bursts_of_axi3(void) {
+    static const piece sixes[] = {{5, 6}, {28, 6}, {52, 4}}, one_over[] = {{8, 15}, {68, 1}};
+    static piece single[16];
+    nominal3(16);
+    is_whole(5, 16, 4);
+    is_whole(4294965248, 16, 128);
+    nominal3(6);
+    is_cut(5, 16, 4, 3, sixes);
+    nominal3(15);
+    is_cut(8, 16, 4, 2, one_over);
+    nominal3(1);
+    for (uint32_t i = 0; i < 16; i++) {
+        single[i].start = 4080 + i;
+        single[i].beats = 1;
+    }
+    is_cut(4080, 16, 1, 16, single);
+    for (unsigned burst = 1; burst <= 16; burst++) {
+        nominal3(burst);
+        refused_bursts();
+        for (uint32_t beats = 17; beats <= 256; beats++) {
+            is_cut_refused(5, beats, 4, RAZHIKUM_BURST, 0);
+            is_cut_refused(4090, beats, 1, RAZHIKUM_BURST, 0);
+            is_cut_refused(4294967295, beats, 128, RAZHIKUM_BURST, 0);
+        }
+        is_cut_refused(4081, 16, 1, RAZHIKUM_PAGE_CROSSED, 0);
+        is_cut_refused(4294967295, 2, 1, RAZHIKUM_PAGE_CROSSED, 0);
+    }
+    /* A tree that begins with bus takes 17. */
+    nominal(17);
+    is_whole(5, 17, 4);
+}
+
+/* The name is in no figure: the tree of the report on AXI3. */
+static void figures_of_axi3(void) {
+    static const uint8_t reads[] = {0, 1, 0};
+    spaced(&tree, BUS3("16") ROOT ACCS);
+    same("accelerators", razhikum_count(tree.text, tree.bytes).accelerators, 2);
+    is_row(0, 1, 2, 1, 10, 0, 2245, 2000);
+    is_row(1, 1, 2, 2, 1, 0, 100, 100);
+    rows_are_the_report();
+    spaced(&trace, "o 0 0 2\no 0 1 1\n");
+    is_trace(RAZHIKUM_FILE_NONE, RAZHIKUM_ACCEPTED, 0);
+    is_served(3, reads);
+    spaced(&trace, "o 0 0 2\nbus3 0 1 1\n");
+    is_trace(RAZHIKUM_FILE_TRACE, RAZHIKUM_SHAPE, 2);
+}
+
 static void is_joined(uint32_t pieces, uint32_t answered, uint32_t number, bool done) {
     razhikum_joined j = razhikum_join(pieces, answered, number);
     same("number of a taken piece", j.number, RAZHIKUM_ACCEPTED);
@@ -776,6 +865,8 @@ int main(int arguments, char **words) {
     channels();
     texts(words[1]);
     bursts();
+    bursts_of_axi3();
+    figures_of_axi3();
     joiners();
     refused_trees();
     printf("%lu values, no difference\n", compared);

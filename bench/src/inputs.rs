@@ -1,6 +1,6 @@
 //! Random and damaged files for the comparison, and busy trees for the timing. All are made from a seed.
 use crate::peer::machine::Machine;
-use crate::peer::read::{read_tree, Tree};
+use crate::peer::read::{read_tree, Axi, Tree};
 use razhikum::{Burst, Channel};
 
 /// A xorshift generator.
@@ -60,24 +60,32 @@ fn fields(name: &str, numbers: &[u64]) -> Vec<String> {
     line
 }
 
-/// A sound bus line. Most windows are short, so that a run sees many.
+/// A nominal burst length of at most so many beats, also about 16, the most on AXI3.
+fn random_nominal(random: &mut Random, most: u64) -> u64 {
+    if random.one_in(4) {
+        (15 + random.below(3)).min(most)
+    } else {
+        random.within(1, most)
+    }
+}
+
+/// A sound bus line, one in three of AXI3. Most windows are short, so that a run sees many.
 fn random_bus(random: &mut Random) -> Vec<String> {
+    let axi = if random.one_in(3) { Axi::Axi3 } else { Axi::Axi4 };
     let window = match random.below(4) {
         0 => random.within(1, 65_535),
         _ => 1 + random.below(12),
     };
     let mut bus = vec![window];
-    for (low, high) in [(1, 255), (0, 255), (0, 255), (0, 255), (0, 4_095), (0, 4_095)] {
+    for (low, high) in [(1, 255), (0, 255), (0, 255), (0, 255), (0, 4_095), (0, 4_095), (1, 255), (1, 255)] {
         bus.push(random.within(low, high));
     }
-    for (low, high) in [(1, 255), (1, 255), (1, 256)] {
-        bus.push(random.within(low, high));
-    }
+    bus.push(random_nominal(random, axi.beats().into()));
     // The return delay: any, or absent.
     if random.one_in(2) {
         bus.push(random.within(0, 15));
     }
-    fields("bus", &bus)
+    fields(axi.name(), &bus)
 }
 
 /// A place for an accelerator or an interconnect: an interconnect and its port.
@@ -178,11 +186,11 @@ pub const SIZES: [u32; 8] = [1, 2, 4, 8, 16, 32, 64, 128];
 const NO_SIZES: [u32; 20] =
     [0, 3, 5, 6, 7, 9, 12, 24, 96, 120, 127, 129, 192, 255, 256, 260, 512, 65_537, 1 << 31, u32::MAX];
 
-/// What is no count of beats.
+/// What is no count of beats on either bus.
 const NO_BEATS: [u32; 10] = [0, 257, 258, 272, 511, 512, 65_537, 1 << 24 | 1, 1 << 31, u32::MAX];
 
-/// A burst, mostly of a sound size and as many beats as a page has room for: near the end of a page, or so that it ends about there, or
-/// anywhere. One in four pages is the first, one the last of the addresses.
+/// A burst, mostly of a sound size and as many beats as a page has room for, also about 16 of them, the most on AXI3: near the end of a
+/// page, or so that it ends about there, or anywhere. One in four pages is the first, one the last of the addresses.
 pub fn random_burst(random: &mut Random) -> Burst {
     let size = if random.one_in(12) { *random.pick(&NO_SIZES) } else { *random.pick(&SIZES) };
     let room = 4_096 / u64::from(size.clamp(1, 4_096));
@@ -190,6 +198,7 @@ pub fn random_burst(random: &mut Random) -> Burst {
         0 => *random.pick(&NO_BEATS),
         1 => 255 + random.below(3) as u32,
         2 => 1 + random.below(256) as u32,
+        3 | 4 => 15 + random.below(3) as u32,
         _ => random.within(1, room.min(256)) as u32,
     };
     let page = match random.below(4) {
@@ -207,8 +216,8 @@ pub fn random_burst(random: &mut Random) -> Burst {
 }
 
 /// A tree of one accelerator whose nominal burst length is so many beats.
-pub fn nominal_tree(burst: u64) -> Vec<u8> {
-    let mut lines = vec![fields("bus", &[64, 1, 4, 2, 2, 30, 25, 1, 1, burst])];
+pub fn nominal_tree(axi: Axi, burst: u64) -> Vec<u8> {
+    let mut lines = vec![fields(axi.name(), &[64, 1, 4, 2, 2, 30, 25, 1, 1, burst])];
     lines.push(vec!["int".into(), "0".into(), "-".into(), "-".into(), "4".into()]);
     lines.push(fields("acc", &[0, 0, 0, 4, 8, 1, 1, 0, 1]));
     text(&lines)
@@ -259,7 +268,14 @@ const FIELDS: [&str; 34] = [
 ];
 
 /// What stands in the place of a record name, or as a line.
-const NAMES: [&str; 12] = ["bus", "int", "acc", "o", "", "Bus", "bu", "buss", "ints", "oo", "\0", "-"];
+const NAMES: [&str; 24] = [
+    "bus", "bus3", "int", "acc", "o", "", "Bus", "BUS3", "bu", "bu3", "buss", "bus ", "bus 3", "bus3 ", "bus33",
+    "bus03", "bus4", "3bus", "int3", "ints", "oo", "o3", "\0", "-",
+];
+
+/// What is no name of a bus record.
+const NO_BUSES: [&str; 12] =
+    ["BUS", "BUS3", "Bus3", "bu3", "bus ", "bus 3", "bus3 ", "bus33", "bus03", "bus2", "bus4", "axi3"];
 
 /// Lines with a few faults, of fields or of whole lines.
 pub fn damage_lines(random: &mut Random, lines: &mut Lines) {
@@ -269,7 +285,7 @@ pub fn damage_lines(random: &mut Random, lines: &mut Lines) {
         }
         let n = lines.len() as u64;
         let at = random.below(n) as usize;
-        match random.below(13) {
+        match random.below(16) {
             0 => drop(lines.remove(at)),
             1 => lines.insert(at, lines[random.below(n) as usize].clone()),
             2 => lines.swap(at, random.below(n) as usize),
@@ -280,6 +296,8 @@ pub fn damage_lines(random: &mut Random, lines: &mut Lines) {
             7 | 8 => copy_field(random, lines, at),
             9 => deepen(lines),
             10 => damage_delay(random, lines),
+            11 => damage_bus(random, lines),
+            12 => second_bus(random, lines, at),
             _ => {
                 let k = random.below(lines[at].len() as u64) as usize;
                 lines[at][k] = random.pick(&FIELDS).to_string();
@@ -314,6 +332,37 @@ fn damage_delay(random: &mut Random, lines: &mut Lines) {
     let bus = &mut lines[0];
     bus.truncate(if random.one_in(3) { 12 } else { 11 });
     bus.push(delay.to_string());
+}
+
+/// The other of the two names of a bus record.
+fn other_name(name: &str) -> &'static str {
+    if name == "bus3" {
+        "bus"
+    } else {
+        "bus3"
+    }
+}
+
+/// The first line gets the other name or what is none, or another B about the limits of both: on AXI3 B is above 16 then, at times.
+fn damage_bus(random: &mut Random, lines: &mut Lines) {
+    let bus = &mut lines[0];
+    match random.below(3) {
+        0 => bus[0] = other_name(&bus[0]).into(),
+        1 => bus[0] = random.pick(&NO_BUSES).to_string(),
+        _ => {}
+    }
+    if bus.len() > 10 && random.one_in(2) {
+        bus[10] = random.pick(&["0", "1", "15", "16", "17", "18", "32", "255", "256", "257"]).to_string();
+    }
+}
+
+/// The first line once more, mostly with the other name: next to the first one, or anywhere.
+fn second_bus(random: &mut Random, lines: &mut Lines, at: usize) {
+    let mut bus = lines[0].clone();
+    if !random.one_in(4) {
+        bus[0] = other_name(&bus[0]).into();
+    }
+    lines.insert(if random.one_in(2) { 1 } else { at }, bus);
 }
 
 /// Bytes with a fault: one changed, put in or taken out, or the end cut off.
@@ -386,6 +435,13 @@ pub fn jobs_apart(tree: &[u8]) -> Vec<u8> {
     text(&lines)
 }
 
+/// The same file with the other name of the bus record.
+pub fn renamed(file: &[u8]) -> Vec<u8> {
+    let end = file.iter().position(|&b| b == b'\t').expect("a bus line");
+    let name = std::str::from_utf8(&file[..end]).expect("plain text");
+    [other_name(name).as_bytes(), &file[end..]].concat()
+}
+
 /// The same tree with a return delay.
 pub fn delayed(tree: &[u8], delay: u64) -> Vec<u8> {
     let end = tree.iter().position(|&b| b == b'\n').expect("a bus line");
@@ -393,9 +449,11 @@ pub fn delayed(tree: &[u8], delay: u64) -> Vec<u8> {
 }
 
 /// The tree with the longest text: each field is as long as it can be, all accelerators are on interconnects of two digits, and so are
-/// the interconnects that can be. Its acc lines are by number, and the places fall.
-pub fn longest_tree() -> Vec<u8> {
-    let mut lines = vec![fields("bus", &[65_535, 255, 255, 255, 255, 4_095, 4_095, 255, 255, 256, 15])];
+/// the interconnects that can be. Its acc lines are by number, and the places fall. On AXI3 the name is a byte longer, and B a byte
+/// shorter.
+pub fn longest_tree(axi: Axi) -> Vec<u8> {
+    let burst = axi.beats().into();
+    let mut lines = vec![fields(axi.name(), &[65_535, 255, 255, 255, 255, 4_095, 4_095, 255, 255, burst, 15])];
     lines.push(vec!["int".into(), "0".into(), "-".into(), "-".into(), "16".into()]);
     let at_root = (0..8).map(|port| (0, port));
     let parents = at_root.chain([(1, 0), (1, 1)]).chain((0..4).map(|port| (10, port)));

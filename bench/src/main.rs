@@ -5,6 +5,7 @@ use razhikum_bench::inputs::{
     wide_tree,
 };
 use razhikum_bench::peer;
+use razhikum_bench::peer::read::Axi;
 use std::hint::black_box;
 use std::path::Path;
 use std::process::{Command, Stdio};
@@ -320,14 +321,14 @@ fn time_texts(small: &[u8], middle: &[u8], full: &[u8]) -> Vec<Target> {
     rewrite_row("small tree", small);
     rewrite_row("middle tree", middle);
     let of_full = rewrite_row("full tree", full);
-    rewrite_row("the longest text, 1,973 bytes", &longest_tree());
+    rewrite_row("the longest text, 1,973 bytes", &longest_tree(Axi::Axi4));
     vec![("full tree, written back".into(), of_full)]
 }
 
 fn time_bursts(small: &[u8], middle: &[u8], full: &[u8]) -> Vec<Target> {
     heading("a burst of 256 beats cut");
-    split_row("one accelerator, B 1, 256 pieces", &nominal_tree(1));
-    split_row("one accelerator, B 256, 1 piece", &nominal_tree(256));
+    split_row("one accelerator, B 1, 256 pieces", &nominal_tree(Axi::Axi4, 1));
+    split_row("one accelerator, B 256, 1 piece", &nominal_tree(Axi::Axi4, 256));
     split_row("small tree, B 16, 16 pieces", small);
     split_row("middle tree, B 16, 16 pieces", middle);
     let of_full = split_row("full tree, B 16, 16 pieces", full);

@@ -7,14 +7,14 @@ mod counts;
 mod cuts;
 
 use counts::{check, Counts};
-use cuts::{beats_of, broken_demand, has_each_byte_once, would_cross, Answer, Cutting, Taking};
+use cuts::{beats_of, broken_demand, has_each_byte_once, would_cross, Answer, Cutting, Lengths, Taking};
 use razhikum::{Burst, Channel, Ending, Joiner, Joining, Refused, IDLE, PIECES};
 use razhikum_bench::inputs::{
     damage_bytes, damage_lines, nominal_tree, random_burst, random_tree, requests_of, text, Random, SIZES,
 };
 use razhikum_bench::peer;
 use razhikum_bench::peer::calls::{fresh, State};
-use razhikum_bench::peer::read::{read_tree, Tree};
+use razhikum_bench::peer::read::{read_tree, Axi, Tree};
 use std::collections::{BTreeMap, VecDeque};
 
 const BURSTS: usize = 300_000;
@@ -116,16 +116,32 @@ fn check_demands(tree: &[u8], nominal: u32, burst: Burst, pieces: &[Burst]) {
     check(&format!("a demand on the pieces of {burst:?}"), broken_demand(burst, nominal, pieces), None, &[tree]);
 }
 
-/// Every start in a page, every size, 0 to 257 beats, with B 16.
-fn compare_whole_page() -> usize {
-    let tree = nominal_tree(16);
+/// Every size with 0 to 257 beats; on bus3 with 0 to 20, and with those about the limit of bus.
+fn sizes_and_beats(axi: Axi) -> impl Iterator<Item = (u32, u32)> {
+    let is_tried = move |beats: &u32| axi == Axi::Axi4 || *beats <= 20 || *beats >= 255;
+    SIZES.into_iter().flat_map(move |size| (0..=257).filter(is_tried).map(move |beats| (size, beats)))
+}
+
+/// What they are, in words.
+fn tried(axi: Axi) -> &'static str {
+    match axi {
+        Axi::Axi3 => "every size, 0 to 20 and 255 to 257 beats, bus3",
+        Axi::Axi4 => "every size, 0 to 257 beats",
+    }
+}
+
+/// Every start in a page, with B 16. Every count of beats over 16 on bus3, and over 256 on bus, is refused by 15, and so is none.
+fn compare_whole_page(axi: Axi) -> usize {
+    let tree = nominal_tree(axi, 16);
     let mut rooms = Rooms::new();
-    for (size, beats) in SIZES.into_iter().flat_map(|size| (0..=257).map(move |beats| (size, beats))) {
+    for (size, beats) in sizes_and_beats(axi) {
         for start in 0x1234_5000..0x1234_6000 {
             rooms.compare(&tree, Burst { start, beats, size });
         }
     }
-    rooms.print("every start in a page, every size, 0 to 257 beats")
+    let counts_refused = if axi == Axi::Axi3 { 8 } else { 2 };
+    assert_eq!(rooms.answers[1], 4_096 * SIZES.len() * counts_refused);
+    rooms.print(&format!("every start in a page, {}", tried(axi)))
 }
 
 /// The starts within a beat of the page's end, and of where a burst ends with the page.
@@ -137,12 +153,12 @@ fn starts_about(end: u64, beats: u32, size: u32) -> impl Iterator<Item = u32> {
 }
 
 /// At the ends of the first page, of one in the middle and of the last, for several B: and on the pieces what is asked of them.
-fn compare_page_ends() -> usize {
+fn compare_page_ends(axi: Axi, nominals: [u32; 7]) -> usize {
     let mut rooms = Rooms::new();
-    for nominal in [1, 2, 3, 16, 100, 255, 256] {
-        let tree = nominal_tree(nominal.into());
+    for nominal in nominals {
+        let tree = nominal_tree(axi, nominal.into());
         for end in [4_096, 0x8000_1000, 1 << 32] {
-            for (size, beats) in SIZES.into_iter().flat_map(|size| (0..=257).map(move |beats| (size, beats))) {
+            for (size, beats) in sizes_and_beats(axi) {
                 for start in starts_about(end, beats, size) {
                     let burst = Burst { start, beats, size };
                     if let Some(count) = rooms.compare(&tree, burst) {
@@ -152,11 +168,11 @@ fn compare_page_ends() -> usize {
             }
         }
     }
-    rooms.print("starts near page ends, every size, 0 to 257 beats, seven B")
+    rooms.print(&format!("starts near page ends, seven B, {}", tried(axi)))
 }
 
 /// Ways to cut a burst that the comparison must find wrong.
-const WRONG_CUTS: [Cutting; 24] = [
+const WRONG_CUTS: [Cutting; 30] = [
     Cutting::AllFull,
     Cutting::ShortFirst,
     Cutting::WithoutRest,
@@ -177,6 +193,12 @@ const WRONG_CUTS: [Cutting; 24] = [
     Cutting::BeatsTo255,
     Cutting::BeatsTo257,
     Cutting::BeatsInByte,
+    Cutting::LongOnBus3,
+    Cutting::ShortOnBus,
+    Cutting::To15OnBus3,
+    Cutting::To17OnBus3,
+    Cutting::BeatsToB,
+    Cutting::LateOnBus3,
     Cutting::NoBeats,
     Cutting::TreeLast,
     Cutting::RestKept,
@@ -196,7 +218,8 @@ struct BurstCounts {
 }
 
 /// What the comparison must meet in a burst that is cut, and whether this one does.
-fn cut_kinds(burst: Burst, nominal: u32, pieces: &[Burst]) -> [(&'static str, bool); 14] {
+fn cut_kinds(burst: Burst, lengths: Lengths, pieces: &[Burst]) -> [(&'static str, bool); 19] {
+    let (nominal, is_bus3) = (lengths.nominal, lengths.is_bus3());
     let whole = beats_of(burst);
     let end = whole[whole.len() - 1].end;
     let (several, last) = (pieces.len() > 1, pieces[pieces.len() - 1].beats);
@@ -217,15 +240,21 @@ fn cut_kinds(burst: Burst, nominal: u32, pieces: &[Burst]) -> [(&'static str, bo
             "a burst that ends with the addresses, within a beat, several pieces",
             end == 1 << 32 && several && !is_aligned,
         ),
+        ("bus3: 16 beats in one piece", is_bus3 && !several && burst.beats == 16),
+        ("bus3: 16 beats in several pieces", is_bus3 && several && burst.beats == 16),
+        ("bus3: 16 pieces", is_bus3 && pieces.len() == 16),
+        ("bus: 17 beats in one piece", !is_bus3 && !several && burst.beats == 17),
+        ("bus: 17 beats in pieces of up to 16", !is_bus3 && several && burst.beats == 17),
         ("a whole page", end - whole[0].start == 4_096),
         ("a start at a multiple of 4,096", burst.start.is_multiple_of(4_096)),
     ]
 }
 
 /// What it must meet in one that is refused by 15 or 16, or whose tree is refused.
-fn refused_kinds(burst: Burst, tree: Result<u32, Refused>, refused: Refused) -> [(&'static str, bool); 15] {
+fn refused_kinds(burst: Burst, tree: Result<Lengths, Refused>, refused: Refused) -> [(&'static str, bool); 23] {
     let Burst { start, beats, size } = burst;
     let is = |number| tree.is_ok() && refused.cause.number() == number;
+    let is_on3 = |number| is(number) && tree.is_ok_and(Lengths::is_bus3);
     let is_size = SIZES.contains(&size);
     let end = u64::from(start - start % size.max(1)) + u64::from(beats) * u64::from(size);
     let (bytes_over, crosses) = (end % 4_096, would_cross(burst));
@@ -240,6 +269,14 @@ fn refused_kinds(burst: Burst, tree: Result<u32, Refused>, refused: Refused) -> 
         ("the greatest size", is(15) && size == u32::MAX),
         ("15 for one that crosses", is(15) && crosses),
         ("15 for one that does not cross", is(15) && !crosses && beats > 0),
+        ("bus3: 17 beats", is_on3(15) && beats == 17 && is_size && !crosses),
+        ("bus3: 18 to 255 beats", is_on3(15) && (18..=255).contains(&beats) && is_size && !crosses),
+        ("bus3: 256 beats", is_on3(15) && beats == 256 && is_size && !crosses),
+        ("bus3: 257 beats", is_on3(15) && beats == 257 && is_size),
+        ("bus3: no beats", is_on3(15) && beats == 0 && is_size),
+        ("bus3: 15 for up to 256 beats that cross", is_on3(15) && (17..=256).contains(&beats) && is_size && crosses),
+        ("bus3: 15 for a size", is_on3(15) && (1..=16).contains(&beats) && !is_size),
+        ("bus3: 16 for 16 beats", is_on3(16) && beats == 16),
         ("16 by the bytes of one beat", is(16) && bytes_over == u64::from(size)),
         ("16 past the addresses", is(16) && end > 1 << 32),
         ("16 with two beats", is(16) && beats == 2),
@@ -262,11 +299,11 @@ fn tree_file(random: &mut Random) -> Vec<u8> {
 }
 
 /// The library's answer against the wrong ways; where they cut, whether their pieces break a demand.
-fn count_wrong(burst: Burst, tree: Result<u32, Refused>, filled: u32, library: &Answer, counts: &mut BurstCounts) {
+fn count_wrong(burst: Burst, tree: Result<Lengths, Refused>, filled: u32, library: &Answer, counts: &mut BurstCounts) {
     for (i, cutting) in WRONG_CUTS.into_iter().enumerate() {
         let wrong = cuts::split(burst, tree, filled, cutting);
         counts.differing[i] += usize::from(wrong != *library);
-        if let (Ok(_), Ok(nominal), true) = (&library.0, tree, i < WRONG_PIECES) {
+        if let (Ok(_), Ok(Lengths { nominal, .. }), true) = (&library.0, tree, i < WRONG_PIECES) {
             let pieces = cuts::pieces(burst, nominal, cutting);
             counts.breaking[i] += usize::from(broken_demand(burst, nominal, &pieces).is_some());
         }
@@ -281,7 +318,8 @@ fn compare_burst(random: &mut Random, counts: &mut BurstCounts) {
     let what = format!("{burst:?}");
     check(&what, answer, theirs.split_by_peer(&file, burst), &[&file]);
     check(&what, &ours, &theirs, &[&file]);
-    let tree = read_tree(&file).map(|tree| tree.bus.burst as u32);
+    let most = if file.starts_with(b"bus3") { 16 } else { 256 };
+    let tree = read_tree(&file).map(|tree| Lengths { nominal: tree.bus.burst as u32, most });
     let library = (answer, ours.starts.to_vec(), ours.beats.to_vec());
     check(&what, &library, &cuts::split(burst, tree, filled, Cutting::AsWritten), &[&file]);
     count_wrong(burst, tree, filled, &library, counts);
@@ -292,11 +330,11 @@ fn compare_burst(random: &mut Random, counts: &mut BurstCounts) {
         (Err(r), Err(_)) => format!("tree refused {}", r.cause.number()),
     });
     match (answer, tree) {
-        (Ok(count), Ok(nominal)) => {
+        (Ok(count), Ok(lengths)) => {
             let pieces = ours.pieces(count, burst.size);
-            check_demands(&file, nominal, burst, &pieces);
+            check_demands(&file, lengths.nominal, burst, &pieces);
             check(&format!("bytes of {burst:?}"), has_each_byte_once(burst, &pieces), true, &[&file]);
-            counts.kinds.add(cut_kinds(burst, nominal, &pieces));
+            counts.kinds.add(cut_kinds(burst, lengths, &pieces));
             counts.kinds.add(SIZES.map(|size| (format!("a burst of size {size}"), burst.size == size)));
         }
         (answer, tree) => counts.kinds.add(refused_kinds(burst, tree, answer.expect_err("a refusal"))),
@@ -543,7 +581,7 @@ fn random_bursts(random: &mut Random, tree: &Tree) -> Vec<Asked> {
         slot += random.below(step) as u32;
         let a = random.below(tree.accelerators.len() as u64) as u8;
         let burst = random_burst(random);
-        let pieces = peer::burst::cut(burst, tree.bus.burst as u32).map_or(0, Iterator::count);
+        let pieces = peer::burst::cut(burst, &tree.bus).map_or(0, Iterator::count);
         if (1..=64).contains(&pieces) {
             asked.push(Asked { slot, a, burst });
         }
@@ -557,7 +595,7 @@ fn compare_run(random: &mut Random, counts: &mut RunCounts) {
     let tree = read_tree(&file).expect("a sound tree");
     let channel = *random.pick(&Channel::BOTH);
     let asked = random_bursts(random, &tree);
-    let pieces = |burst| peer::burst::cut(burst, tree.bus.burst as u32).map_or(0, Iterator::count);
+    let pieces = |burst| peer::burst::cut(burst, &tree.bus).map_or(0, Iterator::count);
     let trace = text(&asked.iter().flat_map(|x| requests_of(x.slot, x.a, pieces(x.burst))).collect());
     let mut out = vec![99; random.below(200) as usize];
     let ending = razhikum::run(&file, channel, &trace, &mut out).expect("a sound trace");
@@ -575,12 +613,14 @@ fn compare_run(random: &mut Random, counts: &mut RunCounts) {
     let (done, in_time) = joined(&file, channel, &asked, &run);
     check("the bound on the waits of pieces", in_time, true, &files);
     let is_done = matches!(ending, Ending::Done(_));
+    let is_longest = |x: &Asked| tree.bus.axi == Axi::Axi3 && x.burst.beats == 16 && pieces(x.burst) > 1;
     check("the bursts that are done", !is_done || done == asked.len(), true, &files);
     counts.kinds.add([
         ("a run done, with a burst of several pieces", is_done && asked.iter().any(|x| pieces(x.burst) > 1)),
         ("a run stopped after some bursts are done", !is_done && done > 0),
         ("a run stopped within a burst", !is_done && done < asked.len()),
         ("a burst of more pieces than phi", asked.iter().any(|x| pieces(x.burst) > 16)),
+        ("bus3, a run done with 16 beats in several pieces", is_done && asked.iter().any(is_longest)),
         ("a piece refused by 8", run.refusals.contains(&8)),
         ("a piece refused by 9", run.refusals.contains(&9)),
         ("a piece refused by 14", run.refusals.contains(&14)),
@@ -608,7 +648,10 @@ fn compare_runs() -> usize {
 }
 
 fn main() {
-    let cuts = compare_whole_page() + compare_page_ends() + compare_bursts();
+    let pages = compare_whole_page(Axi::Axi4) + compare_whole_page(Axi::Axi3);
+    let ends = compare_page_ends(Axi::Axi4, [1, 2, 3, 16, 100, 255, 256])
+        + compare_page_ends(Axi::Axi3, [1, 2, 3, 5, 8, 15, 16]);
+    let cuts = pages + ends + compare_bursts();
     let joins = compare_joins() + compare_lists();
     let total = cuts + joins + compare_runs();
     println!("{total} inputs, no difference");

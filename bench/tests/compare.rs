@@ -1,15 +1,21 @@
-//! Compares the library with the peer on random and damaged files, runs and waits of both channels also with the simple simulator, shares
-//! with sums taken anew, and texts with lines put in order. The seed is fixed. A difference prints the input and ends the test.
+//! Compares the library with the peer on random and damaged files, tree files also with lists of lines, runs and waits of both channels
+//! with the simple simulator, shares with sums taken anew, and texts with lines put in order. The seed is fixed. A difference prints the
+//! input and ends the test.
 mod common;
 
 use common::counts::{check, Counts};
+use common::reading::{self, Reading};
 use common::shares::{share, Sharing};
 use common::simple::{self, Making, Rule, Service};
 use common::written::{self, Writing};
-use razhikum::{Bound, Channel, Ending, FileRefused, Refused, Wait, WaitRefused, IDLE, LIMIT, OWN, PAGE, TREE_TEXT};
-use razhikum_bench::inputs::{another_file, damage_bytes, damage_lines, random_trace, random_tree, text, Random};
+use razhikum::{
+    Bound, Cause, Channel, Ending, FileRefused, Refused, Wait, WaitRefused, IDLE, LIMIT, OWN, PAGE, TREE_TEXT,
+};
+use razhikum_bench::inputs::{
+    another_file, damage_bytes, damage_lines, random_trace, random_tree, renamed, text, Random,
+};
 use razhikum_bench::peer;
-use razhikum_bench::peer::read::{read_trace, read_tree, Interconnect, Port, Request, Tree};
+use razhikum_bench::peer::read::{read_trace, read_tree, Axi, Interconnect, Port, Request, Tree};
 use std::collections::BTreeMap;
 
 const TREES: usize = 1_000_000;
@@ -35,6 +41,22 @@ fn tree_file(random: &mut Random) -> Vec<u8> {
     file
 }
 
+/// Ways to read a tree file that the comparison must find wrong.
+const WRONG_READINGS: [Reading; 12] = [
+    Reading::NoBus3,
+    Reading::ByBeginning,
+    Reading::AnyCase,
+    Reading::LongOnBus3,
+    Reading::ShortOnBus,
+    Reading::To15OnBus3,
+    Reading::To17OnBus3,
+    Reading::OverBy15,
+    Reading::NoDelayOnBus3,
+    Reading::SecondOfOther,
+    Reading::SecondOfOtherBy1,
+    Reading::PlaceFirst,
+];
+
 /// Shares that the comparison must find wrong.
 const WRONG_SHARES: [Sharing; 7] = [
     Sharing::WholePhi,
@@ -46,12 +68,60 @@ const WRONG_SHARES: [Sharing; 7] = [
     Sharing::CutBelow,
 ];
 
-/// The counts of a comparison of trees: the answers, what was met, and for each wrong share how many rows would differ.
+/// The counts of a comparison of trees: the answers, what was met, for each wrong reading how many answers would differ, and for each
+/// wrong share how many rows.
 #[derive(Default)]
 struct TreeCounts {
     answers: Counts,
     kinds: BTreeMap<&'static str, usize>,
+    misread: [usize; WRONG_READINGS.len()],
     differing: [usize; WRONG_SHARES.len()],
+}
+
+/// What the comparison of readers must meet in the bus lines of a file, and whether this one does.
+fn bus_kinds(file: &[u8], read: Result<(), Refused>) -> [(&'static str, bool); 17] {
+    let fields = |line: u32| -> Vec<&[u8]> {
+        let line = file.split(|&b| b == b'\n').nth(line as usize - 1).unwrap_or_default();
+        line.split(|&b| b == b'\t').collect()
+    };
+    let bus = fields(1);
+    let (number, line) = read.err().map_or((0, 0), |refused| (refused.cause.number(), refused.line));
+    let first = |name: &[u8], by| bus[0] == name && (number, line) == (by, u32::from(by > 0));
+    let with = |name: &[u8], by, beats: &[u8]| first(name, by) && bus.get(10) == Some(&beats);
+    let later = if line > 1 { fields(line)[0] } else { b"" };
+    let second = |name: &[u8], other: &[u8], by| bus[0] == name && later == other && number == by;
+    [
+        ("bus3 with B 15", with(b"bus3", 0, b"15")),
+        ("bus3 with B 16", with(b"bus3", 0, b"16")),
+        ("bus3 with a return delay", first(b"bus3", 0) && bus.len() == 12),
+        ("bus3 with B 17 refused by 2", with(b"bus3", 2, b"17")),
+        ("bus3 with B 256 refused by 2", with(b"bus3", 2, b"256")),
+        ("bus3 with B 257 refused by 2", with(b"bus3", 2, b"257")),
+        ("bus with B 16", with(b"bus", 0, b"16")),
+        ("bus with B 17", with(b"bus", 0, b"17")),
+        ("bus with B 256", with(b"bus", 0, b"256")),
+        ("bus33 refused by 1", first(b"bus33", 1)),
+        ("BUS3 refused by 1", first(b"BUS3", 1)),
+        ("bus with a blank refused by 1", first(b"bus ", 1)),
+        ("a line bus after a line bus refused by 3", second(b"bus", b"bus", 3)),
+        ("a line bus3 after a line bus3 refused by 3", second(b"bus3", b"bus3", 3)),
+        ("a line bus3 after a line bus refused by 3", second(b"bus", b"bus3", 3)),
+        ("a line bus after a line bus3 refused by 3", second(b"bus3", b"bus", 3)),
+        ("a line bus3 after a line bus refused by 2", second(b"bus", b"bus3", 2)),
+    ]
+}
+
+/// The reader's answer against that from lists of lines; of one file in four also against the wrong ways.
+fn compare_reading(file: &[u8], library: Result<(), Refused>, random: &mut Random, counts: &mut TreeCounts) {
+    check("tree reader against lists", library, reading::read(file, Reading::AsWritten), &[file]);
+    for (kind, met) in bus_kinds(file, library) {
+        *counts.kinds.entry(kind).or_default() += usize::from(met);
+    }
+    if random.one_in(4) {
+        for (count, reading) in counts.misread.iter_mut().zip(WRONG_READINGS) {
+            *count += usize::from(reading::read(file, reading) != library);
+        }
+    }
 }
 
 /// What the comparison of bounds must meet in an accelerator, and whether this one does.
@@ -93,7 +163,9 @@ fn compare_shares(file: &[u8], a: u8, bound: &Bound, counts: &mut TreeCounts) {
 fn compare_tree(file: &[u8], random: &mut Random, counts: &mut TreeCounts, page: &mut [u8; PAGE]) {
     let tree = read_tree(file);
     let read = tree.as_ref().map(|_| ()).map_err(|e| *e);
-    check("tree reader", razhikum::read_tree(file), read, &[file]);
+    let library = razhikum::read_tree(file);
+    check("tree reader", library, read, &[file]);
+    compare_reading(file, library, random, counts);
     check("count", razhikum::count(file), tree.map(|t| t.accelerators.len() as u8), &[file]);
     let a = if random.one_in(4) { random.below(256) } else { random.below(8) } as u8;
     let bound = razhikum::bound(file, a);
@@ -130,6 +202,10 @@ fn compare_trees() -> usize {
     for (kind, count) in counts.kinds {
         println!("  {kind}: {count}");
         assert!(count > 0, "no input has {kind}");
+    }
+    for (reading, count) in WRONG_READINGS.iter().zip(counts.misread) {
+        println!("  a tree read by {reading:?} would differ in {count} of them");
+        assert!(count > 0, "the comparison does not find {reading:?}");
     }
     for (sharing, count) in WRONG_SHARES.iter().zip(counts.differing) {
         println!("  shares by {sharing:?} would differ in {count} of them");
@@ -274,6 +350,14 @@ fn compare_made(
     }
 }
 
+/// Whether a trace is refused by 1 for a line that is named bus3.
+fn is_bus3_in_trace(trace: &[u8], read: Result<(), FileRefused>) -> bool {
+    let Err(FileRefused::Trace(Refused { cause: Cause::Shape, line })) = read else {
+        return false;
+    };
+    trace.split(|&b| b == b'\n').nth(line as usize - 1).is_some_and(|line| line.starts_with(b"bus3\t"))
+}
+
 /// On both channels, whichever the trace was made for.
 fn compare_run(tree: &[u8], trace: &[u8], slots: usize, counts: &mut RunCounts) {
     let read = read_tree(tree)
@@ -282,6 +366,8 @@ fn compare_run(tree: &[u8], trace: &[u8], slots: usize, counts: &mut RunCounts) 
     let files = [tree, trace];
     let reading = read.as_ref().map(|_| ()).map_err(|e| *e);
     check("trace reader", razhikum::read_trace(tree, trace), reading, &files);
+    let kind = "a line bus3 in a trace refused by 1";
+    *counts.kinds.entry(kind).or_default() += usize::from(is_bus3_in_trace(trace, reading));
     let filled = (slots % 256) as u8;
     let runs = Channel::BOTH.map(|channel| {
         let (mut ours, mut theirs) = (vec![filled; slots], vec![filled; slots]);
@@ -554,13 +640,16 @@ fn text_room(random: &mut Random, bytes: usize) -> usize {
 }
 
 /// What the comparison of texts must meet in an accepted tree, and whether this one does.
-fn tree_kinds(file: &[u8], tree: &Tree, text: &[u8]) -> [(&'static str, bool); 12] {
+fn tree_kinds(file: &[u8], tree: &Tree, text: &[u8]) -> [(&'static str, bool); 15] {
     let bus = |file: &[u8]| file.iter().position(|&b| b == b'\n').expect("a bus line");
     let place = |a: usize| (tree.accelerators[a].interconnect, tree.accelerators[a].port);
     let carries = |is: fn(&Port) -> bool| tree.interconnects.iter().any(|i| is(&i.ports[7]));
     let is_bare = |i: &Interconnect| i.ports.iter().all(|port| *port == Port::Empty);
     [
         ("a file that is the text", file == text),
+        ("bus3", tree.bus.axi == Axi::Axi3),
+        ("bus with B up to 16", tree.bus.axi == Axi::Axi4 && tree.bus.burst <= 16),
+        ("bus with B over 16", tree.bus.burst > 16),
         ("a return delay of 0 in the file", file[..bus(file)] != text[..bus(text)]),
         ("a return delay of 15", tree.bus.delay == 15),
         ("acc lines in another order", file[bus(file)..] != text[bus(text)..]),
@@ -592,13 +681,15 @@ fn room_kinds(room: usize, text: usize) -> [(&'static str, bool); 9] {
 }
 
 /// Ways to write a tree back that the comparison must find wrong.
-const WRONG_TEXTS: [Writing; 12] = [
+const WRONG_TEXTS: [Writing; 14] = [
     Writing::AsRead,
     Writing::ByNumber,
     Writing::PortFirst,
     Writing::ByDigits,
     Writing::DelayWritten,
     Writing::NoDelay,
+    Writing::NameLost,
+    Writing::NameByB,
     Writing::WithoutPort7,
     Writing::SizeBeforeTree,
     Writing::AnySize,
@@ -620,6 +711,25 @@ impl RewriteCounts {
         for &(kind, met) in kinds {
             *self.kinds.entry(kind).or_default() += usize::from(met);
         }
+    }
+}
+
+/// The tree with the other name of its bus record: where B is over 16 it is refused by 2, else it has the same report, and the same text
+/// but for the name.
+fn compare_renamed(file: &[u8], tree: &Tree, text: &[u8]) {
+    let other = renamed(file);
+    let files = [file, &other];
+    let (mut page, mut out) = (Box::new([0; PAGE]), [0; TREE_TEXT]);
+    let report = razhikum::report(file, &mut page).map(<[u8]>::to_vec);
+    let of_other = razhikum::report(&other, &mut page).map(<[u8]>::to_vec);
+    let written = razhikum::rewrite(&other, &mut out);
+    if tree.bus.axi == Axi::Axi4 && tree.bus.burst > 16 {
+        let refused = Refused::by(2, 1);
+        check("the report on bus3 with B over 16", of_other, Err(refused), &files);
+        check("the text on bus3 with B over 16", written, Err(refused), &files);
+    } else {
+        check("the report under the other name", of_other, report, &files);
+        check("the text under the other name", written, Ok(&renamed(text)[..]), &files);
     }
 }
 
@@ -667,6 +777,7 @@ fn compare_rewrite(random: &mut Random, counts: &mut RewriteCounts) {
     if let Ok(tree) = tree {
         counts.add_kinds(&tree_kinds(&file, &tree, &text));
         compare_again(&file, &tree, &text, random);
+        compare_renamed(&file, &tree, &text);
     }
 }
 

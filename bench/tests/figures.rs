@@ -1,10 +1,10 @@
-//! Figures of document 01 ("Figures to check by"), waits on them, return delays, trees written back, both channels, and the limits on
-//! sizes, by library and peer alike; and the peer's single calls.
+//! Figures of document 01 ("Figures to check by"), waits on them, return delays, trees written back, both channels, both names of the bus
+//! record, and the limits on sizes, by library and peer alike; and the peer's single calls.
 use razhikum::{Bound, Channel, Ending, FileRefused, Refused, Wait, WaitRefused, IDLE, LIMIT, OWN, PAGE, TREE_TEXT};
-use razhikum_bench::inputs::{longest_tree, random_trace, random_tree, text, Random};
+use razhikum_bench::inputs::{longest_tree, nominal_tree, random_trace, random_tree, renamed, text, Random};
 use razhikum_bench::peer;
 use razhikum_bench::peer::calls::{fresh, State};
-use razhikum_bench::peer::read::{read_trace, read_tree, Request, Tree};
+use razhikum_bench::peer::read::{read_trace, read_tree, Axi, Request, Tree};
 use std::collections::BTreeSet;
 use Channel::{Read, Write};
 
@@ -198,6 +198,59 @@ fn limits_of_the_return_delay() {
     }
 }
 
+/// "There B is at most 16": 17 is refused by 2 as 257 is on a bus line, where 17 is read. The peer holds what the record was named.
+#[test]
+fn limits_of_the_burst_length() {
+    for (axi, most) in [(Axi::Axi3, 16), (Axi::Axi4, 256)] {
+        for beats in (0..=258).chain([65_536, 9_999_999_999]) {
+            let tree = nominal_tree(axi, beats);
+            let expected = if (1..=most).contains(&beats) { Ok(()) } else { Err(Refused::by(2, 1)) };
+            assert_eq!(razhikum::read_tree(&tree), expected, "B {beats}");
+            let read = read_tree(&tree);
+            assert_eq!(read.as_ref().map(|_| ()).map_err(|e| *e), expected, "B {beats}");
+            if let Ok(tree) = read {
+                assert_eq!((tree.bus.axi, tree.bus.burst), (axi, beats));
+            }
+        }
+    }
+}
+
+/// Reports, runs, waits and bounds do not depend on the name of the bus record, and the peer's tree differs in nothing else.
+#[test]
+fn the_record_name_changes_no_figure() {
+    let accs = "acc 0 0 0 4 8 1 1 0 1\nacc 1 1 0 4 8 1 1 0 1\nacc 2 2 0 4 8 1 1 0 1\nacc 3 2 1 4 8 1 1 0 1\n";
+    let nested = file(&format!("{BUS}int 1 0 1 1\nint 2 1 1 1\n{accs}"));
+    let trace = file("o 0 0 4\no 0 1 2\no 0 2 1\no 0 3 1\n");
+    for tree in [nested, apart(""), apart(" 2"), apart(" 15")] {
+        let other = renamed(&tree);
+        assert!(tree.starts_with(b"bus\t") && other.starts_with(b"bus3\t"));
+        for a in 0..4 {
+            assert_eq!(bound(&tree, a), bound(&other, a));
+        }
+        let reports = [&tree, &other].map(|tree| {
+            let (mut page, mut text) = (Box::new([0; PAGE]), Vec::new());
+            assert_eq!(peer::report::report(tree, &mut text), Ok(()));
+            assert_eq!(razhikum::report(tree, &mut page), Ok(&text[..]));
+            text
+        });
+        assert_eq!(reports[0], reports[1]);
+        for channel in Channel::BOTH {
+            assert_eq!(run_on(&tree, channel, &trace, 16), run_on(&other, channel, &trace, 16));
+            for (a, number) in [(0, 1), (0, 2), (1, 2), (2, 1), (3, 1), (4, 1)] {
+                let mut rooms = [[99; 64]; 2];
+                let [ours, theirs] = &mut rooms;
+                let wait = razhikum::why(&tree, channel, &trace, a, number, ours);
+                assert_eq!(wait, razhikum::why(&other, channel, &trace, a, number, theirs));
+                assert_eq!(rooms[0], rooms[1]);
+            }
+        }
+        let [tree, other] = [tree, other].map(|tree| read_tree(&tree).expect("a sound tree"));
+        assert_ne!(tree, other);
+        let bus = peer::read::Bus { axi: Axi::Axi3, ..tree.bus };
+        assert_eq!(Tree { bus, ..tree }, other);
+    }
+}
+
 fn is_written_in(tree: &[u8], room: usize, expected: Result<&[u8], Refused>) {
     let (mut out, mut other) = (vec![99; room], vec![99; room]);
     assert_eq!(razhikum::rewrite(tree, &mut out), expected);
@@ -232,18 +285,22 @@ fn a_tree_written_back() {
         let accs = format!("{ints}{}", accs.concat());
         for (delay, kept) in [("", ""), (" 0", ""), (" 1", " 1"), (" 15", " 15")] {
             is_written(&with_delay(delay, &accs), &with_delay(kept, &by_place));
+            // "The writer keeps the record name."
+            is_written(&renamed(&with_delay(delay, &accs)), &renamed(&with_delay(kept, &by_place)));
         }
     }
 }
 
-/// No text is longer than `TREE_TEXT` bytes, and one has as many.
+/// No text is longer than `TREE_TEXT` bytes, and one of each name of the bus record has as many.
 #[test]
 fn the_longest_text() {
-    let tree = longest_tree();
-    let text = peer::write::tree_text(&peer::read::read_tree(&tree).expect("a sound tree"));
-    assert_eq!(text.len(), TREE_TEXT);
-    assert_ne!(text, tree);
-    is_written(&tree, &text);
+    for axi in Axi::BOTH {
+        let tree = longest_tree(axi);
+        let text = peer::write::tree_text(&peer::read::read_tree(&tree).expect("a sound tree"));
+        assert_eq!(text.len(), TREE_TEXT);
+        assert_ne!(text, tree);
+        is_written(&tree, &text);
+    }
 }
 
 /// A refused tree comes before the size of the buffer, and a buffer of any size stays as it was.

@@ -1,10 +1,10 @@
-//! Figures of the burst splitter and the joiner, worked out by hand from document 02's item 6 and from source document 004, by library and
-//! peer alike; bursts at page ends with every size; and the peer's offers of bursts.
+//! Figures of the burst splitter and the joiner, worked out by hand from document 02's items 6 and 7 and from source document 004, by
+//! library and peer alike; bursts at page ends with every size; and the peer's offers of bursts.
 use razhikum::{Burst, Channel, Ending, Joiner, Joining, Refused, IDLE, PIECES};
 use razhikum_bench::inputs::{nominal_tree, requests_of, text, SIZES};
 use razhikum_bench::peer;
 use razhikum_bench::peer::calls::fresh;
-use razhikum_bench::peer::read::read_tree;
+use razhikum_bench::peer::read::{read_tree, Axi};
 use Channel::{Read, Write};
 
 fn file(spaced: &str) -> Vec<u8> {
@@ -25,7 +25,12 @@ fn cut(tree: &[u8], burst: Burst) -> Result<Vec<(u32, u32)>, Refused> {
 }
 
 fn on_nominal(nominal: u64, start: u32, beats: u32, size: u32) -> Result<Vec<(u32, u32)>, Refused> {
-    cut(&nominal_tree(nominal), Burst { start, beats, size })
+    cut(&nominal_tree(Axi::Axi4, nominal), Burst { start, beats, size })
+}
+
+/// The same where the bus record is named bus3.
+fn on_bus3(nominal: u64, start: u32, beats: u32, size: u32) -> Result<Vec<(u32, u32)>, Refused> {
+    cut(&nominal_tree(Axi::Axi3, nominal), Burst { start, beats, size })
 }
 
 const NO_BURST: Result<Vec<(u32, u32)>, Refused> = Err(Refused { cause: razhikum::Cause::Burst, line: 0 });
@@ -60,8 +65,63 @@ fn order_of_refusals() {
     }
     for (beats, size) in [(0, 1), (16, 3), (2, 1), (1, 1)] {
         let burst = Burst { start: 4_095, beats, size };
-        assert_eq!(cut(&nominal_tree(257), burst), Err(Refused::by(2, 1)));
+        assert_eq!(cut(&nominal_tree(Axi::Axi4, 257), burst), Err(Refused::by(2, 1)));
+        assert_eq!(cut(&nominal_tree(Axi::Axi3, 17), burst), Err(Refused::by(2, 1)));
         assert_eq!(cut(b"", burst), Err(Refused::by(3, 1)));
+    }
+}
+
+/// "There B is at most 16, and the splitter takes at most 16 beats": 17 beats and more are 15, also where they cross, which 16 beats may. A
+/// burst may have more beats than B.
+#[test]
+fn bursts_on_bus3() {
+    assert_eq!(on_bus3(16, 5, 16, 4), Ok(vec![(5, 16)]));
+    assert_eq!(on_bus3(6, 5, 16, 4), Ok(vec![(5, 6), (28, 6), (52, 4)]));
+    assert_eq!(on_bus3(15, 8, 16, 4), Ok(vec![(8, 15), (68, 1)]));
+    assert_eq!(on_bus3(1, 4_081, 16, 1).map(|pieces| pieces.len()), CROSSES.map(|_| 0));
+    let single: Vec<(u32, u32)> = (0..16).map(|i| (4_080 + i, 1)).collect();
+    assert_eq!(on_bus3(1, 4_080, 16, 1), Ok(single));
+    assert_eq!(on_bus3(16, 4_294_965_248, 16, 128), Ok(vec![(4_294_965_248, 16)]));
+    for nominal in [1, 8, 15, 16] {
+        for (start, size) in [(0, 1), (5, 4), (4_080, 1), (4_096, 128), (u32::MAX, 1), (u32::MAX, 128)] {
+            for beats in [17, 18, 32, 128, 255, 256, 257, u32::MAX, 0] {
+                assert_eq!(on_bus3(nominal, start, beats, size), NO_BURST, "{beats} beats at {start}");
+            }
+            for size in [0, 3, 256] {
+                assert_eq!(on_bus3(nominal, start, 16, size), NO_BURST);
+            }
+        }
+        // 17 beats on a bus of the other name are cut, or cross.
+        assert!(on_nominal(nominal, 5, 17, 4).is_ok());
+        assert_eq!(on_nominal(nominal, 4_080, 17, 1), CROSSES);
+        assert_eq!(on_bus3(nominal, 4_081, 16, 1), CROSSES);
+    }
+}
+
+/// Up to 16 beats the name of the record makes no difference: with every size and B, at the end of a page and before it.
+#[test]
+fn up_to_16_beats_both_are_cut_alike() {
+    for (size, nominal) in SIZES.into_iter().flat_map(|size| (1..=16).map(move |nominal| (size, nominal))) {
+        for beats in 0..=16 {
+            for start in (4_096 - (beats + 1) * size..=4_097).chain([0, 3, u32::MAX - beats * size, u32::MAX]) {
+                let pieces = on_bus3(nominal, start, beats, size);
+                assert_eq!(pieces, on_nominal(nominal, start, beats, size));
+                assert_eq!(pieces == NO_BURST, beats == 0);
+            }
+        }
+    }
+}
+
+/// A joiner knows no tree: one of 17 pieces is answered, which no burst on bus3 has.
+#[test]
+fn a_joiner_of_more_pieces_than_bus3_has() {
+    for pieces in [16, 17, 255, 256] {
+        let (mut joiner, mut other) = (Joiner::of(pieces), Joiner::of(pieces));
+        for number in 1..=pieces {
+            let expected = Ok(if number == pieces { Joining::Done } else { Joining::Taken });
+            assert_eq!(joiner.join(number), expected);
+            assert_eq!(peer::burst::join(&mut other, number), expected);
+        }
     }
 }
 
@@ -110,7 +170,7 @@ fn a_long_burst_cut_to_the_nominal_size() {
 /// bursts of 16-word transactions)": words of 4 bytes. Asked for in bursts of 256 words, they are cut to as many.
 #[test]
 fn sixteen_kilobytes_and_four_megabytes() {
-    let tree = nominal_tree(16);
+    let tree = nominal_tree(Axi::Axi4, 16);
     for (bytes, bursts) in [(16 << 10, 256), (4 << 20, 65_536)] {
         let mut next = 0;
         let mut count = 0;
@@ -210,4 +270,39 @@ fn refusals_of_offered_bursts() {
         (0..expected.0).for_each(|_| assert_eq!(by_offers.offer(&tree, a), Ok(())));
         assert_eq!(after, by_offers);
     }
+}
+
+/// Offered bursts keep to the limit of the tree: 17 beats on bus3 are 15, before 16 and what refuses an offer; 16 beats are offered.
+#[test]
+fn offered_bursts_on_bus3() {
+    let accs = "acc 0 0 0 4 8 1 1 0 1\nacc 1 0 1 16 8 1 0 0 1\n";
+    let [tree, other] = ["bus3", "bus"].map(|name| {
+        read_tree(&file(&format!("{name} 8 1 4 2 2 30 25 1 1 4\nint 0 - - 1\n{accs}"))).expect("a sound tree")
+    });
+    let state = fresh(&tree, Write);
+    let offered = |tree, a, start, beats, from| {
+        let mut after = state.clone();
+        let answer = after.offer_burst(tree, a, Burst { start, beats, size: 4 }, from);
+        let mut by_offers = state.clone();
+        (0..answer.0).for_each(|_| assert_eq!(by_offers.offer(tree, a), Ok(())));
+        assert_eq!(after, by_offers);
+        answer
+    };
+    assert_eq!(offered(&tree, 0, 5, 16, 0), (4, Ok(())));
+    assert_eq!(offered(&tree, 0, 5, 16, 3), (1, Ok(())));
+    assert_eq!(offered(&tree, 0, 5, 17, 0), (0, Err(15)));
+    assert_eq!(offered(&tree, 0, 5, 17, 5), (0, Err(15)));
+    assert_eq!(offered(&tree, 0, 5, 256, 0), (0, Err(15)));
+    assert_eq!(offered(&tree, 2, 4_092, 17, 0), (0, Err(15)));
+    assert_eq!(offered(&tree, 2, 4_092, 16, 0), (0, Err(16)));
+    assert_eq!(offered(&tree, 2, 0, 16, 0), (0, Err(7)));
+    assert_eq!(offered(&tree, 1, 0, 16, 0), (0, Err(14)));
+    assert_eq!(offered(&other, 0, 5, 16, 0), (4, Ok(())));
+    assert_eq!(offered(&other, 0, 5, 17, 0), (4, Err(8)));
+    assert_eq!(offered(&other, 0, 5, 17, 4), (1, Ok(())));
+    assert_eq!(offered(&other, 1, 0, 256, 0), (0, Err(14)));
+    // The rules of the state come first.
+    let mut broken = state.clone();
+    broken.admitted[0] = 9;
+    assert_eq!(broken.offer_burst(&tree, 0, Burst { start: 0, beats: 17, size: 4 }, 0), (0, Err(11)));
 }

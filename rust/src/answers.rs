@@ -69,7 +69,8 @@ pub enum Cause {
     TooShort,
     /// 14: the accelerator's job has 0 transactions on this channel. No function here answers it.
     NoJob,
-    /// 15: a burst of 0 or over 256 beats, or a beat size that is no power of two from 1 to 128.
+    /// 15: a burst of 0 or over 256 beats, over 16 where the tree file begins with `bus3`, or a beat size that is no power of two from
+    /// 1 to 128.
     Burst,
     /// 16: a burst that crosses a multiple of 4,096 bytes, or the end of the 32-bit addresses.
     Page,
@@ -143,7 +144,9 @@ impl fmt::Display for Cause {
             Cause::NotServed => "the run serves no transaction of this number",
             Cause::TooShort => "a buffer shorter than the text",
             Cause::NoJob => "no transactions on this channel in the accelerator's job",
-            Cause::Burst => "no count of beats from 1 to 256, or no beat size of 1, 2, 4 up to 128",
+            Cause::Burst => {
+                "no count of beats from 1 to 256 (on bus3 from 1 to 16), or no beat size of 1, 2, 4 up to 128"
+            }
             Cause::Page => "a burst that crosses a multiple of 4,096 bytes",
             Cause::Other(_) => "an unknown cause",
         })

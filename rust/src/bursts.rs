@@ -1,7 +1,8 @@
 //! Bursts cut into pieces, and the joiner of their answers.
 use crate::{raw, refusal, Refused};
 
-/// The most pieces of a burst, and so the entries of each array that [`split`] writes.
+/// The most pieces of a burst, and so the entries of each array that [`split`] writes. On a tree that begins with `bus3` a
+/// burst has at most 16.
 pub const PIECES: usize = 256;
 
 /// A burst, or a piece of one. Any numbers may stand here; what is no burst [`split`] refuses.
@@ -9,7 +10,7 @@ pub const PIECES: usize = 256;
 pub struct Burst {
     /// The start address. It need not be a multiple of the beat size: the first beat then has fewer bytes.
     pub start: u32,
-    /// How many beats, 1 to 256.
+    /// How many beats, 1 to 256, or 1 to 16 on a tree that begins with `bus3`.
     pub beats: u32,
     /// The bytes of a beat, 1, 2, 4 up to 128.
     pub size: u32,
@@ -51,9 +52,10 @@ impl<'a> Pieces<'a> {
 /// The pieces are written at the beginning of both arrays, and the entries after them become 0; on a refusal all entries keep their
 /// contents.
 ///
-/// Refused as the tree is, then with line 0 by [`Cause::Burst`](crate::Cause::Burst) where the beats are not 1 to 256 or the size is no
-/// power of two from 1 to 128, then by [`Cause::Page`](crate::Cause::Page) where the burst crosses a multiple of 4,096 bytes, or would
-/// have a byte past the last 32-bit address. One that ends on the last byte before such a multiple does not cross it.
+/// Refused as the tree is, then with line 0 by [`Cause::Burst`](crate::Cause::Burst) where the beats are not 1 to 256, or not 1 to 16
+/// where the tree file begins with `bus3`, or the size is no power of two from 1 to 128, then by [`Cause::Page`](crate::Cause::Page) where
+/// the burst crosses a multiple of 4,096 bytes, or would have a byte past the last 32-bit address. One that ends on the last byte before
+/// such a multiple does not cross it.
 ///
 /// ```
 /// use razhikum::{split, Burst, Cause, PIECES};
@@ -73,6 +75,13 @@ impl<'a> Pieces<'a> {
 /// let refused = split(tree, Burst { beats: 3, ..burst }, &mut starts, &mut beats).unwrap_err();
 /// assert_eq!(refused.cause, Cause::Page);
 /// let refused = split(tree, Burst { size: 3, ..burst }, &mut starts, &mut beats).unwrap_err();
+/// assert_eq!(refused.cause, Cause::Burst);
+///
+/// // The same tree on AXI3 takes at most 16 beats.
+/// let tree = b"bus3\t8\t1\t4\t2\t2\t30\t25\t1\t1\t16\nint\t0\t-\t-\t1\nacc\t0\t0\t0\t4\t2\t10\t5\t1000\t2000\n";
+/// let burst = Burst { start: 5, beats: 16, size: 4 };
+/// assert_eq!(split(tree, burst, &mut starts, &mut beats)?.count(), 1);
+/// let refused = split(tree, Burst { beats: 17, ..burst }, &mut starts, &mut beats).unwrap_err();
 /// assert_eq!(refused.cause, Cause::Burst);
 /// # Ok::<(), razhikum::Refused>(())
 /// ```
@@ -99,7 +108,7 @@ pub enum Joining {
 }
 
 /// Takes the answers of a burst's pieces in order. Any numbers may stand here; a joiner with no pieces, with more than [`PIECES`], or
-/// with more answered than there are breaks its rules, and takes no answer.
+/// with more answered than there are breaks its rules, and takes no answer. It knows no tree.
 #[derive(Clone, Copy, Debug, PartialEq, Eq, Hash)]
 pub struct Joiner {
     /// How many pieces the burst has.

@@ -7,6 +7,10 @@
 //! files of any bytes included. What C passes as a pointer and a length comes from a slice here. Files are those of
 //! `docs/FORMAT.md`; what is computed is in `docs/MODEL.md`. The stack that a call needs is said in `include/razhikum.h`.
 //!
+//! A tree file begins with a line `bus` for a board of AMBA AXI4, whose bursts have at most 256 beats, or `bus3` for one of AXI3, whose
+//! bursts have at most 16. Its fields are the same. The name limits the nominal burst length B and what [`split`] takes, and is kept by
+//! [`rewrite`]; nothing else depends on it.
+//!
 //! Any number of threads may call at the same time: the library has no memory of its own. It writes its caller's stack and the
 //! buffer or the arrays that the call lends, and nothing else.
 //!
@@ -60,7 +64,7 @@ pub use answers::{Bound, Cause, Channel, Ending, FileRefused, Refused, Wait, Wai
 pub use bursts::{split, Burst, Joiner, Joining, Pieces, PIECES};
 
 /// The version of this wrapper: 10,000 for each first figure, 100 for each second, 1 for each third.
-pub const VERSION: u32 = 20_100;
+pub const VERSION: u32 = 20_200;
 
 /// The size of the page that a report is put on, in bytes.
 pub const PAGE: usize = 65_536;
@@ -121,9 +125,10 @@ pub fn report<'a>(tree: &[u8], page: &'a mut [u8; PAGE]) -> Result<&'a [u8], Ref
     Ok(&page[..r.bytes])
 }
 
-/// Writes the tree of a tree file back at the beginning of `out`, and gives that part of it: the bus line, without a return delay of
-/// 0, the int lines by number, and the acc lines by interconnect and then by port, whatever their order in the file. Read again it
-/// gives the same tree, and two files of one tree give the same bytes. The bytes past it keep their contents; on a refusal all do.
+/// Writes the tree of a tree file back at the beginning of `out`, and gives that part of it: the bus line, with its name, `bus` or
+/// `bus3`, and without a return delay of 0, the int lines by number, and the acc lines by interconnect and then by port, whatever their
+/// order in the file. Read again it gives the same tree, and two files of one tree give the same bytes. The bytes past it keep their
+/// contents; on a refusal all do.
 ///
 /// Refused as the tree is, then by [`Cause::Range`] where `out` is longer than [`LIMIT`], then by [`Cause::TooShort`] where it is
 /// shorter than the text.

@@ -349,6 +349,94 @@ fn refused_bursts() {
     }
 }
 
+/// AXI3: the tree of [`nominal`] with the record name bus3.
+fn nominal3(beats: u32) -> Vec<u8> {
+    [b"bus3", &nominal(beats)[3..]].concat()
+}
+
+/// B is at most 16 on a bus3 line: 17 is refused by 2, as 257 is on a bus line. No other name is one, and a second line of either name is
+/// out of order.
+#[test]
+fn trees_of_axi3() {
+    let out_of_range = Err(Refused { cause: Cause::Range, line: 1 });
+    for beats in 0..=257 {
+        let expected = if (1..=16).contains(&beats) { Ok(()) } else { out_of_range };
+        assert_eq!(read_tree(&nominal3(beats)), expected);
+        assert_eq!(read_tree(&nominal(beats)), if (1..=256).contains(&beats) { Ok(()) } else { out_of_range });
+    }
+    let read = |tree: &str| read_tree(&file(tree)).map_err(|refused| (refused.cause, refused.line));
+    let rest = "8 1 4 2 2 30 25 1 1 16";
+    let ends = "int 0 - - 1\nacc 0 0 0 4 2 1 1 0 1\n";
+    assert_eq!(read(&format!("bus3 {rest} 15\n{ends}")), Ok(()));
+    assert_eq!(read(&format!("bus3 {rest} 16\n{ends}")), Err((Cause::Range, 1)));
+    for name in ["bus33", "BUS3", "Bus3", "bus03", "bus4", "bu3", "3"] {
+        assert_eq!(read(&format!("{name} {rest}\n{ends}")), Err((Cause::Shape, 1)), "{name}");
+    }
+    for (one, other) in [("bus", "bus3"), ("bus3", "bus"), ("bus3", "bus3")] {
+        assert_eq!(read(&format!("{one} {rest}\n{other} {rest}\n{ends}")), Err((Cause::Order, 2)));
+        assert_eq!(read(&format!("{one} {rest}\n{ends}{other} {rest}\n")), Err((Cause::Order, 4)));
+    }
+    let in_a_trace = read_trace(&nominal3(16), &file("o 0 0 1\nbus3 0 0 1\n"));
+    assert_eq!(in_a_trace, Err(FileRefused::Trace(Refused { cause: Cause::Shape, line: 2 })));
+}
+
+/// The name is written back as it was read, and nothing else depends on it.
+#[test]
+fn the_name_bus3_is_kept() {
+    let ints = "int 0 - - 1\nint 1 0 7 16\n";
+    let (at_0, at_1) = ("acc 1 0 3 4 2 1 0 0 100\n", "acc 0 1 7 4 2 10 5 1000 2000\n");
+    let trace = file("o 0 0 2\no 0 1 1\n");
+    for (delay, kept) in [("", ""), (" 0", ""), (" 15", " 15")] {
+        let tree = |name: &str, delay: &str, accs: [&str; 2]| {
+            file(&format!("{name} 8 1 4 2 2 30 25 1 1 16{delay}\n{ints}{}", accs.concat()))
+        };
+        for name in ["bus", "bus3"] {
+            is_written(&tree(name, delay, [at_1, at_0]), &tree(name, kept, [at_0, at_1]));
+        }
+        let answers = ["bus", "bus3"].map(|name| {
+            let tree = tree(name, delay, [at_1, at_0]);
+            let (mut page, mut out, mut list) = (Box::new([0; PAGE]), [99; 40], [99; 40]);
+            let text = report(&tree, &mut page).expect("a report").to_vec();
+            let ending = run(&tree, Read, &trace, &mut out).expect("a run");
+            let wait = why(&tree, Read, &trace, 0, 2, &mut list).map(|wait| (wait.count, wait.slot)).expect("a wait");
+            (count(&tree), [0, 1, 2].map(|a| bound(&tree, a)), text, ending, out, wait, list)
+        });
+        assert_eq!(answers[0], answers[1]);
+    }
+}
+
+/// On bus3 a burst of 16 beats is cut, to any B, and one of 17 is refused by 15, also where it crosses; a joiner knows no tree.
+#[test]
+fn bursts_of_axi3() {
+    let no_burst = Err(Refused { cause: Cause::Burst, line: 0 });
+    let crosses = Err(Refused { cause: Cause::Page, line: 0 });
+    assert_eq!(cut(&nominal3(16), 5, 16, 4), Ok(vec![(5, 16)]));
+    assert_eq!(cut(&nominal3(6), 5, 16, 4), Ok(vec![(5, 6), (28, 6), (52, 4)]));
+    assert_eq!(cut(&nominal3(1), 4_080, 16, 1), Ok((0..16).map(|i| (4_080 + i, 1)).collect()));
+    for b in 1..=16 {
+        let tree = nominal3(b);
+        for beats in 1..=16 {
+            for start in [0, 5, 4_000, 4_080, 4_096, u32::MAX - 63, u32::MAX] {
+                assert_eq!(cut(&tree, start, beats, 4), cut(&nominal(b), start, beats, 4));
+            }
+        }
+        for beats in (17..=257).chain([0, u32::MAX]) {
+            for start in [0, 4_090, u32::MAX] {
+                assert_eq!(cut(&tree, start, beats, 4), no_burst);
+            }
+        }
+        assert_eq!(
+            (cut(&tree, 4_081, 16, 1), cut(&tree, 4_081, 17, 1), cut(&tree, 0, 16, 3)),
+            (crosses.clone(), no_burst.clone(), no_burst.clone())
+        );
+        assert_eq!(cut(&nominal(b), 4_081, 17, 1), crosses);
+    }
+    assert_eq!(cut(&nominal3(17), 0, 17, 4), Err(Refused { cause: Cause::Range, line: 1 }));
+    let mut joiner = Joiner::of(17);
+    assert!((1..17).all(|number| joiner.join(number) == Ok(Joining::Taken)));
+    assert_eq!(joiner.join(17), Ok(Joining::Done));
+}
+
 #[test]
 fn joiners() {
     let refused = Err(Refused { cause: Cause::Broken, line: 0 });
@@ -392,7 +480,8 @@ fn refusals_in_words() {
         let burst = Burst { start: 4_095, beats, size: 1 };
         split(&file(SMALL), burst, &mut [0; PIECES], &mut [0; PIECES]).unwrap_err().to_string()
     };
-    assert_eq!(of_burst(0), "refused by 15: no count of beats from 1 to 256, or no beat size of 1, 2, 4 up to 128");
+    let words = "no count of beats from 1 to 256 (on bus3 from 1 to 16), or no beat size of 1, 2, 4 up to 128";
+    assert_eq!(of_burst(0), format!("refused by 15: {words}"));
     assert_eq!(of_burst(2), "refused by 16: a burst that crosses a multiple of 4,096 bytes");
     let of_piece = Joiner::of(2).join(2).unwrap_err().to_string();
     let words = "a configuration, a state or a joiner that breaks its rules, or a piece out of turn";

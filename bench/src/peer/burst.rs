@@ -1,7 +1,7 @@
-//! The burst splitter and the joiner (document 02, item 6), and a burst offered to the machine piece by piece. A burst is walked along
-//! its addresses: a piece is taken off its front while beats are left.
+//! The burst splitter and the joiner (document 02, items 6 and 7), and a burst offered to the machine piece by piece. A burst is walked
+//! along its addresses: a piece is taken off its front while beats are left.
 use crate::peer::calls::State;
-use crate::peer::read::{read_tree, Tree};
+use crate::peer::read::{read_tree, Bus, Tree};
 use razhikum::{Burst, Joiner, Joining, Pieces, Refused, PIECES};
 
 const BROKEN: u8 = 11;
@@ -16,19 +16,20 @@ pub struct Cut {
     nominal: u32,
 }
 
-/// "15 for 0 or over 256 beats or a bad beat size, then 16 for a burst that crosses a multiple of 4,096." Every beat size divides a page,
-/// so the bytes from the first beat's own beginning are in one page exactly if they fit between there and the page's end; the last page
-/// ends with the addresses.
-pub fn cut(burst: Burst, nominal: u32) -> Result<Cut, u8> {
+/// "15 for 0 or over 256 beats or a bad beat size, then 16 for a burst that crosses a multiple of 4,096"; on AXI3 "the splitter takes at
+/// most 16 beats", and "anything over the older limit gets the number it gets today for the newer one". Every beat size divides a page, so
+/// the bytes from the first beat's own beginning are in one page exactly if they fit between there and the page's end; the last page ends
+/// with the addresses.
+pub fn cut(burst: Burst, bus: &Bus) -> Result<Cut, u8> {
     let Burst { start, beats, size } = burst;
-    if !matches!(beats, 1..=256) || !matches!(size, 1 | 2 | 4 | 8 | 16 | 32 | 64 | 128) {
+    if beats == 0 || beats > bus.axi.beats() || !matches!(size, 1 | 2 | 4 | 8 | 16 | 32 | 64 | 128) {
         return Err(BURST);
     }
     let into_page = (start % PAGE) & !(size - 1);
     if PAGE - into_page < beats * size {
         return Err(CROSSES);
     }
-    Ok(Cut { left: burst, nominal })
+    Ok(Cut { left: burst, nominal: bus.burst as u32 })
 }
 
 impl Iterator for Cut {
@@ -55,7 +56,7 @@ pub fn split<'a>(
     beats: &'a mut [u32; PIECES],
 ) -> Result<Pieces<'a>, Refused> {
     let tree = read_tree(tree)?;
-    let pieces = cut(burst, tree.bus.burst as u32).map_err(|number| Refused::by(number, 0))?;
+    let pieces = cut(burst, &tree.bus).map_err(|number| Refused::by(number, 0))?;
     (*starts, *beats) = ([0; PIECES], [0; PIECES]);
     let mut count = 0;
     for piece in pieces {
@@ -66,7 +67,8 @@ pub fn split<'a>(
 }
 
 /// Takes the answer of a piece: "numbered from 1, in order", done "at the last and only there"; "one out of turn, or after the last, is
-/// refused 11". Those still to come are numbered from one more than is answered to the last, and the next of them is taken.
+/// refused 11". Those still to come are numbered from one more than is answered to the last, and the next of them is taken. Of trees it
+/// knows nothing, so that up to 256 pieces are answered, whatever the bus speaks.
 pub fn join(joiner: &mut Joiner, number: u32) -> Result<Joining, Refused> {
     let to_come = joiner.answered..joiner.pieces;
     if joiner.pieces > PIECES as u32 || to_come.is_empty() || number.checked_sub(1) != Some(to_come.start) {
@@ -83,7 +85,7 @@ impl State {
         if !self.keeps_rules(tree) {
             return (0, Err(BROKEN));
         }
-        let pieces = match cut(burst, tree.bus.burst as u32) {
+        let pieces = match cut(burst, &tree.bus) {
             Ok(pieces) => pieces,
             Err(refusal) => return (0, Err(refusal)),
         };

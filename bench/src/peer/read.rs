@@ -1,8 +1,38 @@
-//! The readers of tree and trace files ("The tree on paper", "What is refused"; document 02, item 2, for the return delay).
+//! The readers of tree and trace files ("The tree on paper", "What is refused"; document 02, item 2, for the return delay, and item 7 for
+//! the name of the bus record).
 use razhikum::{Channel, Refused, LIMIT};
+
+/// What the bus speaks: "AMBA AXI3 allows bursts of at most 16 beats, AXI4 incrementing bursts of up to 256".
+#[derive(Clone, Copy, Debug, Default, PartialEq, Eq)]
+pub enum Axi {
+    Axi3,
+    #[default]
+    Axi4,
+}
+
+impl Axi {
+    pub const BOTH: [Axi; 2] = [Axi::Axi3, Axi::Axi4];
+
+    /// The name of its bus record.
+    pub const fn name(self) -> &'static str {
+        match self {
+            Axi::Axi3 => "bus3",
+            Axi::Axi4 => "bus",
+        }
+    }
+
+    /// The most beats of a burst: of the nominal length B, and of what is cut to it.
+    pub const fn beats(self) -> u32 {
+        match self {
+            Axi::Axi3 => 16,
+            Axi::Axi4 => 256,
+        }
+    }
+}
 
 #[derive(Clone, Copy, Debug, Default, PartialEq, Eq)]
 pub struct Bus {
+    pub axi: Axi,
     pub window: u32,
     pub ta: u64,
     pub da: u64,
@@ -109,7 +139,7 @@ impl Cursor<'_> {
         Some(())
     }
 
-    /// Steps over a record name if it is the next one.
+    /// Steps over a record name, or a part of one, if it comes next.
     fn name(&mut self, name: &[u8]) -> bool {
         let found = self.text[self.at..].starts_with(name);
         if found {
@@ -176,7 +206,7 @@ fn in_limits(values: &[u64], limits: &[(u64, u64)]) -> Result<(), u8> {
 
 const U32: u64 = 4_294_967_295;
 
-/// P, tA, dA, dD, dB, pR, pW, tD, tB, B, r
+/// P, tA, dA, dD, dB, pR, pW, tD, tB, B, r. B is held besides to what the bus speaks.
 const BUS: [(u64, u64); 11] = [
     (1, 65_535),
     (1, 255),
@@ -207,7 +237,8 @@ struct Reading {
 impl Reading {
     fn line(&mut self, cursor: &mut Cursor) -> Result<(), u8> {
         if cursor.name(b"bus") {
-            self.bus_line(bus_fields(cursor).ok_or(SHAPE)?)
+            let axi = if cursor.name(b"3") { Axi::Axi3 } else { Axi::Axi4 };
+            self.bus_line(axi, bus_fields(cursor).ok_or(SHAPE)?)
         } else if cursor.name(b"int") {
             let (number, parent, port, granularity) = int_fields(cursor).ok_or(SHAPE)?;
             self.int_line(number, parent, port, granularity)
@@ -218,13 +249,18 @@ impl Reading {
         }
     }
 
-    fn bus_line(&mut self, v: [u64; 11]) -> Result<(), u8> {
+    /// "bus3 is a record name beside bus, with its fields and its place, and means AXI3: there B is at most 16."
+    fn bus_line(&mut self, axi: Axi, v: [u64; 11]) -> Result<(), u8> {
         in_limits(&v, &BUS)?;
+        let [window, ta, da, dd, db, pr, pw, td, tb, burst, delay] = v;
+        if burst > axi.beats().into() {
+            return Err(VALUE);
+        }
         if self.bus.is_some() {
             return Err(ORDER);
         }
-        let [window, ta, da, dd, db, pr, pw, td, tb, burst, delay] = v;
-        self.bus = Some(Bus { window: window as u32, ta, da, dd, db, pr, pw, td, tb, burst, delay: delay as u32 });
+        let (window, delay) = (window as u32, delay as u32);
+        self.bus = Some(Bus { axi, window, ta, da, dd, db, pr, pw, td, tb, burst, delay });
         Ok(())
     }
 
@@ -296,7 +332,7 @@ impl Reading {
     }
 }
 
-/// The fields of a bus line. The last one, the return delay, may be absent: that means 0.
+/// The fields of a bus line of either name. The last one, the return delay, may be absent: that means 0.
 fn bus_fields(cursor: &mut Cursor) -> Option<[u64; 11]> {
     let mut values = [0; 11];
     let (always, delay) = values.split_at_mut(10);

@@ -1,4 +1,4 @@
-//! A tree written back as text (document 02, item 4).
+//! A tree written back as text (document 02, items 4 and 7).
 use crate::peer::read::{read_tree, Interconnect, Tree};
 use crate::peer::report::put_number;
 use razhikum::{Refused, LIMIT, TREE_TEXT};
@@ -12,12 +12,12 @@ fn put_line(out: &mut Vec<u8>, name: &[u8], numbers: &[u64]) {
     out.push(b'\n');
 }
 
-/// The bus line. "It leaves out a return delay of 0."
+/// The bus line. "It leaves out a return delay of 0", and "keeps the record name".
 fn put_bus(out: &mut Vec<u8>, tree: &Tree) {
     let bus = &tree.bus;
     let (window, delay) = (bus.window.into(), bus.delay.into());
     let all = [window, bus.ta, bus.da, bus.dd, bus.db, bus.pr, bus.pw, bus.td, bus.tb, bus.burst, delay];
-    put_line(out, b"bus", &all[..if delay == 0 { 10 } else { 11 }]);
+    put_line(out, bus.axi.name().as_bytes(), &all[..if delay == 0 { 10 } else { 11 }]);
 }
 
 fn put_int(out: &mut Vec<u8>, number: usize, interconnect: &Interconnect) {

@@ -47,6 +47,18 @@ pub enum Cutting {
     BeatsTo257,
     /// Beats are counted in a byte.
     BeatsInByte,
+    /// bus3 takes 17 beats and more too, as bus does.
+    LongOnBus3,
+    /// 16 is the limit on every tree.
+    ShortOnBus,
+    /// On bus3 16 beats are too many.
+    To15OnBus3,
+    /// On bus3 17 beats are not too many.
+    To17OnBus3,
+    /// A burst has at most as many beats as a piece.
+    BeatsToB,
+    /// More beats than bus3 takes are refused after 16.
+    LateOnBus3,
     /// No beats are a burst of one piece without any.
     NoBeats,
     /// 15 and 16 come before the tree's refusals.
@@ -55,6 +67,19 @@ pub enum Cutting {
     RestKept,
     /// A refusal makes every entry 0.
     RefusalClears,
+}
+
+/// What a tree says of bursts: the beats of a piece, B, and the most beats of a burst, by the name of its bus record.
+#[derive(Clone, Copy, Debug)]
+pub struct Lengths {
+    pub nominal: u32,
+    pub most: u32,
+}
+
+impl Lengths {
+    pub fn is_bus3(self) -> bool {
+        self.most == 16
+    }
 }
 
 /// The bytes of each beat: of the first from the start address on, of the others all.
@@ -102,13 +127,18 @@ fn is_size(size: u32, cutting: Cutting) -> bool {
     }
 }
 
-fn is_count(beats: u32, cutting: Cutting) -> bool {
-    match cutting {
-        Cutting::BeatsTo255 => (1..=255).contains(&beats),
-        Cutting::BeatsTo257 => (1..=257).contains(&beats),
-        Cutting::NoBeats => beats <= 256,
-        _ => (1..=256).contains(&beats),
-    }
+fn is_count(beats: u32, lengths: Lengths, cutting: Cutting) -> bool {
+    let most = match (cutting, lengths.is_bus3()) {
+        (Cutting::BeatsTo255, false) => 255,
+        (Cutting::BeatsTo257, false) => 257,
+        (Cutting::ShortOnBus, false) => 16,
+        (Cutting::To15OnBus3, true) => 15,
+        (Cutting::To17OnBus3, true) => 17,
+        (Cutting::LongOnBus3 | Cutting::LateOnBus3, true) => 256,
+        (Cutting::BeatsToB, _) => lengths.nominal,
+        _ => lengths.most,
+    };
+    (u32::from(cutting != Cutting::NoBeats)..=most).contains(&beats)
 }
 
 /// Of how many beats each piece is.
@@ -148,12 +178,13 @@ pub fn pieces(burst: Burst, nominal: u32, cutting: Cutting) -> Vec<Burst> {
     lengths(burst, nominal, cutting).into_iter().map(piece).collect()
 }
 
-/// What the splitter answers on a tree that was read with this answer, for pieces of so many beats.
-fn cut(burst: Burst, tree: Result<u32, Refused>, cutting: Cutting) -> Result<Vec<Burst>, Refused> {
+/// What the splitter answers on a tree that was read with this answer.
+fn cut(burst: Burst, tree: Result<Lengths, Refused>, cutting: Cutting) -> Result<Vec<Burst>, Refused> {
     let by = |number| Err(Refused::by(number, 0));
-    if cutting != Cutting::TreeLast {
-        tree?;
-    }
+    let lengths = match tree {
+        Err(_) if cutting == Cutting::TreeLast => Lengths { nominal: 256, most: 256 },
+        _ => tree?,
+    };
     let burst = match cutting {
         Cutting::BeatsInByte => Burst { beats: burst.beats % 256, ..burst },
         _ => burst,
@@ -161,20 +192,23 @@ fn cut(burst: Burst, tree: Result<u32, Refused>, cutting: Cutting) -> Result<Vec
     if cutting == Cutting::PageFirst && would_cross(burst) {
         return by(16);
     }
-    if !is_count(burst.beats, cutting) || !is_size(burst.size, cutting) {
+    if !is_count(burst.beats, lengths, cutting) || !is_size(burst.size, cutting) {
         return by(15);
     }
     if burst.beats > 0 && crosses(burst, cutting) {
         return by(16);
     }
-    Ok(pieces(burst, tree?, cutting))
+    if cutting == Cutting::LateOnBus3 && burst.beats > lengths.most {
+        return by(15);
+    }
+    Ok(pieces(burst, tree?.nominal, cutting))
 }
 
 /// An answer with every entry of both arrays: the count of pieces, their start addresses and their beats.
 pub type Answer = (Result<u32, Refused>, Vec<u32>, Vec<u32>);
 
 /// The answer where every entry was `filled` before.
-pub fn split(burst: Burst, tree: Result<u32, Refused>, filled: u32, cutting: Cutting) -> Answer {
+pub fn split(burst: Burst, tree: Result<Lengths, Refused>, filled: u32, cutting: Cutting) -> Answer {
     match cut(burst, tree, cutting) {
         Ok(pieces) => {
             let rest = if cutting == Cutting::RestKept { filled } else { 0 };

@@ -1,5 +1,6 @@
 //! What the tests share.
 pub mod counts;
+pub mod reading;
 pub mod shares;
 pub mod simple;
 pub mod written;

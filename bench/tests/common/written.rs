@@ -17,6 +17,10 @@ pub enum Writing {
     DelayWritten,
     /// No return delay is written.
     NoDelay,
+    /// bus3 is written as bus, as before document 02's item 7.
+    NameLost,
+    /// The name is bus3 exactly if B is at most 16.
+    NameByB,
     WithoutPort7,
     /// The size of the buffer is tested before the tree.
     SizeBeforeTree,
@@ -47,13 +51,17 @@ fn rank(line: &str, writing: Writing) -> (u32, u32) {
     }
 }
 
-/// The bus line. It ends in a 0 only where that is a return delay, since the field before it, B, is at least 1.
+/// The bus line, with the name that it has. It ends in a 0 only where that is a return delay, since the field before it, B, is at least 1.
 fn bus(line: &str, writing: Writing) -> String {
     let short = line.strip_suffix("\t0").unwrap_or(line);
+    let (_, rest) = short.split_once('\t').expect("fields");
     let fields: Vec<&str> = short.split('\t').collect();
     match writing {
         Writing::DelayWritten if fields.len() == 11 => format!("{short}\t0"),
         Writing::NoDelay => fields[..11].join("\t"),
+        Writing::NameLost => format!("bus\t{rest}"),
+        Writing::NameByB if number(line, 10) <= 16 => format!("bus3\t{rest}"),
+        Writing::NameByB => format!("bus\t{rest}"),
         _ => short.into(),
     }
 }
