@@ -144,9 +144,11 @@ bus-placed n u c b h z s =
 pub bus-step : (n : ℕ) (u : Tree) {b : Bus} {l : List ℕ} → busKeeps b ≡ true → u .bus .window ≡ 0 → WritesBus b l
     → treeLine n u (lineOf l) ≡ given (withBus u b)
 bus-step n u {b} h z (with-delay q) =
-    ap (λ (s : List ℕ). treeLine n u (lineOf s)) q ∙ ap (treeLine n u) (whole-read b (bus-below b h)) ∙ bus-placed n u 11 b h z (bus-shaped (b .axi3) (busValues b) .1)
+    ap (λ (s : List ℕ). treeLine n u (lineOf s)) q ∙ ap (treeLine n u) (whole-read b (bus-below b h))
+    ∙ bus-placed n u 11 b h z (bus-shaped (b .axi3) (busValues b) .1)
 bus-step n u {b} h z (without-delay d q) =
-    ap (λ (s : List ℕ). treeLine n u (lineOf s)) q ∙ ap (treeLine n u) (short-read b d (bus-below b h)) ∙ bus-placed n u 10 b h z (bus-shaped (b .axi3) (busValues b) .0)
+    ap (λ (s : List ℕ). treeLine n u (lineOf s)) q ∙ ap (treeLine n u) (short-read b d (bus-below b h))
+    ∙ bus-placed n u 10 b h z (bus-shaped (b .axi3) (busValues b) .0)
 
 module _ (t : Tree) (e : treeKeeps t ≡ true) where
   S : Sound t

@@ -18,8 +18,8 @@ use Rattle.burst.proofs.split.Statement.{statement}
 use Rattle.burst.proofs.split.Tie as tie
 
 -- what the splitter answers on the tree, from what was answered
-module _ (t : Tree) (b : Burst) (n : ℕ) (length : (n ≡ t .bus .burst) × (n ≤ 65535)) (limit : ℕ) (most : (limit ≡ beatLimit (t .bus)) × (limit ≤ mostBeats))
-    (ok : Bool) (keeps : ok ≡ treeKeeps t) where
+module _ (t : Tree) (b : Burst) (n : ℕ) (length : (n ≡ t .bus .burst) × (n ≤ 65535)) (limit : ℕ)
+    (most : (limit ≡ beatLimit (t .bus)) × (limit ≤ mostBeats)) (ok : Bool) (keeps : ok ≡ treeKeeps t) where
   by-tree : (x y : SplitAnswer) → splitMeans x ≡ splitOf limit ok n b → x ≡ y → splitBy t b ≡ splitMeans y
   by-tree x y e g =
       sym (e ∙ ap₂ (λ (o : Bool) (m : ℕ). splitOf limit o m b) keeps (length .0) ∙ ap (λ (l : ℕ). splitOf l (treeKeeps t) (t .bus .burst) b) (most .0))
@@ -46,7 +46,8 @@ lists-of-requires c κs =
     let asked = c .before .before .before in
     let keeps = asked .before in
     let a = keeps .before .before .before .args in
-    lengths (a .t) (a .b) _ (keeps .before .before .burst-length .ensures) _ (keeps .before .beat-limit .ensures) _ (keeps .tree-keeps .ensures) _ _ (asked .split-answer .ensures)
+    lengths (a .t) (a .b) _ (keeps .before .before .burst-length .ensures) _ (keeps .before .beat-limit .ensures) _ (keeps .tree-keeps .ensures) _ _
+    (asked .split-answer .ensures)
     (c .before .answer2 .given .1)
 
 returns : tie.Need-returns

@@ -16,7 +16,8 @@ returns-2 : tie.Need-returns-2
 unfolding busLine
 returns-2 c =
     let s = c .before .before .before .before in
-    c .accepted .ensures ∙ ap given (c .before .store-bus .ensures ∙ bus-stored (s .args .t) (s .args .v) (s .args .axi3) (s .pre)) ∙ sym (passed _ _ _ (le-ltb _ _ (c .before .before .if1 .left)))
+    let stored = c .before .store-bus .ensures ∙ bus-stored (s .args .t) (s .args .v) (s .args .axi3) (s .pre) in
+    c .accepted .ensures ∙ ap given stored ∙ sym (passed _ _ _ (le-ltb _ _ (c .before .before .if1 .left)))
 
 pub bus-line-spec : {M : Type 1} → statement M
 bus-line-spec = tie.close (tie.spec (λ c κs. search needs) returns (λ c κs. search needs) (λ c κs. search needs) returns-2)

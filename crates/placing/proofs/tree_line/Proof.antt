@@ -53,8 +53,9 @@ acc-line-requires c κs = of-record (c .before .before) AccLine (c .enum-told4 .
 returns : tie.Need-returns
 returns c =
     let s = c .before .before in
+    let l = s .before .before .before .args .l in
     c .refused .ensures
-    ∙ sym (line-shape _ _ (s .before .before .before .args .l) (sym (shape _ (s .before .in-tree .ensures) (s .shape-kept .ensures)) ∙ not-true _ (c .before .if1 .taken)))
+    ∙ sym (line-shape _ _ l (sym (shape l (s .before .in-tree .ensures) (s .shape-kept .ensures)) ∙ not-true _ (c .before .if1 .taken)))
 
 returns-2 : tie.Need-returns-2
 returns-2 c =

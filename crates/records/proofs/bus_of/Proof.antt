@@ -52,4 +52,10 @@ cast-t47 c = omega (arith, held (c .args .axi3) (c .args .t2) (c .pre) 10 (lit< 
 
 pub bus-of-spec : {M : Type 1} → statement M
 bus-of-spec =
-    tie.close (tie.spec (λ c. search needs) cast-t7 (λ c. search needs) cast-t11 (λ c. search needs) cast-t15 (λ c. search needs) cast-t19 (λ c. search needs) cast-t23 (λ c. search needs) cast-t27 (λ c. search needs) cast-t31 (λ c. search needs) cast-t35 (λ c. search needs) cast-t39 (λ c. search needs) cast-t43 (λ c. search needs) cast-t47 (λ c. search needs))
+    tie.close
+    (tie.spec
+    (λ c. search needs) cast-t7 (λ c. search needs) cast-t11 (λ c. search needs) cast-t15
+    (λ c. search needs) cast-t19 (λ c. search needs) cast-t23 (λ c. search needs) cast-t27
+    (λ c. search needs) cast-t31 (λ c. search needs) cast-t35 (λ c. search needs) cast-t39
+    (λ c. search needs) cast-t43 (λ c. search needs) cast-t47
+    (λ c. search needs))

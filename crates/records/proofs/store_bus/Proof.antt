@@ -28,7 +28,8 @@ returns : tie.Need-returns
 unfolding busStored
 returns c =
     let s = c .before .before in
-    sym (passed _ _ _ (sym (tested (s .before .args .axi3) (s .before .args .v) (s .bus-kind .ensures) (c .before .limits-kept .ensures)) ∙ not-true _ (c .if1 .taken)))
+    let same = tested (s .before .args .axi3) (s .before .args .v) (s .bus-kind .ensures) (c .before .limits-kept .ensures) in
+    sym (passed _ _ _ (sym same ∙ not-true _ (c .if1 .taken)))
 
 bus-of-requires : tie.Need-bus-of-requires
 bus-of-requires c κs = kept c
