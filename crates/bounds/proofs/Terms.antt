@@ -5,8 +5,9 @@ use Rattle.model.specs.declared.Bus.{Bus}
 use Rattle.model.specs.declared.Accelerator.{Accelerator}
 use Rattle.bounds.specs.Bounds.{interference, Contention, contention, channelTime, responseOf, isMet, analysisFrom}
 
-pub channel : (n alone y slot a i s r : ℕ) → r ≡ channelTime n a i s → a ≡ alone → i ≡ y → s ≡ slot → r ≡ channelTime n alone y slot
-channel n alone y slot a i s r e f g h = cc
+pub channel : (n alone y held slot a i k s r : ℕ) → r ≡ channelTime n a i k s → a ≡ alone → i ≡ y → k ≡ held → s ≡ slot
+    → r ≡ channelTime n alone y held slot
+channel n alone y held slot a i k s r e f g h j = cc
 
 pub met : (n share y : ℕ) → y ≡ interference n share → record { share = share; interference = y } ≡ contention n share
 met n share y e = ap (λ (k : ℕ). record { share = share; interference = k }) e

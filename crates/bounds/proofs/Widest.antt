@@ -1,5 +1,6 @@
 -- A tree that reaches each largest figure: four levels, every granularity and outstanding limit 16, an accelerator at each
--- of the seven other ports along the path of accelerator 0, and the largest delays and job. Computed from the definitions.
+-- of the seven other ports along the path of accelerator 0, the largest window, delays and job, and budget 1 for accelerator 0, whose
+-- transactions then take a window each. Computed from the definitions.
 use Prim.Native.Nat.{ℕ, _+_}
 use mathlib.Core.Bool.{false}
 use mathlib.Core.List.{List, [], _∷_, _++_}
@@ -13,7 +14,8 @@ use Rattle.model.specs.declared.Port.{Port}
 use Rattle.model.specs.declared.Port.the-variants.{Acc, Int}
 use Rattle.folds.specs.Fold.{sum, all}
 use Rattle.model.specs.Tree.{noInterconnect, noAccelerator, above}
-use Rattle.model.specs.Trees.{greatestBus, busiest}
+use Rattle.model.specs.Builders.{withJob}
+use Rattle.model.specs.Trees.{greatestBus, block, busiest}
 use Rattle.model.specs.Beneath.{inside}
 use Rattle.rules.specs.Rules.{treeKeeps, busKeeps, carries, rootPlaced, childPlaced, usedInterconnect, unusedInterconnect, usedAccelerator, unusedAccelerator}
 use Rattle.shares.specs.Shares.{othersAt, shareAlong}
@@ -35,12 +37,16 @@ wide j x n =
 abbrev seven : ℕ → List Accelerator
 seven j = busiest j 1 ∷ busiest j 2 ∷ busiest j 3 ∷ busiest j 4 ∷ busiest j 5 ∷ busiest j 6 ∷ busiest j 7 ∷ []
 
+-- accelerator 0: the largest job with the smallest budget
+abbrev held : Accelerator
+held = withJob 65535 65535 4294967295 4294967295 (block 3 0 16 1)
+
 abbrev pub widest : Tree
 widest =
     record {
       bus = greatestBus;
       interconnects = wide 0 (Int 1) 0 ∷ wide 0 (Int 2) 7 ∷ wide 1 (Int 3) 14 ∷ wide 2 (Acc 0) 21 ∷ replicate 11 noInterconnect;
-      accelerators = busiest 3 0 ∷ (seven 0 ++ seven 1 ++ seven 2 ++ seven 3 ++ replicate 3 noAccelerator);
+      accelerators = held ∷ (seven 0 ++ seven 1 ++ seven 2 ++ seven 3 ++ replicate 3 noAccelerator);
       ints = 4;
       accs = 29;
     }
@@ -51,7 +57,7 @@ largest =
       level = 4;
       reads = record { share = 163047361; interference = 10685308737600 };
       writes = record { share = 163047361; interference = 10685308737600 };
-      response = 1490760862231729620;
+      response = 1491360056307660495;
       period = 4294967295;
       meets = false;
     }

@@ -1,17 +1,21 @@
 -- The bounds of document 01, "Bounds", from interference on, sentence by sentence (capacity, D and share: `Shares.antt` of
--- the crate `shares`). A count of interfering transactions is in slots; every time is in clock cycles, and `cyclesOf` is
--- the only step from the one to the other.
+-- the crate `shares`), and the wait for a new window (document 02, item 8). A count of interfering transactions is in slots, and so
+-- is the wait for a new window; every time is in clock cycles, and `cyclesOf` is the only step from the one to the other.
 --
 -- interference n share       "Interference of N transactions is N × (share - 1)", in slots
+-- heldSlots n b p            "a channel with N transactions and budget b adds ceil(N / b) × P", in slots; "with N 0 it adds 0"
 -- aloneRead b l              "alone, read: tA + L × dA + pR + L × dD + B × tD"
 -- aloneWrite b l             "alone, write: tA + L × max(dA, dD) + B × tD + pW + tB + L × dB"
 -- slotRead b                 "slot time: read tA + pR + B × tD"
 -- slotWrite b                "write tA + B × tD + pW + tB"
 -- cyclesOf y s               "a count becomes cycles only through the slot time"
--- channelTime n alone y s    "N × alone .. + Y × slot", what a channel adds to the response
--- readTime b x l share       what reads add to the response of accelerator x at level l: Nr × alone read + Yr × slot read
+-- channelTime n alone y h s  "N × alone .. + Y × slot", and the wait h for a new window "× slot time of that channel": what a channel adds
+--                            to the response
+-- readTime b x l share       what reads add to the response of accelerator x at level l: Nr × alone read + Yr × slot read, and
+--                            ceil(Nr / b) × P × slot read
 -- writeTime b x l share      "the same for writes"
--- responseOf b x l sr sw     "The response is C + Nr × alone read + Yr × slot read, plus the same for writes", with the shares of both channels
+-- responseOf b x l sr sw     "The response is C + Nr × alone read + Yr × slot read, plus the same for writes", with the shares of both
+--                            channels, and for each the wait for a new window
 -- isMet x r                  "An accelerator meets its period if the response is at most T"
 -- Contention                 what a job's transactions meet on a channel: share and interference; contention n share: that of n of them
 -- Analysis                   what is known of an accelerator: level, what its reads and its writes meet, response, period, verdict
@@ -28,7 +32,7 @@ use Rattle.model.specs.declared.Tree.{Tree}
 use Rattle.model.specs.declared.Bus.{Bus}
 use Rattle.model.specs.declared.Accelerator.{Accelerator}
 use Rattle.model.specs.declared.Channel.the-variants.{Read, Write}
-use Rattle.folds.specs.Fold.{pick}
+use Rattle.folds.specs.Fold.{pick, ceiling}
 use Rattle.model.specs.Tree.{homeOf, levelOf, acceleratorOf}
 use Rattle.rules.specs.Rules.{treeKeeps}
 use Rattle.shares.specs.Shares.{shareOf}
@@ -40,6 +44,9 @@ use Rattle.bounds.specs.declared.BoundAnswer.the-variants.{Refused, Boun
 
 abbrev pub interference : ℕ → ℕ → ℕ
 interference n share = n * (share - 1)
+
+abbrev pub heldSlots : ℕ → ℕ → ℕ → ℕ
+heldSlots n b p = ceiling n b * p
 
 abbrev pub aloneRead : Bus → ℕ → ℕ
 aloneRead b l = b .ta + l * b .da + b .pr + l * b .dd + b .burst * b .td
@@ -56,14 +63,16 @@ slotWrite b = b .ta + b .burst * b .td + b .pw + b .tb
 abbrev pub cyclesOf : ℕ → ℕ → ℕ
 cyclesOf y s = y * s
 
-abbrev pub channelTime : ℕ → ℕ → ℕ → ℕ → ℕ
-channelTime n alone y s = n * alone + cyclesOf y s
+abbrev pub channelTime : ℕ → ℕ → ℕ → ℕ → ℕ → ℕ
+channelTime n alone y h s = n * alone + cyclesOf (y + h) s
 
 abbrev pub readTime : Bus → Accelerator → ℕ → ℕ → ℕ
-readTime b x l share = channelTime (x .reads) (aloneRead b l) (interference (x .reads) share) (slotRead b)
+readTime b x l share =
+    channelTime (x .reads) (aloneRead b l) (interference (x .reads) share) (heldSlots (x .reads) (x .budget) (b .window)) (slotRead b)
 
 abbrev pub writeTime : Bus → Accelerator → ℕ → ℕ → ℕ
-writeTime b x l share = channelTime (x .writes) (aloneWrite b l) (interference (x .writes) share) (slotWrite b)
+writeTime b x l share =
+    channelTime (x .writes) (aloneWrite b l) (interference (x .writes) share) (heldSlots (x .writes) (x .budget) (b .window)) (slotWrite b)
 
 abbrev pub responseOf : Bus → Accelerator → ℕ → ℕ → ℕ → ℕ
 responseOf b x l sr sw = x .computing + readTime b x l sr + writeTime b x l sw

@@ -1,5 +1,5 @@
 // The bounds of document 01: for an accelerator of a configuration its share on each channel, the interference that its job meets
-// there, its response and whether it meets its period.
+// there, its response and whether it meets its period. The response counts the wait for a new window (document 02, item 8).
 mod timing;
 
 use crate::timing::interference_of;
@@ -17,7 +17,7 @@ ghost use mathlib.Core.Path.{_≡_};
 ghost use Rattle.bounds.specs.Bounds.{contention, onChannelMeans, analysed, analysisFrom, meaningOf, boundOf};
 ghost use Rattle.bounds.specs.Limited.{Limited, Share};
 
-// A count of transactions, each of which takes one slot.
+// A count of slots: one for each interfering transaction, P for each window.
 pub struct Slots(pub u64);
 
 // A time in clock cycles.

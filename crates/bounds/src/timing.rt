@@ -1,11 +1,13 @@
-// Interference in slots, and times in clock cycles. `in_cycles` is the only way from the one to the other.
+// Interference and the wait for a new window in slots, and times in clock cycles. `in_cycles` is the only way from the one to the
+// other, so both counts are in slots until a channel has its sum.
 use crate::Cycles;
 use crate::Slots;
 use model::Accelerator;
 use model::Bus;
 ghost use mathlib.Core.Path.{_≡_};
 ghost use Prim.Native.Nat.{_*_, _≤_, max};
-ghost use Rattle.bounds.specs.Bounds.{interference, aloneRead, aloneWrite, slotRead, slotWrite, cyclesOf, channelTime, readTime, writeTime, responseOf};
+ghost use Rattle.bounds.specs.Bounds.{interference, heldSlots, aloneRead, aloneWrite, slotRead, slotWrite};
+ghost use Rattle.bounds.specs.Bounds.{cyclesOf, channelTime, readTime, writeTime, responseOf};
 ghost use Rattle.bounds.specs.Limited.{Limited, Share};
 
 // The interference of n transactions.
@@ -14,6 +16,17 @@ pub fn interference_of(n: u16, share: u64) -> Slots
     ensures { λ r. ⌜ r .0 ≡ interference n share ⌝ }
 {
     Slots((n as u64) * (share - 1))
+}
+
+// The wait of n transactions for a new window: at most this budget of them is admitted in a window, so they take n / budget
+// windows, rounded up, each of `window` slots. Without transactions there is no wait.
+fn held_slots(n: u16, budget: u16, window: u16) -> Slots
+    requires { ⌜ 1 ≤ budget ⌝ }
+    ensures { λ r. ⌜ r .0 ≡ heldSlots n budget window ⌝ }
+{
+    let b = budget as u64;
+    let p = window as u64;
+    Slots((n as u64 + (b - 1)) / b * p)
 }
 
 fn product(a: u16, b: u16) -> u64
@@ -73,18 +86,19 @@ fn slot_write(b: Bus) -> Cycles
 
 // A count of slots in cycles, through the slot time.
 fn in_cycles(count: Slots, slot: Cycles) -> Cycles
-    requires { ⌜ (count .0 ≤ 10685308737600) × (slot .0 ≤ 69885) ⌝ }
+    requires { ⌜ (count .0 ≤ 10689603573825) × (slot .0 ≤ 69885) ⌝ }
     ensures { λ r. ⌜ r .0 ≡ cyclesOf (count .0) (slot .0) ⌝ }
 {
     Cycles(count.0 * slot.0)
 }
 
-// What n transactions of a channel add to the response: each alone, and the interference that they meet.
-fn channel_time(n: u16, alone: Cycles, interference: Slots, slot: Cycles) -> Cycles
-    requires { ⌜ (alone .0 ≤ 71925) × (interference .0 ≤ 10685308737600) × (slot .0 ≤ 69885) ⌝ }
-    ensures { λ r. ⌜ r .0 ≡ channelTime n (alone .0) (interference .0) (slot .0) ⌝ }
+// What n transactions of a channel add to the response: each alone, the interference that they meet, and the slots for which they
+// are held until a new window.
+fn channel_time(n: u16, alone: Cycles, interference: Slots, held: Slots, slot: Cycles) -> Cycles
+    requires { ⌜ (alone .0 ≤ 71925) × (interference .0 ≤ 10685308737600) × (held .0 ≤ 4294836225) × (slot .0 ≤ 69885) ⌝ }
+    ensures { λ r. ⌜ r .0 ≡ channelTime n (alone .0) (interference .0) (held .0) (slot .0) ⌝ }
 {
-    let waited = in_cycles(interference, slot);
+    let waited = in_cycles(Slots(interference.0 + held.0), slot);
     Cycles((n as u64) * alone.0 + waited.0)
 }
 
@@ -97,6 +111,7 @@ fn read_time(b: Bus, x: Accelerator, level: u8, share: u64) -> Cycles
         x.reads,
         alone_read(b, level),
         interference_of(x.reads, share),
+        held_slots(x.reads, x.budget, b.window),
         slot_read(b),
     )
 }
@@ -110,6 +125,7 @@ fn write_time(b: Bus, x: Accelerator, level: u8, share: u64) -> Cycles
         x.writes,
         alone_write(b, level),
         interference_of(x.writes, share),
+        held_slots(x.writes, x.budget, b.window),
         slot_write(b),
     )
 }

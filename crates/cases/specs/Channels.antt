@@ -43,7 +43,7 @@ beneath =
 abbrev pub silent : Tree
 silent =
     tree 16 (interconnect 0 0 1 (ports (Acc 0) (Acc 1)) ∷ [])
-    (withJob 1 1 0 102 (block 0 0 4 8) ∷ withJob 0 0 7 7 (block 0 1 4 8) ∷ [])
+    (withJob 1 1 0 1542 (block 0 0 4 8) ∷ withJob 0 0 7 7 (block 0 1 4 8) ∷ [])
 
 abbrev waits : Channel → State
 waits c = stateOf c (0 ∷ 1 ∷ []) (0 ∷ 1 ∷ []) (7 ∷ []) [] 0
@@ -72,15 +72,17 @@ channels =
     ∷ numbers (sharesFrom beneath Write 0 4) (9 ∷ 15 ∷ 12 ∷ 24 ∷ [])
     -- two transactions of accelerator 1 meet 2 × 5 and 2 × 14 of others, by lemma 9's recursion
     ∷ numbers (interferers beneath Read 2 1 ∷ interferers beneath Write 2 1 ∷ []) (10 ∷ 28 ∷ [])
-    -- "In the worked listing accelerator 0 has shares 2 and 1, yw 0 and response 2,245; accelerator 1 has shares 2 and 2"
+    -- "In the worked listing accelerator 0 has shares 2 and 1, yw 0 ..; accelerator 1 has shares 2 and 2"; the responses by item 8:
+    -- 2,245 + 5 × 8 × 47 + 3 × 8 × 43, and 100 + 8 × 47
     ∷ numbers (shareOf worked Read 0 ∷ shareOf worked Write 0 ∷ shareOf worked Read 1 ∷ shareOf worked Write 1 ∷ []) (2 ∷ 1 ∷ 2 ∷ 2 ∷ [])
     ∷ bounded worked 0
-    (analysed (record { level = 1; reads = contended 2 10; writes = contended 1 0; response = 2245; period = 2000; meets = false }))
+    (analysed (record { level = 1; reads = contended 2 10; writes = contended 1 0; response = 5157; period = 2000; meets = false }))
     ∷ bounded worked 1
-    (analysed (record { level = 1; reads = contended 2 1; writes = contended 2 0; response = 100; period = 100; meets = true }))
-    -- a job of neither reads nor writes: 53 + 49 for the other, with share 1 on both channels; C alone for its own
+    (analysed (record { level = 1; reads = contended 2 1; writes = contended 2 0; response = 476; period = 100; meets = false }))
+    -- a job of neither reads nor writes: 53 + 16 × 47 + 49 + 16 × 43 for the other, with share 1 on both channels; C alone for its own,
+    -- since "with N 0 it adds 0"
     ∷ bounded silent 0
-    (analysed (record { level = 1; reads = contended 1 0; writes = contended 1 0; response = 102; period = 102; meets = true }))
+    (analysed (record { level = 1; reads = contended 1 0; writes = contended 1 0; response = 1542; period = 1542; meets = true }))
     ∷ bounded silent 1
     (analysed (record { level = 1; reads = contended 2 0; writes = contended 2 0; response = 7; period = 7; meets = true }))
     -- "14 for an offer on a channel where the accelerator has 0 transactions", and on that channel alone

@@ -1,5 +1,5 @@
--- Figures for the clauses of document 01 that no starred case tells apart. Each number is worked out by hand from the
--- paper's words; the sum stands beside it where it is not plain. Channels as in `Figures.antt`.
+-- Figures for the clauses of document 01 that no starred case tells apart, with the wait for a new window (document 02, item 8). Each
+-- number is worked out by hand from the paper's words; the sum stands beside it where it is not plain. Channels as in `Figures.antt`.
 --
 -- unequal x y          a bus whose delays all differ, with dA x and dD y
 -- unequalTree T        case 9's tree on the bus with dA 5 and dD 11
@@ -41,7 +41,7 @@ use Rattle.machine.specs.Machine.{admitted, served, idle, refused, notStarted, 
 use Rattle.machine.specs.Calls.{offer, slot}
 use Rattle.runner.specs.Run.{done, stopped, refusedAt, broken as refusedRun}
 use Rattle.shares.specs.Shares.{capacityOf, shareOf}
-use Rattle.bounds.specs.Bounds.{refused as unbounded, analysed, aloneRead, aloneWrite, slotRead, slotWrite}
+use Rattle.bounds.specs.Bounds.{refused as unbounded, analysed, heldSlots, aloneRead, aloneWrite, slotRead, slotWrite}
 use Rattle.put.specs.Page.{bytes}
 use Rattle.listing.specs.Listing.{refusalText}
 use Rattle.cases.specs.Figures.{Figure, answers, answersFrom, keeping, starting, ran, ends, numbers, bounded, printed, told, times, contended}
@@ -252,18 +252,22 @@ onChannel c =
 
 abbrev others : List Figure
 others =
-    -- at level 4: 71 + 143 × 47 for the read, 67 + 143 × 43 for the write
+    -- at level 4: 71 + (143 + 16) × 47 for the read, 67 + (143 + 16) × 43 for the write
     bounded four 4
-    (analysed (record { level = 4; reads = contended 144 143; writes = contended 144 143; response = 13008; period = 1; meets = false }))
+    (analysed (record { level = 4; reads = contended 144 143; writes = contended 144 143; response = 14448; period = 1; meets = false }))
     -- delays that all differ, dD above dA, L 3: 3 + 15 + 40 + 33 + 20; 3 + 33 + 20 + 29 + 13 + 21; 3 + 40 + 20; 3 + 20 + 29 + 13
     ∷ numbers
     (aloneRead (unequal 5 11) 3 ∷ aloneWrite (unequal 5 11) 3 ∷ slotRead (unequal 5 11) ∷ slotWrite (unequal 5 11) ∷ [])
     (111 ∷ 119 ∷ 63 ∷ 65 ∷ [])
     -- and dA above dD: 3 + 51 + 40 + 18 + 20; 3 + 51 + 20 + 29 + 13 + 21
     ∷ numbers (aloneRead (unequal 17 6) 3 ∷ aloneWrite (unequal 17 6) 3 ∷ []) (132 ∷ 137 ∷ [])
-    -- a response with them, L 2, share 4: 1,000 + 10 × 95 + 30 × 63 + 5 × 101 + 15 × 65
-    ∷ bounded (unequalTree 5320) 1
-    (analysed (record { level = 2; reads = contended 4 30; writes = contended 4 15; response = 5320; period = 5320; meets = true }))
+    -- a response with them, L 2, share 4: 1,000 + 10 × 95 + (30 + 2 × 16) × 63 + 5 × 101 + (15 + 16) × 65
+    ∷ bounded (unequalTree 8376) 1
+    (analysed (record { level = 2; reads = contended 4 30; writes = contended 4 15; response = 8376; period = 8376; meets = true }))
+    -- "ceil(N / b) × P": b 8 and P 16, N 0, 1, 8, 9, 16 and 17
+    ∷ numbers
+    (heldSlots 0 8 16 ∷ heldSlots 1 8 16 ∷ heldSlots 8 8 16 ∷ heldSlots 9 8 16 ∷ heldSlots 16 8 16 ∷ heldSlots 17 8 16 ∷ [])
+    (0 ∷ 16 ∷ 16 ∷ 32 ∷ 32 ∷ 48 ∷ [])
     -- "a bound 11, 7"
     ∷ bounded broken 0 (unbounded 11)
     ∷ bounded broken 2 (unbounded 11)
@@ -274,16 +278,16 @@ others =
     (nextPort 129 7 ∷ nextPort 129 0 ∷ nextPort 128 7 ∷ nextPort 8 4 ∷ nextPort 0 0 ∷ nextPort 0 7 ∷ [])
     (0 ∷ 7 ∷ 7 ∷ 3 ∷ 8 ∷ 8 ∷ [])
     -- "the last line says meets if all do": both do, then all but the last
-    ∷ printed (jobs 2245 100)
+    ∷ printed (jobs 5157 476)
     ("acc\tlevel\tsr\tsw\tyr\tyw\tresp\tperiod\tverdict"
-    ∷ "0\t1\t2\t1\t10\t0\t2245\t2245\tmeets"
-    ∷ "1\t1\t2\t2\t1\t0\t100\t100\tmeets"
+    ∷ "0\t1\t2\t1\t10\t0\t5157\t5157\tmeets"
+    ∷ "1\t1\t2\t2\t1\t0\t476\t476\tmeets"
     ∷ "all\tmeets"
     ∷ [])
-    ∷ printed (jobs 2245 99)
+    ∷ printed (jobs 5157 475)
     ("acc\tlevel\tsr\tsw\tyr\tyw\tresp\tperiod\tverdict"
-    ∷ "0\t1\t2\t1\t10\t0\t2245\t2245\tmeets"
-    ∷ "1\t1\t2\t2\t1\t0\t100\t99\tlate"
+    ∷ "0\t1\t2\t1\t10\t0\t5157\t5157\tmeets"
+    ∷ "1\t1\t2\t2\t1\t0\t476\t475\tlate"
     ∷ "all\tlate"
     ∷ [])
     -- "A refusal prints one line only: "refused", number and line, parted by tabs"

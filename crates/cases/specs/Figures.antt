@@ -1,6 +1,7 @@
 -- The starred cases and the worked listing of document 01, "Figures to check by", and a figure for the trap that no case
 -- tells: one table under one claim. What is of the machine, of a run or of a share is given for both channels, as each accelerator
--- of these trees has a job on both. The worked listing is as document 02, item 5 has it. Figures for further clauses: `Clauses.antt`.
+-- of these trees has a job on both. Case 9 is as document 02, item 8 has it, and the worked listing as items 5 and 8. Figures for
+-- further clauses: `Clauses.antt`.
 --
 -- Figure               one figure of a case
 -- answers t c cs xs    the calls cs, from the fresh state of the tree t on channel c, get the answers xs
@@ -89,7 +90,7 @@ contended s y = record { share = s; interference = y }
 
 abbrev responded : ℕ → Bool → BoundResult
 responded T b =
-    analysed (record { level = 2; reads = contended 4 30; writes = contended 4 15; response = 3920; period = T; meets = b })
+    analysed (record { level = 2; reads = contended 4 30; writes = contended 4 15; response = 6112; period = T; meets = b })
 
 abbrev onChannel : Channel → List Figure
 onChannel c =
@@ -147,15 +148,16 @@ reports =
     -- 8: "alone 59 and 55, slots 47 and 43"
     numbers (aloneRead (chain .bus) 2 ∷ aloneWrite (chain .bus) 2 ∷ slotRead (chain .bus) ∷ slotWrite (chain .bus) ∷ [])
     (59 ∷ 55 ∷ 47 ∷ 43 ∷ [])
-    -- 9: "response 3,920; T 3,920 meets, 3,919 is late"
-    ∷ bounded (timed 3920) 1 (responded 3920 true)
-    ∷ bounded (timed 3919) 1 (responded 3919 false)
-    -- the worked listing of the report program: "accelerator 0 has shares 2 and 1, yw 0 and response 2,245; accelerator 1 has shares 2
-    -- and 2" (document 02, item 5)
+    -- 9: "Case 9 becomes 6,112" (document 02, item 8): 3,920 and 2 × 16 × 47 + 16 × 43; T 6,112 meets, 6,111 is late
+    ∷ bounded (timed 6112) 1 (responded 6112 true)
+    ∷ bounded (timed 6111) 1 (responded 6111 false)
+    -- the worked listing of the report program: "accelerator 0 has shares 2 and 1, yw 0 .. accelerator 1 has shares 2 and 2" (document
+    -- 02, item 5); "accelerator 0 gains 5 × 8 × 47 for reads and 3 × 8 × 43 for writes, so 5,157; accelerator 1 gains 376, so 476, and is
+    -- late" (item 8)
     ∷ printed worked
     ("acc\tlevel\tsr\tsw\tyr\tyw\tresp\tperiod\tverdict"
-    ∷ "0\t1\t2\t1\t10\t0\t2245\t2000\tlate"
-    ∷ "1\t1\t2\t2\t1\t0\t100\t100\tmeets"
+    ∷ "0\t1\t2\t1\t10\t0\t5157\t2000\tlate"
+    ∷ "1\t1\t2\t2\t1\t0\t476\t100\tlate"
     ∷ "all\tlate"
     ∷ [])
     ∷ []

@@ -52,6 +52,7 @@ use second::DONE_AT_HOME;
 use second::DONE_EARLY;
 use second::DONE_HOLDING;
 use second::DUE_NOW;
+use second::EMPTY_WINDOW;
 use second::END_CROSSES;
 use second::ENTRIES_LEFT;
 use second::FALLING_FIRST;
@@ -75,6 +76,7 @@ use second::LOWER_RESET;
 use second::NAME_LOST;
 use second::NESTED;
 use second::NO_PORT_7;
+use second::NO_WINDOWS;
 use second::NOT_OUTSTANDING;
 use second::NOT_ROUNDED;
 use second::NUMBER_FIRST;
@@ -82,11 +84,13 @@ use second::ONE_OFFER;
 use second::ORDER_FIRST;
 use second::OTHER_CHANNEL;
 use second::OTHER_NAME;
+use second::OTHER_SLOT;
 use second::OWN_MEETS;
 use second::OWN_PORT;
 use second::PAGE_FIRST;
 use second::REFUSED_COUNTED;
 use second::ROOT_MEETS;
+use second::ROUNDED_DOWN;
 use second::SERVICE_LISTED;
 use second::SHORT_FIRST;
 use second::SIZE_FIRST;
@@ -228,7 +232,7 @@ pub const CUTS: usize = 3552;
 pub const JOINED: usize = 3576;
 
 // What the program writes: a label to each line,
-const LABELS: [u8; 6729] = *b"trees accepted\n\
+const LABELS: [u8; 6919] = *b"trees accepted\n\
     trees accepted, 1 level\n\
     trees accepted, 2 levels\n\
     trees accepted, 3 levels\n\
@@ -432,10 +436,14 @@ const LABELS: [u8; 6729] = *b"trees accepted\n\
     wrong: bus3 written as bus, trees seen\n\
     wrong: up to 256 beats on every tree, bursts seen\n\
     wrong: up to 16 beats on every tree, bursts seen\n\
+    wrong: windows rounded down, trees seen\n\
+    wrong: no wait for new windows, trees seen\n\
+    wrong: windows in the other channel's slot time, trees seen\n\
+    wrong: a window for 0 transactions, trees seen\n\
     differences\n";
 
 // and where its count stands.
-const PLACES: [usize; 205] = [
+const PLACES: [usize; 209] = [
     TREES,
     LEVELS + 1,
     LEVELS + 2,
@@ -640,6 +648,10 @@ const PLACES: [usize; 205] = [
     WRONG + NAME_LOST,
     WRONG + BEATS_256,
     WRONG + BEATS_16,
+    WRONG + ROUNDED_DOWN,
+    WRONG + NO_WINDOWS,
+    WRONG + OTHER_SLOT,
+    WRONG + EMPTY_WINDOW,
     DIFFERENCES,
 ];
 
@@ -663,7 +675,7 @@ fn show_line(labels: &[u8], from: usize, n: usize) -> usize {
 pub fn show(d: &[usize; 16384]) {
     let labels = LABELS;
     let mut from = 0;
-    for i in 0..205 {
+    for i in 0..209 {
         from = show_line(&labels, from, get(d, PLACES[i], 0));
     }
 }

@@ -49,16 +49,20 @@ use reader::read_tree;
 use second::BOTH_COUNT;
 use second::DONE_HOLDING;
 use second::DUE_NOW;
+use second::EMPTY_WINDOW;
 use second::FALLING_FIRST;
 use second::LONG_LET_IN;
 use second::LONG_REFUSED;
 use second::NESTED;
+use second::NO_WINDOWS;
 use second::NO_WRONG_RULE;
 use second::NOT_OUTSTANDING;
 use second::ORDER_FIRST;
 use second::OTHER_CHANNEL;
 use second::OTHER_NAME;
+use second::OTHER_SLOT;
 use second::OWN_PORT;
+use second::ROUNDED_DOWN;
 use second::SIZE_FIRST;
 use second::Said;
 use second::TRACE_FIRST;
@@ -129,6 +133,10 @@ fn try_bounds(t: Tree, d: &mut [usize; 16384]) {
     note_bounds(t, d, OWN_PORT);
     note_bounds(t, d, NESTED);
     note_bounds(t, d, BOTH_COUNT);
+    note_bounds(t, d, ROUNDED_DOWN);
+    note_bounds(t, d, NO_WINDOWS);
+    note_bounds(t, d, OTHER_SLOT);
+    note_bounds(t, d, EMPTY_WINDOW);
     add(d, BOUNDS, 0, t.accs as usize + 1);
 }
 

@@ -75,6 +75,11 @@ unfoldable pub layer : ℕ → ℕ → ℕ → ℕ
 layer x d w = (x + w * (1 + d)) - d
 
 module _ (x d : ℕ) where
+  -- e services more take at most e times 1 + d slots more
+  pub layer-grows : (v w e : ℕ) → v ≤ w + e → layer x d v ≤ layer x d w + e * (1 + d)
+  unfolding layer
+  layer-grows v w e h = omega (arith, mul-le-mul-right (1 + d) h, add-mul w e (1 + d))
+
   pub layer-most : (w : ℕ) → x ≤ d → layer x d w ≤ w * (1 + d)
   unfolding layer
   layer-most w h = omega arith

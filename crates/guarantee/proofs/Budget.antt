@@ -26,11 +26,11 @@ use Rattle.guarantee.proofs.Leads.{Does, admits, declines, serves, idle
 abbrev Counts : Tree → ℕ → ℕ → State → ℕ → ℕ
 Counts t a w s n = pick (eqb (windowOf t (s .slot)) w) (admittedOf s a) 0 + n
 
-module _ (t : Tree) (P : 1 ≤ t .bus .window) (a w : ℕ) where
-  -- windows do not fall
-  window-up : (n m : ℕ) → n ≤ m → windowOf t n ≤ windowOf t m
-  window-up n m h = le-div-iff-mul-le P .1 (le-trans (le-div-iff-mul-le P .0 (omega arith)) h)
+-- windows do not fall
+pub window-up : (t : Tree) → 1 ≤ t .bus .window → (n m : ℕ) → n ≤ m → windowOf t n ≤ windowOf t m
+window-up t P n m h = le-div-iff-mul-le P .1 (le-trans (le-div-iff-mul-le P .0 (omega arith)) h)
 
+module _ (t : Tree) (P : 1 ≤ t .bus .window) (a w : ℕ) where
   -- a window once left does not come again
   past : (n : ℕ) (es : List Event) → w < windowOf t n → admissionsFrom t a w n es ≡ 0
   unfolding admissionsFrom
@@ -40,7 +40,7 @@ module _ (t : Tree) (P : 1 ≤ t .bus .window) (a w : ℕ) where
       omega (
         arith,
         passed (eqb (windowOf t n) w) (admitsOne a (e .answer) (e .call)) 0 (ne-eqb (windowOf t n) w (omega arith)),
-        past m es (omega (arith, window-up n m (omega arith))),
+        past m es (omega (arith, window-up t P n m (omega arith))),
       )
 
   apart : (c : Bool) (x y n z : ℕ) → pick c (x + y) 0 + n ≤ z → pick c x 0 + (pick c y 0 + n) ≤ z
@@ -73,7 +73,7 @@ module _ (t : Tree) (P : 1 ≤ t .bus .window) (a w : ℕ) where
       | yes e ↦ omega (
         arith,
         picked (eqb (windowOf t (s .slot)) w) (admittedOf s a) 0 (eq-eqb _ _ e),
-        past (s .slot + 1) es (omega (arith, window-up (s .slot) (s .slot + 1) (omega arith))),
+        past (s .slot + 1) es (omega (arith, window-up t P (s .slot) (s .slot + 1) (omega arith))),
       )
       | no f ↦ omega (
         arith,
@@ -104,7 +104,7 @@ module _ (t : Tree) (P : 1 ≤ t .bus .window) (a w : ℕ) where
       → Counts t a w s (pick (eqb (windowOf t (s .slot)) w) (admitsOne a x c) 0
       + admissionsFrom t a w (s .slot + slotCounts x c) es) ≤ z
   step s m c x es z (admits A) k h = still s m es _ z (A .slot) (A .admitted a) h
-  step s m c x es z declines k h = still s m es 0 z refl (omega arith) h
+  step s m c x es z (declines w) k h = still s m es 0 z refl (omega arith) h
   step s m c x es z (serves v) k h = ticks s m es z (v .ticked) k h
   step s m c x es z (idles i) k h = ticks s m es z (i .ticked) k h
   step s m c x es z (halts f) k h = still s m es 0 z refl (omega arith) h

@@ -121,7 +121,7 @@ module _ (t : Tree) (s : State) (a i : ℕ) (e : returnsOf s a % 2 ≡ 0) where
   home-step : (m : State) (c : Call) (x : Answer) → Does t s c x m
       → notHome r i (returnsOf m a) ≡ pick (ltb i r) (servesOwn a x) 0 + notHome r (slotCounts x c + i) (returnsOf s a)
   home-step m c x (admits A) = stays _ (A .returns a)
-  home-step m c x declines = stays _ refl
+  home-step m c x (declines w) = stays _ refl
   home-step m c x (serves {b = b} v) = ap (notHome r i) (v .returns a) ∙ later r i (returnsOf s a) (only a b) e (single (eqb a b))
   home-step m c x (idles v) =
       ap (notHome r i) (v .returns a ∙ ap (older r) {x = returnsOf s a} {y = returnsOf s a + 0} (omega arith))

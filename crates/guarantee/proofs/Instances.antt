@@ -57,7 +57,7 @@ Fresh s a = s .slot ≡ 0 → waitingOf s a ≡ admittedOf s a
 
 fresh-step : (t : Tree) (s m : State) (c : Call) (x : Answer) (a : ℕ) → Does t s c x m → Fresh s a → Fresh m a
 fresh-step t s m c x a (admits A) f e = omega (arith, A .waiting a, A .admitted a, f (sym (A .slot) ∙ e))
-fresh-step t s m c x a declines f e = f e
+fresh-step t s m c x a (declines w) f e = f e
 fresh-step t s m c x a (serves v) f e = absurd (omega (arith, v .ticked .slot))
 fresh-step t s m c x a (idles i) f e = absurd (omega (arith, i .ticked .slot))
 fresh-step t s m c x a (halts q) f e = f e
@@ -105,7 +105,7 @@ unfoldable pub eventsWithin : Tree → State → List Call → List Event
 eventsWithin t s [] = []
 eventsWithin t s (c ∷ cs) = eventOn (λ q. eventsWithin t q cs) c (stepWithin t s c)
 
-events-within : (t : Tree) (s : State) (cs : List Call) (es : List Event) → keeps t s ≡ true → eventsWithin t s cs ≡ es → eventsOf t s cs ≡ es
+pub events-within : (t : Tree) (s : State) (cs : List Call) (es : List Event) → keeps t s ≡ true → eventsWithin t s cs ≡ es → eventsOf t s cs ≡ es
 unfolding eventsOf eventsWithin
 events-within t s [] es e h = h
 events-within t s (c ∷ cs) es e h =

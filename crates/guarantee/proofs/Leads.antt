@@ -25,9 +25,9 @@ use Rattle.turns.proofs.Descent.{Turned, Unturned, choice}
 use Rattle.machine.proofs.Returns.{older-at}
 use Rattle.machine.proofs.Keeps.{take-returns}
 use Rattle.machine.proofs.Within.{step-keeps}
-use Rattle.machine.proofs.Cases.{Offered, offer-cases, Slotted, slot-cases}
+use Rattle.machine.proofs.Cases.{Refuses, Offered, offer-cases, Slotted, slot-cases}
 use Rattle.machine.proofs.Laws.{offer-admits, offer-others, Served, Ticked, slot-only-last, slot-serves, slot-on-path, slot-off-path, slot-idle-turns, slot-windows, step-channel}
-use Rattle.guarantee.specs.Guarantee.{Event, eventsOf}
+use Rattle.guarantee.specs.Guarantee.{Event, eventsOf, slotCounts, slotsIn}
 
 -- a transaction of b is admitted
 pub record Admission (t : Tree) (s : State) (b : ℕ) (r : State) : Type 0 where
@@ -61,7 +61,7 @@ pub record Idle (t : Tree) (s r : State) : Type 0 where
 
 pub data Does (t : Tree) (s : State) : Call → Answer → State → Type 0 where
   admits : {b : ℕ} {r : State} → Admission t s b r → Does t s (offer b) admitted r
-  declines : {b n : ℕ} → Does t s (offer b) (refused n) s
+  declines : {b n : ℕ} → Refuses t s b n → Does t s (offer b) (refused n) s
   serves : {b : ℕ} {r : State} → Service t s b r → Does t s slot (served b) r
   idles : {r : State} → Idle t s r → Does t s slot idle r
   halts : {n : ℕ} → n ≡ 10 → Does t s slot (refused n) s
@@ -105,7 +105,7 @@ module _ (t : Tree) (s : State) (k : keeps t s ≡ true) where
   offer-does b = go (offered t s b) (offer-cases t s b) refl
     where
       go : (o : Outcome) → Offered t s b o → offered t s b ≡ o → Does t s (offer b) (o .answer) (o .state)
-      go o (Offered.refuses w) e = declines
+      go o (Offered.refuses w) e = declines w
       go o (Offered.admits l h m) e =
           subst (Does t s (offer b) admitted) (ap stateOf e) (admits (admission b (ap answerOf e) l))
 
@@ -177,7 +177,7 @@ module _ (t : Tree) (s : State) (k : keeps t s ≡ true) where
 -- no call changes the channel
 pub does-channel : {t : Tree} {s m : State} {c : Call} {x : Answer} → Does t s c x m → m .channel ≡ s .channel
 does-channel (admits A) = A .channel
-does-channel declines = refl
+does-channel (declines w) = refl
 does-channel (serves v) = v .channel
 does-channel (idles i) = i .channel
 does-channel (halts e) = refl
@@ -196,6 +196,23 @@ calls-lead t s (c ∷ cs) k = go k (does t s k c) (calls-lead t (step t s c .sta
 pub leads-start : {t : Tree} {s r : State} {es : List Event} → Leads t s es r → keeps t s ≡ true
 leads-start (stay k) = k
 leads-start (go k d w) = k
+
+-- the slot count is the starting one and the unrefused slots
+pub does-slot : {t : Tree} {s m : State} {c : Call} {x : Answer} → Does t s c x m → m .slot ≡ s .slot + slotCounts x c
+does-slot (admits A) = omega (arith, A .slot)
+does-slot (declines w) = omega arith
+does-slot (serves v) = v .ticked .slot
+does-slot (idles i) = i .ticked .slot
+does-slot (halts e) = omega arith
+
+pub leads-slot : {t : Tree} {s r : State} {es : List Event} → Leads t s es r → r .slot ≡ s .slot + slotsIn es
+unfolding slotsIn
+leads-slot (stay k) = omega arith
+leads-slot (go k d w) = omega (arith, does-slot d, leads-slot w)
+
+pub leads-end : {t : Tree} {s r : State} {es : List Event} → Leads t s es r → keeps t r ≡ true
+leads-end (stay k) = k
+leads-end (go k d w) = leads-end w
 
 pub leads-channel : {t : Tree} {s r : State} {es : List Event} → Leads t s es r → r .channel ≡ s .channel
 leads-channel (stay k) = refl

@@ -12,4 +12,5 @@ pub mod Homecoming
 pub mod AtOnce
 pub mod Consequences
 pub mod Instances
+pub mod Windows
 pub mod Bursts

@@ -24,7 +24,7 @@ use Rattle.rules.proofs.Beneath.{On, here, there, Below, lane, on?, rising, pat
 use Rattle.turns.specs.Turns.{turnPort}
 use Rattle.turns.proofs.Descent.{Turned, Unturned}
 use Rattle.shares.specs.Shares.{othersAt, shareAlong}
-use Rattle.guarantee.proofs.Ahead.{WaitsWithin, aheadOf, ahead-same, ahead-most, ahead-turn, layer, layer-most, layer-least, layer-own, layer-other}
+use Rattle.guarantee.proofs.Ahead.{WaitsWithin, aheadOf, ahead-same, ahead-most, ahead-turn, layer, layer-grows, layer-most, layer-least, layer-own, layer-other}
 
 abbrev pub layerOf : Tree → (ℕ → ℕ) → State → ℕ → ℕ → ℕ → ℕ
 layerOf t φ s i p w = layer (aheadOf t φ s i p) (othersAt t φ i p) w
@@ -41,6 +41,21 @@ unfolding waitAlong
 wait-least t φ s [] w = omega arith
 wait-least t φ s (x ∷ xs) w =
     le-trans (layer-least _ _ w) (wait-least t φ s xs (layerOf t φ s (x .interconnect) (x .port) w))
+
+-- e transactions more wait at most e times the share longer
+pub wait-grows : (t : Tree) (φ : ℕ → ℕ) (s : State) (xs : List Crossing) (v w e : ℕ) → v ≤ w + e
+    → waitAlong t φ s xs v ≤ waitAlong t φ s xs w + e * shareAlong t φ xs
+unfolding waitAlong shareAlong
+wait-grows t φ s [] v w e h = omega (arith, mul-one e)
+wait-grows t φ s (x ∷ xs) v w e h =
+    let i = x .interconnect in
+    let d = othersAt t φ i (x .port) in
+    omega (
+      arith,
+      wait-grows t φ s xs (layerOf t φ s i (x .port) v) (layerOf t φ s i (x .port) w) (e * (1 + d))
+          (layer-grows (aheadOf t φ s i (x .port)) d v w e h),
+      mul-assoc e (1 + d) (shareAlong t φ xs),
+    )
 
 pub wait-same : (t : Tree) (φ : ℕ → ℕ) (s r : State) → ((i : ℕ) → Unturned s r i) → (xs : List Crossing) (w : ℕ)
     → waitAlong t φ r xs w ≡ waitAlong t φ s xs w

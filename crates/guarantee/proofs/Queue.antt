@@ -55,7 +55,7 @@ shorter false q n e = omega arith
 length-step : (t : Tree) (s m : State) (a n : ℕ) (q : List Ticket) (c : Call) (x : Answer) → Does t s c x m
     → length q ≡ waitingOf s a → length (callMoves a n q x c) ≡ waitingOf m a
 length-step t s m a n q c x (admits {b = b} A) e = omega (arith, longer (eqb a b) q (admittedBy n), A .waiting a)
-length-step t s m a n q c x declines e = e
+length-step t s m a n q c x (declines w) e = e
 length-step t s m a n q c x (serves {b = b} v) e = shorter (eqb a b) q (waitingOf m a) (e ∙ v .waiting a)
 length-step t s m a n q c x (idles i) e = e ∙ sym (i .waiting a)
 length-step t s m a n q c x (halts f) e = e
@@ -238,7 +238,7 @@ module _ (t : Tree) (φ : ℕ → ℕ) (s : State) (K : keeps t s ≡ true) (F :
   goes : (m : State) → keeps t m ≡ true → WaitsWithin t φ m → (n k : ℕ) → j < n → (q : List Ticket) (c : Call) (x : Answer)
       → Does t s c x m → Stands (admittedBy j) k q → length q ≡ waitingOf s a → Goes t φ s m a j k q c x (callMoves a n q x c)
   goes m L G n k l q c x (admits {b = b} A) h e = admission m b n k l q A h
-  goes m L G n k l q c x declines h e = waits-on k h (omega arith) (omega arith)
+  goes m L G n k l q c x (declines w) h e = waits-on k h (omega arith) (omega arith)
   goes m L G n k l q c x (serves {b = b} v) h e = service m L G b k q (omega (arith, stands-length h)) h v
   goes m L G n k l q c x (idles i) h e = absurd (omega (arith, i .none a, stands-length h))
   goes m L G n k l q c x (halts f) h e = waits-on k h (omega arith) (omega arith)

@@ -1,6 +1,6 @@
 -- What the exported functions answer, as numbers, from the definitions of documents 01 and 02 that the libraries below cite.
 --
--- version               2.2.0 as one number: 10,000 for the first figure, 100 for the second, 1 for the third
+-- version               3.0.0 as one number: 10,000 for the first figure, 100 for the second, 1 for the third
 -- pageOf x              what `plan` answers, as the static library says it
 -- treeReading q         the reading q of a tree file as numbers
 -- traceReading q s      the same for the trace s on that tree: a refused tree comes first
@@ -38,7 +38,7 @@ use Rattle.answers.specs.declared.Row.{Row}
 use Rattle.answers.specs.Numbers.{channelOf, isAccepted, readingOf, countOf, outcomeOf, refusedBy, treeRefused, noWait, waitOf, unbounded, rowOf}
 
 abbrev pub version : ℕ
-version = 2 * 10000 + 2 * 100 + 0
+version = 3 * 10000 + 0 * 100 + 0
 
 abbrev pub pageOf : Printed → Page
 pageOf x = record { bytes = x .bytes; number = x .number; line = x .line }

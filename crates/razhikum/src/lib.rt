@@ -67,7 +67,7 @@ fn page_of(x: Printed) -> Page
 pub extern "C" fn razhikum_version() -> u32
     ensures { λ r. ⌜ r ≡ version ⌝ }
 {
-    20200
+    30000
 }
 
 // Whether the tree file is accepted, or why and at which line it is refused.

@@ -21,7 +21,8 @@ use Rattle.runner.specs.Offers.{offerHeld, offerEach}
 use Rattle.runner.specs.Run.{start, heldWith}
 use Rattle.runner.specs.Slots.{dueBefore}
 use Rattle.model.specs.Trees.{pair}
-use Rattle.runs.specs.Calls.{offersHeld, offersEach, slotCalls, bytesIn, admissionsBy, askedBefore}
+use Rattle.guarantee.specs.Windows.{admissionsBy}
+use Rattle.runs.specs.Calls.{offersHeld, offersEach, slotCalls, bytesIn, askedBefore}
 
 abbrev line : ℕ → ℕ → ℕ → Request
 line n a c = record { slot = n; accelerator = a; count = c }

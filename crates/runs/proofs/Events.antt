@@ -4,7 +4,8 @@ use mathlib.Core.List.{List, [], _∷_, _++_, append-assoc}
 use mathlib.Core.Path.{_≡_, refl, sym, _∙_, ap}
 use native.Mathlib.Omega.{arith}
 use Rattle.guarantee.specs.Guarantee.{Event}
-use Rattle.runs.specs.Calls.{byteIn, bytesIn, admissionsBy}
+use Rattle.guarantee.specs.Windows.{admissionsBy}
+use Rattle.runs.specs.Calls.{byteIn, bytesIn}
 
 pub bytes-append : (es fs : List Event) → bytesIn (es ++ fs) ≡ bytesIn es ++ bytesIn fs
 unfolding bytesIn

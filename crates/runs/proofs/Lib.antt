@@ -6,3 +6,8 @@ pub mod Tickets
 pub mod Waits
 pub mod Why
 pub mod Figures
+pub mod Job
+pub mod Windows
+pub mod Served
+pub mod Response
+pub mod WindowFigures

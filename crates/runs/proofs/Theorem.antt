@@ -35,7 +35,8 @@ use Rattle.runner.specs.Run.{Run, Trail, withDue, beforeSlot, lastByte, next, n
 use Rattle.runner.specs.Slots.{standing, bytesBefore, dueBefore}
 use Rattle.runner.proofs.Laws.{ran, ending-done, ending-stopped, leftFrom, Stood, stood, stood-unrefused, due-long}
 use Rattle.runner.proofs.Asked.{held-asked, asked-more, asked-start}
-use Rattle.runs.specs.Calls.{offersEach, slotCalls, callsBefore, bytesIn, admissionsBy, Reports, RunIsCalls}
+use Rattle.guarantee.specs.Windows.{admissionsBy}
+use Rattle.runs.specs.Calls.{offersEach, slotCalls, callsBefore, bytesIn, Reports, RunIsCalls}
 use Rattle.guarantee.proofs.Events.{state-append, events-append, slots-append}
 use Rattle.runs.proofs.Events.{bytes-append, admissions-append}
 use Rattle.runs.proofs.Offers.{makes-each}
@@ -180,6 +181,14 @@ unrefused-run t c s d m h =
 reported : (x : Trail) (m : ℕ) → Reports (endOf x) m → length (x .bytes) ≡ m
 reported x m = ⊎-elim (λ e. ending-done x m e .1) (λ e. ending-stopped x m e .1)
 
+-- so its tree keeps its rules, and its slots are no more than the greatest buffer has bytes
+pub reports-within : (t : Tree) (c : Channel) (s d : List ℕ) (m : ℕ) → Reports (ranOf t c s (length d)) m
+    → (treeKeeps t ≡ true) × (m ≤ 65536)
+reports-within t c s d m h =
+    let U = unrefused-run t c s d m h in
+    let x = runFor t c (requests (lines s)) (length d) in
+    (U .tree, omega (arith, reported x m (U .ends), ran (length d) t (start t c (requests (lines s))) .slots, U .size))
+
 -- an accelerator whose job has 0 transactions on the channel
 module _ (t : Tree) (c : Channel) (a : ℕ) (la : a < t .accs) (z : jobOf t c a ≡ 0) where
   -- none of it waits in a state that keeps its rules
@@ -190,7 +199,7 @@ module _ (t : Tree) (c : Channel) (a : ℕ) (la : a < t .accs) (z : jobOf t c a 
   -- so none of it is admitted
   admits-none : (s m : State) (k : Call) (x : Answer) → Does t s k x m → waitingOf m a ≡ 0 → admitsOne a x k ≡ 0
   admits-none s m k x (admits A) w = omega (arith, A .waiting a)
-  admits-none s m k x declines w = refl
+  admits-none s m k x (declines v) w = refl
   admits-none s m k x (serves v) w = refl
   admits-none s m k x (idles i) w = refl
   admits-none s m k x (halts f) w = refl

@@ -26,7 +26,7 @@ use Rattle.guarantee.proofs.Leads.{Does, admits, declines, serves, idles, halts
 use Rattle.guarantee.proofs.Events.{slots-append}
 use Rattle.guarantee.proofs.Consequences.{waits-until-served}
 use Rattle.guarantee.proofs.Queue.{start-length, queue-append, queue-length}
-use Rattle.runs.specs.Calls.{admissionsBy}
+use Rattle.guarantee.specs.Windows.{admissionsBy}
 use Rattle.runs.specs.Waits.{servesOne, servicesOf, InTime}
 
 pub services-append : (a : ℕ) (es fs : List Event) → servicesOf a (es ++ fs) ≡ servicesOf a es + servicesOf a fs
@@ -34,10 +34,10 @@ unfolding servicesOf
 services-append a [] fs = omega arith
 services-append a (e ∷ es) fs = omega (arith, services-append a es fs)
 
-balance-step : (t : Tree) (s m : State) (a : ℕ) (c : Call) (x : Answer) → Does t s c x m
+pub balance-step : (t : Tree) (s m : State) (a : ℕ) (c : Call) (x : Answer) → Does t s c x m
     → servesOne a x c + waitingOf m a ≡ waitingOf s a + admitsOne a x c
 balance-step t s m a c x (admits A) = omega (arith, A .waiting a)
-balance-step t s m a c x declines = omega arith
+balance-step t s m a c x (declines w) = omega arith
 balance-step t s m a c x (serves v) = omega (arith, v .waiting a)
 balance-step t s m a c x (idles i) = omega (arith, i .waiting a)
 balance-step t s m a c x (halts f) = omega arith

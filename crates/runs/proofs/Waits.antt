@@ -34,7 +34,8 @@ use Rattle.meeting.proofs.Deepest.{meeting-deepest}
 use Rattle.runner.proofs.Telling.{count-append, count-one}
 use Rattle.runner.specs.Wait.{countIn, first, takenBy, admissionSlot, serviceSlot}
 use Rattle.waits.specs.Why.{entries, waitBytes}
-use Rattle.runs.specs.Calls.{offersEach, slotCalls, callsBefore, byteIn, bytesIn, admissionsBy}
+use Rattle.guarantee.specs.Windows.{admissionsBy}
+use Rattle.runs.specs.Calls.{offersEach, slotCalls, callsBefore, byteIn, bytesIn}
 use Rattle.runs.specs.Waits.{servesOne, servicesOf, Waited}
 use Rattle.guarantee.proofs.Events.{state-append, events-append, slots-append}
 use Rattle.runs.proofs.Events.{bytes-append, admissions-append}

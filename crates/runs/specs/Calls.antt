@@ -11,7 +11,6 @@
 -- eventsOfRun t c s n   those calls with their answers
 -- byteIn c x            the byte of a slot's answer; none for an offer
 -- bytesIn es            the answers of the slots among the events es, as bytes
--- admissionsBy a es     the admissions of accelerator a among the events es
 -- askedBefore a m rs    what the lines of rs that are due before slot m ask for accelerator a
 -- Reports e m           the ending e "reports done or stopped, and the number of slots used", m
 -- RunIsCalls t c s d m  what is proved of a run of trace s on channel c over the buffer d that reports m slots
@@ -28,7 +27,8 @@ use Rattle.trace.specs.declared.Request.{Request}
 use Rattle.trace.specs.TraceFile.{requests, totalFor}
 use Rattle.machine.specs.Machine.{Answer, freshState, offered, onAdmitted}
 use Rattle.machine.specs.Calls.{Call, offer, slot, stateAfter}
-use Rattle.guarantee.specs.Guarantee.{Event, eventsOf, slotsIn, admitsOne, Guarantee}
+use Rattle.guarantee.specs.Guarantee.{Event, eventsOf, slotsIn, Guarantee}
+use Rattle.guarantee.specs.Windows.{admissionsBy}
 use Rattle.runner.specs.Offers.{Offering, heldOf, release, offering, offerEach}
 use Rattle.runner.specs.Run.{Run, withDue, byteOf, start, Ending, done, stopped, ranOf, bufferAfter}
 use Rattle.runner.specs.Slots.{standing, dueBefore}
@@ -68,10 +68,6 @@ byteIn slot x = byteOf x ∷ []
 unfoldable pub bytesIn : List Event → List ℕ
 bytesIn [] = []
 bytesIn (e ∷ es) = byteIn (e .call) (e .answer) ++ bytesIn es
-
-unfoldable pub admissionsBy : ℕ → List Event → ℕ
-admissionsBy a [] = 0
-admissionsBy a (e ∷ es) = admitsOne a (e .answer) (e .call) + admissionsBy a es
 
 abbrev pub eventsOfRun : Tree → Channel → List ℕ → ℕ → List Event
 eventsOfRun t c s n = eventsOf t (freshState t c) (callsOf t c s n)

@@ -1,4 +1,4 @@
-// A second implementation of document 01's readers, machine, runner and bounds, and of document 02's items 1, 2 and 4 to 7, written
+// A second implementation of document 01's readers, machine, runner and bounds, and of document 02's items 1, 2 and 4 to 8, written
 // separately from the library and its definitions: it shares no code with them.
 //
 // Test code: it is proved that each function is safe and ends. Those that a comparison with the library reads its entries by have
@@ -132,8 +132,16 @@ pub const OTHER_NAME: usize = 55;
 pub const NAME_LOST: usize = 56;
 // bursts of up to 256 beats taken on every tree,
 pub const BEATS_256: usize = 57;
-// or of up to 16 only.
+// or of up to 16 only;
 pub const BEATS_16: usize = 58;
+// windows of a job rounded down,
+pub const ROUNDED_DOWN: usize = 59;
+// a response without the wait for new windows,
+pub const NO_WINDOWS: usize = 60;
+// or with the other channel's slot time in it,
+pub const OTHER_SLOT: usize = 61;
+// and a window where there are no transactions.
+pub const EMPTY_WINDOW: usize = 62;
 
 // An answer on a file: 0 where it is accepted, or the number of a refusal; and the line.
 pub struct Said {

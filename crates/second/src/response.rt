@@ -1,8 +1,12 @@
 // The second bounds: the capacity of a port on a channel is the sum over the accelerators whose way up enters by it and whose job has
 // transactions there.
 use crate::BOTH_COUNT;
+use crate::EMPTY_WINDOW;
 use crate::NESTED;
+use crate::NO_WINDOWS;
+use crate::OTHER_SLOT;
 use crate::OWN_PORT;
+use crate::ROUNDED_DOWN;
 use crate::UNKNOWN_FIRST;
 use crate::book::NOTHING;
 use crate::book::READ;
@@ -164,6 +168,33 @@ fn write_alone(d: &[usize; 16384], levels: usize) -> usize {
     sum(write_slot(d), times(levels, sum(there, bus(d, 4))))
 }
 
+// The windows for n transactions with a budget: those that use it up, and one more for what is left. A wrong rule leaves that one out,
+// another has one where there are no transactions.
+fn windows(n: usize, budget: usize, wrong: usize) -> usize {
+    if budget == 0 {
+        return 0;
+    }
+    let left = n % budget != 0;
+    let empty = n == 0;
+    let more = (left & (wrong != ROUNDED_DOWN)) | (empty & (wrong == EMPTY_WINDOW));
+    sum(n / budget, more as usize)
+}
+
+// The wait of the job in an acc row for new windows, P slots for each. A wrong rule leaves it out, another takes the other channel's
+// slot time.
+fn window_wait(d: &[usize; 16384], row: usize, wrong: usize) -> usize {
+    if wrong == NO_WINDOWS {
+        return 0;
+    }
+    let budget = cell(d, row, 4);
+    let reads = times(windows(cell(d, row, 5), budget, wrong), bus(d, 0));
+    let writes = times(windows(cell(d, row, 6), budget, wrong), bus(d, 0));
+    if wrong == OTHER_SLOT {
+        return sum(times(reads, write_slot(d)), times(writes, read_slot(d)));
+    }
+    sum(times(reads, read_slot(d)), times(writes, write_slot(d)))
+}
+
 // The refusal of a bound, or 0: 11, then 7. A wrong rule tests 7 first.
 pub fn bound_refusal(d: &[usize; 16384], a: usize, wrong: usize) -> usize {
     let unknown = accs(d) <= a;
@@ -208,7 +239,8 @@ pub fn figures(d: &[usize; 16384], a: usize, wrong: usize) -> Row {
         times(others_read, read_slot(d)),
         times(others_write, write_slot(d)),
     );
-    let response = sum(cell(d, row, 7), sum(alone, waiting));
+    let held = window_wait(d, row, wrong);
+    let response = sum(cell(d, row, 7), sum(alone, sum(waiting, held)));
     let period = cell(d, row, 8);
     Row {
         level: levels,

@@ -901,10 +901,10 @@ fn rewritings() {
     rewrite(b"bus\t8\t1\t4\t2\t2\t30\t25\t1\t1\t16\t16\n");
 }
 
-// A board that speaks AXI3: report and text, and bursts of up to 16 beats and of more, with B 5.
+// A board that speaks AXI3: report, where every job meets its period, and text, and bursts of up to 16 beats and of more, with B 5.
 fn older_board() {
     let tree =
-        b"bus3\t8\t1\t4\t2\t2\t30\t25\t1\t1\t5\t0\nint\t0\t-\t-\t1\nacc\t0\t0\t0\t4\t2\t10\t5\t1000\t2000\n";
+        b"bus3\t8\t1\t4\t2\t2\t30\t25\t1\t1\t5\t0\nint\t0\t-\t-\t1\nacc\t0\t0\t0\t4\t2\t10\t5\t1000\t4000\n";
     report(tree);
     rewrite(tree);
     split(tree, 3, 16, 4);
