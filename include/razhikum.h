@@ -37,8 +37,8 @@
 extern "C" {
 #endif
 
-/* The version of this header: 10000 for each first figure, 100 for each second, 1 for each third. 20200 is 2.2.0. */
-#define RAZHIKUM_VERSION 20200
+/* The version of this header: 10000 for each first figure, 100 for each second, 1 for each third. 30000 is 3.0.0. */
+#define RAZHIKUM_VERSION 30000
 
 /* The version of the archive. Where it is not RAZHIKUM_VERSION, header and archive do not belong together. */
 uint32_t razhikum_version(void);
@@ -173,7 +173,12 @@ typedef struct {
  * A share is a number of slots of its channel: a transaction with none of its own before it is served within so many, counted from its
  * admission. It is the product, over the interconnects on the way to memory, of 1 + D, and D adds up, over the other ports there, the
  * smaller of the granularity and the phi of those accelerators under the port whose job has transactions on this channel. One whose job
- * has 0 there counts 0, since the machine of this channel admits none of it. Its own share is given on both channels all the same. */
+ * has 0 there counts 0, since the machine of this channel admits none of it. Its own share is given on both channels all the same.
+ *
+ * The response is an upper bound on the time of a job: its computing, the time of each of its transactions alone, its interference, and the
+ * wait for new windows where its budget is used. For that wait each channel adds ceil(N / budget) windows of P slots, N being the job's
+ * transactions there; where N is 0 it adds nothing. What the response does not count is the wait until an earlier answer is home, where the
+ * tree has a return delay. */
 typedef struct {
     uint8_t number;
     uint32_t line;

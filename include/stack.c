@@ -131,14 +131,14 @@ static void text(struct file *into, const char *bytes) {
     memcpy(into->text, bytes, into->bytes);
 }
 
-/* The tree with the longest numbers: every value is the greatest, and 29 accelerators on four interconnects beneath each other have the
- * greatest share, so that the response has 19 digits. */
+/* The tree with the longest numbers: every value is the greatest, but the budget, which is 1, and 29 accelerators on four interconnects
+ * beneath each other have the greatest share, so that the response is the greatest, with 19 digits. */
 static void greatest(struct file *into) {
     char lines[4096] = "bus\t65535\t255\t255\t255\t255\t4095\t4095\t255\t255\t256\t15\nint\t0\t-\t-\t16\n"
                        "int\t1\t0\t7\t16\nint\t2\t1\t7\t16\nint\t3\t2\t7\t16\n";
     for (int a = 0; a < 29; a++) {
         size_t at = strlen(lines);
-        snprintf(lines + at, sizeof lines - at, "acc\t%d\t%d\t%d\t16\t1024\t65535\t65535\t4294967295\t4294967295\n", a,
+        snprintf(lines + at, sizeof lines - at, "acc\t%d\t%d\t%d\t16\t1\t65535\t65535\t4294967295\t4294967295\n", a,
                  a == 28 ? 3 : a / 7, a == 28 ? 7 : a % 7);
     }
     text(into, lines);

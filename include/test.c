@@ -1,6 +1,7 @@
 /* Holds header and archive together: the layout of each struct by offsets, the version, every number that a file or a burst can be
- * refused by, runs and waits on both channels and on none, bursts and joiners, trees of AXI3, and the values that the archive answers in
- * each field, so that two columns exchanged would be seen. Compiled as C and as C++. include/test.sh builds and runs it.
+ * refused by, runs and waits on both channels and on none, responses with the wait for new windows, bursts and joiners, trees of AXI3, and
+ * the values that the archive answers in each field, so that two columns exchanged would be seen. Compiled as C and as C++.
+ * include/test.sh builds and runs it.
  */
 #include <assert.h>
 #include <stdio.h>
@@ -472,9 +473,9 @@ static void channels(void) {
     static const uint8_t reads[] = {0, 0, 1, 1}, writes[] = {0, 0, 2};
     static const uint8_t at_root[] = {0, 0, 0, 0}, then_own[] = {0, 0, 0, 0, 1, RAZHIKUM_OWN};
     spaced(&tree, APART);
-    is_row(0, 1, 3, 2, 20, 5, 1930, 2000);
-    is_row(1, 1, 3, 4, 2, 0, 147, 100);
-    is_row(2, 1, 5, 3, 0, 6, 405, 1000);
+    is_row(0, 1, 3, 2, 20, 5, 3026, 2000);
+    is_row(1, 1, 3, 4, 2, 0, 523, 100);
+    is_row(2, 1, 5, 3, 0, 6, 749, 1000);
     is_row(3, 1, 5, 4, 0, 0, 0, 1);
     rows_are_the_report();
 
@@ -518,12 +519,56 @@ static void returns(void) {
     spaced(&tree, DELAYED("2") PAIR);
     is_served(7, late);
     is_wait(0, 2, 3, 0, NULL);
-    is_row(0, 1, 2, 2, 1, 1, 192, 1);
+    is_row(0, 1, 2, 2, 1, 1, 912, 1);
     spaced(&tree, DELAYED("0") PAIR);
     is_served(6, at_once);
     spaced(&tree, BUS PAIR);
     is_served(6, at_once);
-    is_row(0, 1, 2, 2, 1, 1, 192, 1);
+    is_row(0, 1, 2, 2, 1, 1, 912, 1);
+}
+
+/* The wait for new windows in the response. */
+static void windows(void) {
+#define EDGES(period) "bus 100 1 4 2 2 30 25 1 1 16\n" ROOT "acc 0 0 0 4 1 10 0 0 " period "\n"
+#define NINE(period)                                                                        \
+    "bus 16 1 4 2 2 30 25 1 1 16\n" ROOT "int 1 0 1 1\nacc 0 0 0 4 8 1 1 0 1\n"             \
+    "acc 1 1 0 4 8 10 5 1000 " period "\nacc 2 1 1 4 8 1 1 0 1\n"
+    /* One block with budget 1 in windows of 100 slots: of ten reads one is admitted in each window, and the last is served in slot 900. Its
+     * 901 slots of 47 cycles are over 40,000. */
+    spaced(&tree, EDGES("40000"));
+    is_row(0, 1, 1, 1, 0, 0, 47530, 40000);
+    spaced(&trace, "o 0 0 10\n");
+    is_outcome(1000, RAZHIKUM_DONE, RAZHIKUM_ACCEPTED, 0, 901);
+    for (unsigned slot = 0; slot <= 900; slot++) {
+        same("a slot of a job that is held at window edges", served[slot], slot % 100 == 0 ? 0 : RAZHIKUM_IDLE);
+    }
+    is_wait(0, 10, 900, 0, NULL);
+    spaced(&tree, EDGES("47529"));
+    is_row(0, 1, 1, 1, 0, 0, 47530, 47529);
+    spaced(&tree, EDGES("47530"));
+    is_row(0, 1, 1, 1, 0, 0, 47530, 47530);
+    /* docs/MODEL.md, M80: two windows for 10 reads with budget 8, one for 5 writes. */
+    spaced(&tree, NINE("6112"));
+    is_row(1, 2, 4, 4, 30, 15, 6112, 6112);
+    spaced(&tree, NINE("6111"));
+    is_row(1, 2, 4, 4, 30, 15, 6112, 6111);
+    /* As many as the budget, one more, none: 1, 2 and 0 windows of 8 slots. */
+    spaced(&tree, BUS ROOT "acc 0 0 0 4 8 8 9 7 1\nacc 1 0 3 4 8 0 0 7 7\n");
+    is_row(0, 1, 1, 1, 0, 0, 7 + 8 * 53 + 8 * 47 + 9 * 49 + 2 * 8 * 43, 1);
+    is_row(1, 1, 2, 2, 0, 0, 7, 7);
+    /* The greatest response: every value is the greatest but the budget, and the share is 113 to the fourth power. */
+    char lines[4096] = "bus 65535 255 255 255 255 4095 4095 255 255 256\nint 0 - - 16\nint 1 0 7 16\nint 2 1 7 16\nint 3 2 7 16\n";
+    for (int a = 0; a < 29; a++) {
+        size_t at = strlen(lines);
+        snprintf(lines + at, sizeof lines - at, "acc %d %d %d 16 1 65535 65535 4294967295 4294967295\n", a,
+                 a == 28 ? 3 : a / 7, a == 28 ? 7 : a % 7);
+    }
+    spaced(&tree, lines);
+    razhikum_row greatest = razhikum_bound(tree.text, tree.bytes, 28);
+    same("the greatest share", greatest.sr, 163047361);
+    same("the greatest response", greatest.response, 1491360056307660495u);
+    same("the verdict on it", greatest.meets, false);
+    rows_are_the_report();
 }
 
 /* The tree with the longest text: every field is as long as it can be, all accelerators are on interconnects of two digits, and so
@@ -742,8 +787,8 @@ static void figures_of_axi3(void) {
     static const uint8_t reads[] = {0, 1, 0};
     spaced(&tree, BUS3("16") ROOT ACCS);
     same("accelerators", razhikum_count(tree.text, tree.bytes).accelerators, 2);
-    is_row(0, 1, 2, 1, 10, 0, 2245, 2000);
-    is_row(1, 1, 2, 2, 1, 0, 100, 100);
+    is_row(0, 1, 2, 1, 10, 0, 5157, 2000);
+    is_row(1, 1, 2, 2, 1, 0, 476, 100);
     rows_are_the_report();
     spaced(&trace, "o 0 0 2\no 0 1 1\n");
     is_trace(RAZHIKUM_FILE_NONE, RAZHIKUM_ACCEPTED, 0);
@@ -805,15 +850,15 @@ static void joiners(void) {
 static void examples(const char *folder) {
     spaced(&tree, BUS ROOT ACCS);
     same("accelerators", razhikum_count(tree.text, tree.bytes).accelerators, 2);
-    is_row(0, 1, 2, 1, 10, 0, 2245, 2000);
-    is_row(1, 1, 2, 2, 1, 0, 100, 100);
+    is_row(0, 1, 2, 1, 10, 0, 5157, 2000);
+    is_row(1, 1, 2, 2, 1, 0, 476, 100);
     rows_are_the_report();
     load(&tree, folder, "scanner30.tree");
     load(&trace, folder, "scanner30-read.trace");
     same("accelerators", razhikum_count(tree.text, tree.bytes).accelerators, 3);
-    is_row(0, 2, 3, 5, 160, 0, 14240, 30000);
-    is_row(1, 1, 3, 3, 16, 0, 1676, 20000);
-    is_row(2, 2, 15, 1, 0, 0, 2320, 100000);
+    is_row(0, 2, 3, 5, 160, 0, 26272, 30000);
+    is_row(1, 1, 3, 3, 16, 0, 7692, 20000);
+    is_row(2, 2, 15, 1, 0, 0, 7824, 100000);
     rows_are_the_report();
     is_trace(RAZHIKUM_FILE_NONE, RAZHIKUM_ACCEPTED, 0);
     /* The laser's tenth waits for two of the camera's and its own ninth; the camera's 65th is held until the second window. */
@@ -836,9 +881,9 @@ static void examples(const char *folder) {
     is_outcome(RAZHIKUM_SLOTS, RAZHIKUM_STOPPED, RAZHIKUM_ACCEPTED, 0, RAZHIKUM_SLOTS);
     is_wait_refused(2, 1, 8, RAZHIKUM_CALL_REFUSED, RAZHIKUM_NOT_SERVED, 0);
     load(&tree, folder, "scanner30-readback.tree");
-    is_row(0, 2, 15, 5, 1120, 0, 59360, 30000);
-    is_row(1, 1, 3, 3, 16, 0, 1676, 20000);
-    is_row(2, 2, 15, 1, 336, 0, 19528, 100000);
+    is_row(0, 2, 15, 5, 1120, 0, 71392, 30000);
+    is_row(1, 1, 3, 3, 16, 0, 7692, 20000);
+    is_row(2, 2, 15, 1, 336, 0, 31048, 100000);
     rows_are_the_report();
     is_outcome(RAZHIKUM_SLOTS, RAZHIKUM_DONE, RAZHIKUM_ACCEPTED, 0, 432);
     load(&tree, folder, "full.tree");
@@ -862,6 +907,7 @@ int main(int arguments, char **words) {
     traces();
     waits();
     returns();
+    windows();
     channels();
     texts(words[1]);
     bursts();

@@ -1,10 +1,11 @@
 //! Compares the library with the peer on random and damaged files, tree files also with lists of lines, runs and waits of both channels
-//! with the simple simulator, shares with sums taken anew, and texts with lines put in order. The seed is fixed. A difference prints the
-//! input and ends the test.
+//! with the simple simulator, shares and responses with sums taken anew, and texts with lines put in order. The seed is fixed. A
+//! difference prints the input and ends the test.
 mod common;
 
 use common::counts::{check, Counts};
 use common::reading::{self, Reading};
+use common::responses::{response, Responding};
 use common::shares::{share, Sharing};
 use common::simple::{self, Making, Rule, Service};
 use common::written::{self, Writing};
@@ -68,14 +69,29 @@ const WRONG_SHARES: [Sharing; 7] = [
     Sharing::CutBelow,
 ];
 
-/// The counts of a comparison of trees: the answers, what was met, for each wrong reading how many answers would differ, and for each
-/// wrong share how many rows.
+/// Responses that the comparison must find wrong.
+const WRONG_RESPONSES: [Responding; 9] = [
+    Responding::WindowsLeftOut,
+    Responding::RoundedDown,
+    Responding::OneMore,
+    Responding::WindowWithoutJob,
+    Responding::WithoutP,
+    Responding::OtherSlotTime,
+    Responding::AloneTime,
+    Responding::WindowForEach,
+    Responding::LongerChannel,
+];
+
+/// The counts of a comparison of trees: the answers, what was met, for each wrong reading how many answers would differ, for each wrong
+/// share how many rows, and for each wrong response how many rows and how many of their verdicts.
 #[derive(Default)]
 struct TreeCounts {
     answers: Counts,
     kinds: BTreeMap<&'static str, usize>,
     misread: [usize; WRONG_READINGS.len()],
     differing: [usize; WRONG_SHARES.len()],
+    responses: [usize; WRONG_RESPONSES.len()],
+    verdicts: [usize; WRONG_RESPONSES.len()],
 }
 
 /// What the comparison of readers must meet in the bus lines of a file, and whether this one does.
@@ -146,16 +162,53 @@ fn job_kinds(tree: &Tree, a: u8, bound: &Bound) -> [(&'static str, bool); 8] {
     ]
 }
 
+/// What the comparison of responses must meet in an accelerator, and whether this one does.
+fn response_kinds(tree: &Tree, a: u8, bound: &Bound) -> [(&'static str, bool); 9] {
+    let job = &tree.accelerators[a as usize];
+    let (b, jobs) = (u64::from(job.budget), [job.reads, job.writes]);
+    let some = |is: &dyn Fn(u64) -> bool| jobs.into_iter().any(|n| n > 0 && is(n));
+    let none = jobs == [0, 0];
+    let without_windows = response(tree, a, Responding::WindowsLeftOut);
+    [
+        ("as many transactions as the budget", some(&|n| n == b)),
+        ("fewer transactions than the budget", some(&|n| n < b)),
+        ("one transaction more than the budget", some(&|n| n == b + 1)),
+        ("a budget above 1 that divides the transactions of several windows", some(&|n| b > 1 && n > b && n % b == 0)),
+        ("a budget that leaves some for the last of several windows", some(&|n| n > b && n % b > 0)),
+        ("a response that is the computing alone", none && bound.response == job.computing),
+        ("windows counted on one channel alone", (job.reads == 0) != (job.writes == 0)),
+        ("meets with the windows counted", !none && bound.meets),
+        ("late by the windows alone", !bound.meets && without_windows <= bound.period.into()),
+    ]
+}
+
+/// The response of a bound and its verdict, against sums taken anew.
+fn compare_response(file: &[u8], tree: &Tree, a: u8, bound: &Bound, counts: &mut TreeCounts) {
+    let responded = |responding| {
+        let response = response(tree, a, responding);
+        (response, response <= bound.period.into())
+    };
+    let library = (u128::from(bound.response), bound.meets);
+    check("response and verdict", library, responded(Responding::AsWritten), &[file]);
+    for (i, responding) in WRONG_RESPONSES.into_iter().enumerate() {
+        let wrong = responded(responding);
+        counts.responses[i] += usize::from(wrong.0 != library.0);
+        counts.verdicts[i] += usize::from(wrong.1 != library.1);
+    }
+    for (kind, met) in response_kinds(tree, a, bound) {
+        *counts.kinds.entry(kind).or_default() += usize::from(met);
+    }
+}
+
 /// The shares of a bound, against sums taken anew.
-fn compare_shares(file: &[u8], a: u8, bound: &Bound, counts: &mut TreeCounts) {
-    let tree = read_tree(file).expect("read before");
-    let shares = |sharing| Channel::BOTH.map(|channel| share(&tree, channel, a, sharing));
+fn compare_shares(file: &[u8], tree: &Tree, a: u8, bound: &Bound, counts: &mut TreeCounts) {
+    let shares = |sharing| Channel::BOTH.map(|channel| share(tree, channel, a, sharing));
     let library = [bound.sr, bound.sw];
     check("shares", library, shares(Sharing::AsWritten), &[file]);
     for (count, sharing) in counts.differing.iter_mut().zip(WRONG_SHARES) {
         *count += usize::from(shares(sharing) != library);
     }
-    for (kind, met) in job_kinds(&tree, a, bound) {
+    for (kind, met) in job_kinds(tree, a, bound) {
         *counts.kinds.entry(kind).or_default() += usize::from(met);
     }
 }
@@ -171,7 +224,9 @@ fn compare_tree(file: &[u8], random: &mut Random, counts: &mut TreeCounts, page:
     let bound = razhikum::bound(file, a);
     check("bound", bound, peer::bounds::bound(file, a), &[file]);
     if let Ok(bound) = bound {
-        compare_shares(file, a, &bound, counts);
+        let tree = read_tree(file).expect("read before");
+        compare_shares(file, &tree, a, &bound, counts);
+        compare_response(file, &tree, a, &bound, counts);
     }
 
     // The bytes past the text keep what was there: of most pages the next few thousand are compared, of some all.
@@ -210,6 +265,11 @@ fn compare_trees() -> usize {
     for (sharing, count) in WRONG_SHARES.iter().zip(counts.differing) {
         println!("  shares by {sharing:?} would differ in {count} of them");
         assert!(count > 0, "the comparison does not find {sharing:?}");
+    }
+    for (i, responding) in WRONG_RESPONSES.iter().enumerate() {
+        let (count, verdicts) = (counts.responses[i], counts.verdicts[i]);
+        println!("  a response by {responding:?} would differ in {count} of them, and the verdict in {verdicts}");
+        assert!(count > 0 && verdicts > 0, "the comparison does not find {responding:?}");
     }
     TREES
 }

@@ -1,5 +1,5 @@
-//! Figures of document 01 ("Figures to check by"), waits on them, return delays, trees written back, both channels, both names of the bus
-//! record, and the limits on sizes, by library and peer alike; and the peer's single calls.
+//! Figures of document 01 ("Figures to check by"), waits on them, responses with the wait for new windows, return delays, trees written
+//! back, both channels, both names of the bus record, and the limits on sizes, by library and peer alike; and the peer's single calls.
 use razhikum::{Bound, Channel, Ending, FileRefused, Refused, Wait, WaitRefused, IDLE, LIMIT, OWN, PAGE, TREE_TEXT};
 use razhikum_bench::inputs::{longest_tree, nominal_tree, random_trace, random_tree, renamed, text, Random};
 use razhikum_bench::peer;
@@ -136,7 +136,7 @@ fn cases_3_and_4() {
 fn the_report() {
     let tree = file("bus 8 1 4 2 2 30 25 1 1 16\nint 0 - - 1\nacc 0 0 0 4 2 10 5 1000 2000\nacc 1 0 3 4 2 1 0 0 100\n");
     let expected = file(
-        "acc level sr sw yr yw resp period verdict\n0 1 2 1 10 0 2245 2000 late\n1 1 2 2 1 0 100 100 meets\nall late\n",
+        "acc level sr sw yr yw resp period verdict\n0 1 2 1 10 0 5157 2000 late\n1 1 2 2 1 0 476 100 late\nall late\n",
     );
     let mut page = Box::new([0; PAGE]);
     assert_eq!(razhikum::report(&tree, &mut page), Ok(&expected[..]));
@@ -144,6 +144,99 @@ fn the_report() {
     let mut text = Vec::new();
     assert_eq!(peer::report::report(&tree, &mut text), Ok(()));
     assert_eq!(text, expected);
+}
+
+/// "Case 9 becomes 6,112": share 4 on level 2, 10 reads and 5 writes, C 1,000. With budget 8 and P 16 the reads are charged 2 windows and
+/// the writes 1.
+#[test]
+fn case_9() {
+    for (period, meets) in [(6_112, true), (6_111, false), (3_920, false)] {
+        let accs = format!("acc 0 0 0 4 8 1 1 0 1\nacc 1 1 0 4 8 10 5 1000 {period}\nacc 2 1 1 4 8 1 1 0 1\n");
+        let of_1 = bound(&file(&format!("{BUS}int 1 0 1 1\n{accs}")), 1);
+        assert_eq!((of_1.level, of_1.sr, of_1.sw, of_1.yr, of_1.yw), (2, 4, 4, 30, 15));
+        assert_eq!((of_1.response, of_1.meets), (3_920 + 2 * 16 * 47 + 16 * 43, meets));
+        assert_eq!(of_1.response, 6_112);
+    }
+}
+
+/// One block alone, P 16: what each count of reads and writes and each budget adds to the time of the transactions alone, 53 and 49.
+#[test]
+fn windows_in_the_response() {
+    for (reads, writes, budget, windows) in [
+        (0, 0, 1, [0, 0]),
+        (0, 0, 1024, [0, 0]),
+        (1, 0, 1, [1, 0]),
+        (0, 1, 1024, [0, 1]),
+        (7, 8, 8, [1, 1]),
+        (9, 8, 8, [2, 1]),
+        (16, 17, 8, [2, 3]),
+        (65_535, 65_535, 1, [65_535, 65_535]),
+        (65_535, 65_535, 2, [32_768, 32_768]),
+        (65_535, 1_024, 1_024, [64, 1]),
+        (65_535, 65_535, 255, [257, 257]),
+    ] {
+        let tree = file(&format!("{BUS}acc 0 0 0 4 {budget} {reads} {writes} 7 1\n"));
+        let expected = 7 + reads * 53 + writes * 49 + windows[0] * 16 * 47 + windows[1] * 16 * 43;
+        assert_eq!(bound(&tree, 0).response, expected, "{reads} reads, {writes} writes, budget {budget}");
+    }
+}
+
+/// The greatest response over all accepted trees: every value is the greatest but the budget, which is 1, and the share is 113 to the
+/// fourth power.
+#[test]
+fn the_greatest_response() {
+    let mut tree = "bus 65535 255 255 255 255 4095 4095 255 255 256\nint 0 - - 16\n".to_string();
+    tree += "int 1 0 7 16\nint 2 1 7 16\nint 3 2 7 16\n";
+    for a in 0..29 {
+        let (level, port) = if a == 28 { (3, 7) } else { (a / 7, a % 7) };
+        tree += &format!("acc {a} {level} {port} 16 1 65535 65535 4294967295 4294967295\n");
+    }
+    let greatest = bound(&file(&tree), 28);
+    assert_eq!((greatest.sr, greatest.sw), (163_047_361, 163_047_361));
+    assert_eq!((greatest.response, greatest.meets), (1_491_360_056_307_660_495, false));
+}
+
+/// The slots in which a run serves accelerator 0.
+fn slots_of_0(out: &[u8]) -> Vec<usize> {
+    (0..out.len()).filter(|&slot| out[slot] == 0).collect()
+}
+
+/// One block with budget 1 in windows of 100 slots, and ten reads: one of them is admitted in each window. With a period of 40,000 cycles
+/// the run is late, and so says the response, which was 530 without the wait for new windows.
+#[test]
+fn a_job_held_at_window_edges() {
+    let tree = |period| file(&format!("bus 100 1 4 2 2 30 25 1 1 16\nint 0 - - 1\nacc 0 0 0 4 1 10 0 0 {period}\n"));
+    for (period, meets) in [(529, false), (530, false), (40_000, false), (47_529, false), (47_530, true)] {
+        let of_0 = bound(&tree(period), 0);
+        assert_eq!((of_0.sr, of_0.yr, of_0.response, of_0.meets), (1, 0, 10 * 53 + 10 * 100 * 47, meets));
+    }
+    let tree = tree(40_000);
+    // Asked in slot 0: the last is served in slot 900, in window 9, at the end of 901 slots of 47 cycles.
+    let (ending, out) = run_on(&tree, Read, &file("o 0 0 10\n"), 1_000);
+    assert_eq!(ending, Ok(Ending::Done(901)));
+    assert_eq!(slots_of_0(&out), (0..10).map(|window| 100 * window).collect::<Vec<_>>());
+    assert!(901 * 47 > 40_000 && 901 * 47 + 10 * 6 <= bound(&tree, 0).response);
+    wait_on(&tree, Read, &file("o 0 0 10\n"), 0, 10, Ok((900, 0, &[])));
+    // Asked in slot 1, with the budget of window 0 used: one window more. The 1,000 slots are all that can be: each of the 10 windows with
+    // a refusal by 9 has 99 slots of waiting, and 10 are served.
+    let (ending, out) = run_on(&tree, Read, &file("o 0 0 1\no 1 0 10\n"), 1_100);
+    assert_eq!(ending, Ok(Ending::Done(1_001)));
+    assert_eq!(slots_of_0(&out), (0..11).map(|window| 100 * window).collect::<Vec<_>>());
+}
+
+/// What the response does not count is the wait until an earlier answer is home: with phi 1 and a return delay of 15 a block alone is
+/// served in every sixteenth slot, so that its job takes longer than the response.
+#[test]
+fn a_return_delay_is_not_in_the_response() {
+    let tree = |delay| file(&format!("bus 1 1 4 2 2 30 25 1 1 16{delay}\nint 0 - - 1\nacc 0 0 0 1 8 10 0 0 1\n"));
+    for delay in ["", " 0", " 15"] {
+        assert_eq!(bound(&tree(delay), 0).response, 10 * 53 + 2 * 47);
+    }
+    let (ending, out) = run_on(&tree(" 15"), Read, &file("o 0 0 10\n"), 200);
+    assert_eq!(ending, Ok(Ending::Done(145)));
+    assert_eq!(slots_of_0(&out), (0..10).map(|n| 16 * n).collect::<Vec<_>>());
+    assert!(145 * 47 > 10 * 53 + 2 * 47);
+    assert_eq!(run_on(&tree(""), Read, &file("o 0 0 10\n"), 200).0, Ok(Ending::Done(10)));
 }
 
 /// A tree file with this return delay at the end of its bus line; "" leaves it out.
@@ -325,7 +418,7 @@ fn channels_apart() {
     let tree = apart("");
     shares_apart(&tree, &[(3, 2), (3, 4), (5, 3), (5, 4)]);
     let of_0 = bound(&tree, 0);
-    assert_eq!((of_0.yr, of_0.yw, of_0.response, of_0.meets), (20, 5, 1_930, true));
+    assert_eq!((of_0.yr, of_0.yw, of_0.response, of_0.meets), (20, 5, 4_122, false));
     let trace = file("o 0 0 2\no 0 1 2\no 0 2 1\no 0 3 1\n");
     let idle = [IDLE; 4];
     let (ending, out) = run_on(&tree, Read, &trace, 8);

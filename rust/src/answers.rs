@@ -261,7 +261,9 @@ pub struct Bound {
     pub yr: u64,
     /// The interference of its writes, in slots of the write channel.
     pub yw: u64,
-    /// The response of a job, in clock cycles: an upper bound on its time, waiting for a new window left out.
+    /// The response of a job, in clock cycles: an upper bound on its time. On each channel that the job has transactions on it counts the
+    /// wait for new windows, ceil(N / budget) windows for N transactions. It does not count the wait until an earlier answer is home,
+    /// where the tree has a return delay.
     pub response: u64,
     /// Its period, in clock cycles.
     pub period: u64,

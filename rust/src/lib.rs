@@ -22,7 +22,7 @@
 //! assert_eq!(razhikum::count(tree)?, 2);
 //! let camera = razhikum::bound(tree, 0)?;
 //! assert_eq!((camera.sr, camera.sw, camera.yr, camera.yw), (2, 1, 10, 0));
-//! assert_eq!((camera.response, camera.period, camera.meets), (2245, 2000, false));
+//! assert_eq!((camera.response, camera.period, camera.meets), (5157, 2000, false));
 //!
 //! use razhikum::{Channel, Ending};
 //! let trace = b"o\t0\t0\t2\no\t0\t1\t1\n";
@@ -64,7 +64,7 @@ pub use answers::{Bound, Cause, Channel, Ending, FileRefused, Refused, Wait, Wai
 pub use bursts::{split, Burst, Joiner, Joining, Pieces, PIECES};
 
 /// The version of this wrapper: 10,000 for each first figure, 100 for each second, 1 for each third.
-pub const VERSION: u32 = 20_200;
+pub const VERSION: u32 = 30_000;
 
 /// The size of the page that a report is put on, in bytes.
 pub const PAGE: usize = 65_536;

@@ -20,9 +20,9 @@ fn example(name: &str) -> Vec<u8> {
 fn bounds_of_an_example() {
     let tree = example("scanner30.tree");
     assert_eq!(count(&tree), Ok(3));
-    let camera = Bound { level: 2, sr: 3, sw: 5, yr: 160, yw: 0, response: 14_240, period: 30_000, meets: true };
-    let laser = Bound { level: 1, sr: 3, sw: 3, yr: 16, yw: 0, response: 1_676, period: 20_000, meets: true };
-    let map = Bound { level: 2, sr: 15, sw: 1, yr: 0, yw: 0, response: 2_320, period: 100_000, meets: true };
+    let camera = Bound { level: 2, sr: 3, sw: 5, yr: 160, yw: 0, response: 26_272, period: 30_000, meets: true };
+    let laser = Bound { level: 1, sr: 3, sw: 3, yr: 16, yw: 0, response: 7_692, period: 20_000, meets: true };
+    let map = Bound { level: 2, sr: 15, sw: 1, yr: 0, yw: 0, response: 7_824, period: 100_000, meets: true };
     assert_eq!([bound(&tree, 0), bound(&tree, 1), bound(&tree, 2)], [Ok(camera), Ok(laser), Ok(map)]);
     assert_eq!(bound(&tree, 3), Err(Refused { cause: Cause::Unknown, line: 0 }));
 }
@@ -31,17 +31,67 @@ fn bounds_of_an_example() {
 #[test]
 fn bounds_with_a_map_that_reads() {
     let tree = example("scanner30-readback.tree");
-    let camera = Bound { level: 2, sr: 15, sw: 5, yr: 1120, yw: 0, response: 59_360, period: 30_000, meets: false };
-    let laser = Bound { level: 1, sr: 3, sw: 3, yr: 16, yw: 0, response: 1_676, period: 20_000, meets: true };
-    let map = Bound { level: 2, sr: 15, sw: 1, yr: 336, yw: 0, response: 19_528, period: 100_000, meets: true };
+    let camera = Bound { level: 2, sr: 15, sw: 5, yr: 1120, yw: 0, response: 71_392, period: 30_000, meets: false };
+    let laser = Bound { level: 1, sr: 3, sw: 3, yr: 16, yw: 0, response: 7_692, period: 20_000, meets: true };
+    let map = Bound { level: 2, sr: 15, sw: 1, yr: 336, yw: 0, response: 31_048, period: 100_000, meets: true };
     assert_eq!([bound(&tree, 0), bound(&tree, 1), bound(&tree, 2)], [Ok(camera), Ok(laser), Ok(map)]);
+}
+
+/// The wait for new windows: one block with budget 1 in windows of 100 slots is served once in each of ten, so that its ten reads take 901
+/// slots of 47 cycles. The response was 10 x 53 before it counted the windows, which said that a period of 40,000 is met.
+#[test]
+fn a_job_held_at_window_edges() {
+    let tree = |period| file(&format!("bus 100 1 4 2 2 30 25 1 1 16\nint 0 - - 1\nacc 0 0 0 4 1 10 0 0 {period}\n"));
+    for (period, meets) in [(530, false), (40_000, false), (47_529, false), (47_530, true)] {
+        let expected = Bound { level: 1, sr: 1, sw: 1, yr: 0, yw: 0, response: 47_530, period, meets };
+        assert_eq!(bound(&tree(period), 0), Ok(expected));
+    }
+    let mut out = [99; 1_000];
+    assert_eq!(run(&tree(40_000), Read, &file("o 0 0 10\n"), &mut out), Ok(Ending::Done(901)));
+    let served: Vec<usize> = (0..1_000).filter(|&slot| out[slot] == 0).collect();
+    assert_eq!(served, (0..10).map(|window| 100 * window).collect::<Vec<_>>());
+    assert!(901 * 47 > 40_000);
+}
+
+/// What a job of so many reads and writes adds for windows of 8 slots: by each budget, none where it has none. The block is alone, so that
+/// each read takes 53 cycles and each write 49.
+#[test]
+fn windows_in_the_response() {
+    for (reads, writes, budget, windows) in [
+        (0, 0, 1, (0, 0)),
+        (1, 0, 1_024, (1, 0)),
+        (0, 1, 1, (0, 1)),
+        (7, 8, 8, (1, 1)),
+        (9, 16, 8, (2, 2)),
+        (17, 5, 8, (3, 1)),
+        (65_535, 65_535, 1_024, (64, 64)),
+        (65_535, 65_535, 1, (65_535, 65_535)),
+    ] {
+        let acc = format!("acc 0 0 0 4 {budget} {reads} {writes} 7 1\n");
+        let tree = file(&format!("bus 8 1 4 2 2 30 25 1 1 16\nint 0 - - 1\n{acc}"));
+        let expected = 7 + 53 * reads + 49 * writes + windows.0 * 8 * 47 + windows.1 * 8 * 43;
+        assert_eq!(bound(&tree, 0).map(|b| b.response), Ok(expected), "{acc}");
+    }
+}
+
+/// Share 4 on level 2, 10 reads, 5 writes, C 1,000 (`docs/MODEL.md`, M80).
+#[test]
+fn a_response_of_two_channels() {
+    for (period, meets) in [(6_112, true), (6_111, false)] {
+        let tree = file(&format!(
+            "bus 16 1 4 2 2 30 25 1 1 16\nint 0 - - 1\nint 1 0 1 1\nacc 0 0 0 4 8 1 1 0 1\n\
+             acc 1 1 0 4 8 10 5 1000 {period}\nacc 2 1 1 4 8 1 1 0 1\n"
+        ));
+        let expected = Bound { level: 2, sr: 4, sw: 4, yr: 30, yw: 15, response: 6_112, period, meets };
+        assert_eq!(bound(&tree, 1), Ok(expected));
+    }
 }
 
 #[test]
 fn a_report_and_the_bytes_past_it() {
     let mut page = Box::new([99; PAGE]);
     let text = file(
-        "acc level sr sw yr yw resp period verdict\n0 1 2 1 10 0 2245 2000 late\n1 1 2 2 1 0 100 100 meets\nall late\n",
+        "acc level sr sw yr yw resp period verdict\n0 1 2 1 10 0 5157 2000 late\n1 1 2 2 1 0 476 100 late\nall late\n",
     );
     assert_eq!(report(&file(SMALL), &mut page), Ok(&text[..]));
     assert!(page[text.len()..].iter().all(|&b| b == 99));

@@ -1,4 +1,4 @@
-//! Capacity, share, interference, response and verdict ("Bounds"; document 02, item 5, for the channels).
+//! Capacity, share, interference, response and verdict ("Bounds"; document 02, item 5, for the channels, and item 8 for the windows).
 use crate::peer::read::{read_tree, Port, Tree};
 use razhikum::{Bound, Channel, Refused};
 
@@ -67,11 +67,14 @@ fn bound_with([reads, writes]: &[OnChannel; 2], a: usize) -> Bound {
     let alone_write = bus.ta + l * bus.da.max(bus.dd) + words + bus.pw + bus.tb + l * bus.db;
     let slot_read = bus.ta + bus.pr + words;
     let slot_write = bus.ta + words + bus.pw + bus.tb;
+    // In slots, "ceil(N / b) × P": so long a job may be held for new windows.
+    let budget = u64::from(accelerator.budget);
+    let held = |n: u64| n.div_ceil(budget) * u64::from(bus.window);
     let response = accelerator.computing
         + accelerator.reads * alone_read
-        + yr * slot_read
+        + (yr + held(accelerator.reads)) * slot_read
         + accelerator.writes * alone_write
-        + yw * slot_write;
+        + (yw + held(accelerator.writes)) * slot_write;
     Bound { level, sr, sw, yr, yw, response, period: accelerator.period, meets: response <= accelerator.period }
 }
 
