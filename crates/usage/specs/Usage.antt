@@ -71,7 +71,7 @@ reportHelp =
     bytes "report [FILE]: from a tree file, whether each accelerator's job meets its period at worst.\n"
     ++ bytes "FILE is a tree file; standard input without one, or with -.\n"
     ++ bytes "Columns: accelerator, level, sr and sw (share of reads and of writes), yr and yw (interfering reads and writes),\n"
-    ++ bytes "response and period in cycles, verdict.\n"
+    ++ bytes "response (with the wait for new windows) and period in cycles, verdict.\n"
     ++ bytes "A refused file prints \"refused\", the number of the cause and the line; standard error says it in words.\n"
     ++ bytes "example: report scanner.tree\n"
 

@@ -181,7 +181,7 @@ pub fn report_help(out: &mut [u8; 65536]) -> usize
         b"report [FILE]: from a tree file, whether each accelerator's job meets its period at worst.\n\
         FILE is a tree file; standard input without one, or with -.\n\
         Columns: accelerator, level, sr and sw (share of reads and of writes), yr and yw (interfering reads and writes),\n\
-        response and period in cycles, verdict.\n\
+        response (with the wait for new windows) and period in cycles, verdict.\n\
         A refused file prints \"refused\", the number of the cause and the line; standard error says it in words.\n\
         example: report scanner.tree\n",
     )
