@@ -210,12 +210,16 @@ fn a_job_held_at_window_edges() {
         let of_0 = bound(&tree(period), 0);
         assert_eq!((of_0.sr, of_0.yr, of_0.response, of_0.meets), (1, 0, 10 * 53 + 10 * 100 * 47, meets));
     }
-    let tree = tree(40_000);
+    let period = 40_000;
+    let tree = tree(period);
     // Asked in slot 0: the last is served in slot 900, in window 9, at the end of 901 slots of 47 cycles.
     let (ending, out) = run_on(&tree, Read, &file("o 0 0 10\n"), 1_000);
     assert_eq!(ending, Ok(Ending::Done(901)));
-    assert_eq!(slots_of_0(&out), (0..10).map(|window| 100 * window).collect::<Vec<_>>());
-    assert!(901 * 47 > 40_000 && 901 * 47 + 10 * 6 <= bound(&tree, 0).response);
+    let served = slots_of_0(&out);
+    assert_eq!(served, (0..10).map(|window| 100 * window).collect::<Vec<_>>());
+    // Each read takes 6 cycles more than a slot, on its way through the interconnect.
+    let cycles = (served[9] as u64 + 1) * 47;
+    assert!(cycles > period && cycles + 10 * 6 <= bound(&tree, 0).response);
     wait_on(&tree, Read, &file("o 0 0 10\n"), 0, 10, Ok((900, 0, &[])));
     // Asked in slot 1, with the budget of window 0 used: one window more. The 1,000 slots are all that can be: each of the 10 windows with
     // a refusal by 9 has 99 slots of waiting, and 10 are served.
@@ -229,13 +233,15 @@ fn a_job_held_at_window_edges() {
 #[test]
 fn a_return_delay_is_not_in_the_response() {
     let tree = |delay| file(&format!("bus 1 1 4 2 2 30 25 1 1 16{delay}\nint 0 - - 1\nacc 0 0 0 1 8 10 0 0 1\n"));
+    let response = 10 * 53 + 2 * 47;
     for delay in ["", " 0", " 15"] {
-        assert_eq!(bound(&tree(delay), 0).response, 10 * 53 + 2 * 47);
+        assert_eq!(bound(&tree(delay), 0).response, response);
     }
     let (ending, out) = run_on(&tree(" 15"), Read, &file("o 0 0 10\n"), 200);
     assert_eq!(ending, Ok(Ending::Done(145)));
-    assert_eq!(slots_of_0(&out), (0..10).map(|n| 16 * n).collect::<Vec<_>>());
-    assert!(145 * 47 > 10 * 53 + 2 * 47);
+    let served = slots_of_0(&out);
+    assert_eq!(served, (0..10).map(|n| 16 * n).collect::<Vec<_>>());
+    assert!((served[9] as u64 + 1) * 47 > response);
     assert_eq!(run_on(&tree(""), Read, &file("o 0 0 10\n"), 200).0, Ok(Ending::Done(10)));
 }
 

@@ -46,11 +46,11 @@ fn a_job_held_at_window_edges() {
         let expected = Bound { level: 1, sr: 1, sw: 1, yr: 0, yw: 0, response: 47_530, period, meets };
         assert_eq!(bound(&tree(period), 0), Ok(expected));
     }
-    let mut out = [99; 1_000];
-    assert_eq!(run(&tree(40_000), Read, &file("o 0 0 10\n"), &mut out), Ok(Ending::Done(901)));
-    let served: Vec<usize> = (0..1_000).filter(|&slot| out[slot] == 0).collect();
+    let (mut out, period) = ([99; 1_000], 40_000);
+    assert_eq!(run(&tree(period), Read, &file("o 0 0 10\n"), &mut out), Ok(Ending::Done(901)));
+    let served: Vec<u64> = (0..1_000).filter(|&slot| out[slot as usize] == 0).collect();
     assert_eq!(served, (0..10).map(|window| 100 * window).collect::<Vec<_>>());
-    assert!(901 * 47 > 40_000);
+    assert!((served[9] + 1) * 47 > period);
 }
 
 /// What a job of so many reads and writes adds for windows of 8 slots: by each budget, none where it has none. The block is alone, so that

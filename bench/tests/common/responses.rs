@@ -35,7 +35,7 @@ fn windows(n: u128, b: u128, responding: Responding) -> u128 {
         Responding::OneMore => n / b + 1,
         Responding::WindowWithoutJob if n == 0 => 1,
         Responding::WindowForEach => n,
-        _ => (n + b - 1) / b,
+        _ => n / b + u128::from(!n.is_multiple_of(b)),
     }
 }
 
