@@ -1,4 +1,6 @@
 // The offers of a run before a slot, on the arrays that it keeps in place of a state.
+#![tactic(auto)]
+
 ghost use Rattle.std.specs.Prelude.{◌≡◌, ◌+◌, ◌<◌};
 ghost use Rattle.machine.specs.Answers.{offer_means};
 ghost use Rattle.admit.specs.Admitting.{arrays_of, answer_on, offered_on, offers_of, is_in, offers_before};

@@ -2,6 +2,8 @@
 // rule; and, in `tangle`, trees that no tree file could have given.
 //
 // Test code, without contracts: it is proved that each function is safe and ends.
+#![tactic(auto)]
+
 pub mod tangle;
 
 use generator::number_below;

@@ -1,6 +1,8 @@
 // What the library answers, field by field, beside what `second` says, and two buffers, byte by byte.
 //
 // Test code. Each function has its equation: a comparison that says "same" too often hides differences.
+#![tactic(auto)]
+
 pub mod exported;
 
 ghost use Rattle.std.specs.Prelude.{◌≡◌};

@@ -3,6 +3,8 @@
 //
 // Every answer carries document 01's number of a refusal, 0 where nothing is refused, and the refusal's line, 0 where it
 // has none.
+#![tactic(auto)]
+
 ghost use Rattle.std.specs.Prelude.{◌≡◌};
 ghost use Rattle.runner.specs.Answers.{run_means};
 ghost use Rattle.waits.specs.Answers.{why_means};
@@ -20,7 +22,7 @@ use waits::WhyAnswer;
 
 // What a reader answers. `file` says which file is refused: 0 neither, 1 the tree, 2 the trace.
 #[repr(C)]
-#[derive(Drop)]
+#[derive(Clone, Copy)]
 pub struct Reading {
     pub file: u8,
     pub number: u8,
@@ -30,7 +32,7 @@ pub struct Reading {
 // How a run ended. `kind` is 0 for done, 1 for stopped, 2 where the tree is refused, 3 where the trace or the size of the
 // buffer is, 4 where the number of the channel is. `slots` is the number of slots used, 0 on a refusal.
 #[repr(C)]
-#[derive(Drop)]
+#[derive(Clone, Copy)]
 pub struct Outcome {
     pub kind: u8,
     pub number: u8,
@@ -42,7 +44,7 @@ pub struct Outcome {
 // is, 4 where the channel, the accelerator or the number is, without a line. `count` is the number of slots that it waited, `slot` that of its
 // admission: both 0 on a refusal.
 #[repr(C)]
-#[derive(Drop)]
+#[derive(Clone, Copy)]
 pub struct Wait {
     pub kind: u8,
     pub number: u8,
@@ -53,7 +55,7 @@ pub struct Wait {
 
 // The bounds of an accelerator, by the names of the report's columns: all 0 and not met on a refusal.
 #[repr(C)]
-#[derive(Drop)]
+#[derive(Clone, Copy)]
 pub struct Row {
     pub number: u8,
     pub line: u32,
@@ -69,7 +71,7 @@ pub struct Row {
 
 // How a burst is cut: the count of its pieces, 0 on a refusal.
 #[repr(C)]
-#[derive(Drop)]
+#[derive(Clone, Copy)]
 pub struct Cut {
     pub number: u8,
     pub line: u32,
@@ -79,7 +81,7 @@ pub struct Cut {
 // What the joiner answers to the answer of a piece: `number` is 11 where it is refused, and `done` says that it was the last. The other
 // two are the joiner that comes back.
 #[repr(C)]
-#[derive(Drop)]
+#[derive(Clone, Copy)]
 pub struct Joined {
     pub number: u8,
     pub done: bool,
@@ -89,7 +91,7 @@ pub struct Joined {
 
 // How many accelerators a tree has: 0 on a refusal.
 #[repr(C)]
-#[derive(Drop)]
+#[derive(Clone, Copy)]
 pub struct Count {
     pub number: u8,
     pub line: u32,

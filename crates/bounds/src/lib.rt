@@ -1,5 +1,7 @@
 // The bounds of document 01: for an accelerator of a configuration its share on each channel, the interference that its job meets
 // there, its response and whether it meets its period. The response counts the wait for a new window (document 02, item 8).
+#![tactic(auto)]
+
 mod timing;
 
 ghost use Rattle.std.specs.Prelude.{◌≡◌};
@@ -13,15 +15,15 @@ use rules::tree_keeps;
 use shares::share_of;
 
 // A count of slots: one for each interfering transaction, P for each window.
-#[derive(Drop)]
+#[derive(Clone, Copy)]
 pub struct Slots(pub u64);
 
 // A time in clock cycles.
-#[derive(Drop)]
+#[derive(Clone, Copy)]
 pub struct Cycles(pub u64);
 
 // What the transactions of a job meet on a channel: the share of their accelerator there, and their interference.
-#[derive(Drop)]
+#[derive(Clone, Copy)]
 pub struct OnChannel {
     pub share: u64,
     pub interference: Slots,
@@ -29,7 +31,7 @@ pub struct OnChannel {
 
 // What is known of an accelerator: the level L of its interconnect, what its job's reads and its writes meet, its response and its
 // period, and whether it meets the period.
-#[derive(Drop)]
+#[derive(Clone, Copy)]
 pub struct Figures {
     pub level: u8,
     pub reads: OnChannel,
@@ -40,7 +42,7 @@ pub struct Figures {
 }
 
 // What the analysis answers of an accelerator.
-#[derive(Drop)]
+#[derive(Clone, Copy)]
 pub enum BoundAnswer {
     Refused(Refusal),
     Bound(Figures),

@@ -6,14 +6,14 @@ ghost use Rattle.burst.specs.Answers.{join_outcome};
 use model::Refusal;
 
 // How many pieces a burst has, and how many of them are answered.
-#[derive(Drop)]
+#[derive(Clone, Copy)]
 pub struct Joiner {
     pub pieces: u32,
     pub answered: u32,
 }
 
 // What the joiner answers to the answer of a piece: it is taken, and others are to come; it was the last; or it is refused.
-#[derive(Drop)]
+#[derive(Clone, Copy)]
 pub enum JoinAnswer {
     Taken,
     Done,
@@ -21,7 +21,7 @@ pub enum JoinAnswer {
 }
 
 // The joiner's answer with the next joiner.
-#[derive(Drop)]
+#[derive(Clone, Copy)]
 pub struct JoinReply {
     pub answer: JoinAnswer,
     pub joiner: Joiner,

@@ -1,5 +1,7 @@
 // The burst splitter of document 02, item 6: a long burst cut into pieces of the tree's nominal burst length. `joiner` takes the answers
 // of the pieces, and `offers` offers them to the machine.
+#![tactic(auto)]
+
 pub mod joiner;
 pub mod offers;
 
@@ -12,7 +14,7 @@ use model::{Refusal, Tree};
 use rules::tree_keeps;
 
 // A burst: its start address, its beats, and the bytes of a beat.
-#[derive(Drop)]
+#[derive(Clone, Copy)]
 pub struct Burst {
     pub start: u32,
     pub beats: u32,
@@ -20,14 +22,14 @@ pub struct Burst {
 }
 
 // What the splitter answers: the count of pieces, or why there are none.
-#[derive(Drop)]
+#[derive(Clone, Copy)]
 pub enum SplitAnswer {
     Pieces(u32),
     Refused(Refusal),
 }
 
 // Of each piece the start address and the beats.
-#[derive(Drop)]
+#[derive(Clone, Copy)]
 struct Lists {
     starts: [u32; 256],
     beats: [u32; 256],

@@ -10,7 +10,7 @@ use model::{State, Tree};
 use rules::both_keep;
 
 // What comes of an offered burst: admitted, or what refused it or one of its pieces; how many pieces were admitted; and the next state.
-#[derive(Drop)]
+#[derive(Clone, Copy)]
 pub struct BurstReply {
     pub answer: OfferAnswer,
     pub admitted: u32,

@@ -2,6 +2,8 @@
 // the state.
 //
 // Test code: it is proved that each function is safe and ends, and of the comparisons which number is compared with which.
+#![tactic(auto)]
+
 pub mod joins;
 pub mod offers;
 pub mod splits;

@@ -40,7 +40,7 @@ pub const OVER_16_OFFERED: usize = 3546;
 const LIMITS: [u32; 6] = [15, 16, 17, 255, 256, 257];
 
 // What is offered: a burst of accelerator a, from one of its pieces on.
-#[derive(Drop)]
+#[derive(Clone, Copy)]
 struct Call {
     b: Burst,
     a: u8,

@@ -3,6 +3,8 @@
 //
 // Test code: it is proved that each function is safe and ends, and of the comparison which number of the store it compares with
 // which entry of the state.
+#![tactic(auto)]
+
 pub mod returns;
 pub mod states;
 

@@ -2,6 +2,8 @@
 // configuration as plain numbers, what waits under each port, and the live ports of each interconnect.
 //
 // The parts of an array lie one after another; the constants say where each but the first begins.
+#![tactic(auto)]
+
 pub mod along;
 pub mod choice;
 pub mod tables;

@@ -1,6 +1,8 @@
 // The library's readers, machine, runner, bounds, waits, writer and bursts, run beside those of `second` on the generated and the listed
 // inputs of `generator`. It writes how many inputs of each kind there were, how often each of several wrong rules, followed on
 // purpose, was seen, and last how many differences there are.
+#![tactic(auto)]
+
 mod bursts;
 mod compare;
 mod edges;

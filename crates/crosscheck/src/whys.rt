@@ -11,7 +11,7 @@ use second::{NO_WRONG_RULE, NOT_OUTSTANDING, SERVICE_LISTED, Said};
 use store::{DIFFERENCES, WRONG, add, get, least, note};
 
 // A question: a channel, an accelerator, the number of one of its transactions, and the size of the buffer that is lent.
-#[derive(Drop)]
+#[derive(Clone, Copy)]
 pub struct Question {
     pub channel: usize,
     pub accelerator: u8,

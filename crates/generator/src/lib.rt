@@ -2,6 +2,8 @@
 // a tree; and bursts.
 //
 // Test code, without contracts: it is proved that each function is safe and ends.
+#![tactic(auto)]
+
 pub mod bursts;
 mod damage;
 mod generate;

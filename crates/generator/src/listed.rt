@@ -1,7 +1,7 @@
 // Files that stand one after the other in a list, each under a heading.
 
 // The heading of a listed file: how many bytes the file has, and where it begins.
-#[derive(Drop)]
+#[derive(Clone, Copy)]
 pub struct Heading {
     pub size: usize,
     pub start: usize,

@@ -2,6 +2,8 @@
 // file: a read that fails is no end. What cannot be read or written is said on standard error, once. `answered` has an equation
 // for what one call answered; which calls were answered so, and what stands in a file, is outside of every contract (`libc`),
 // so the others bound the bytes alone.
+#![tactic(auto)]
+
 ghost use Rattle.std.specs.Prelude.{◌≡◌, ◌≤◌, length, take};
 ghost use Rattle.input.specs.Input.{size_of, answer_of};
 
@@ -9,7 +11,7 @@ use libc::{STDERR_FILENO, STDIN_FILENO, STDOUT_FILENO};
 use usage::is_dash;
 
 // A file read to its end, or until the buffer is full; or a read failed. Likewise of one read and one write.
-#[derive(Drop)]
+#[derive(Clone, Copy)]
 pub enum Input {
     Bytes(usize),
     Failed,

@@ -1,5 +1,7 @@
 // What the program `why` does by its words, asks of the two files and prints: the words read, the answer with what a refusal is of,
 // and its text page by page.
+#![tactic(auto)]
+
 ghost use Rattle.std.specs.Prelude.{◌≡◌, ◌≤◌, ◌*◌, length, take};
 ghost use Rattle.put.specs.Page.{Written};
 ghost use Rattle.put.specs.Put.{Put};
@@ -23,7 +25,7 @@ use waits::{WhyAnswer, why};
 
 // What `why` does by its words: it asks for the wait, on a channel, of a transaction of an accelerator, or says its usage or its help.
 // 255 stands for every accelerator above 255, and 4,294,967,295 for every number above it: neither is in any run.
-#[derive(Drop)]
+#[derive(Clone, Copy)]
 pub enum Asked {
     Usage,
     Help,
@@ -31,7 +33,7 @@ pub enum Asked {
 }
 
 // What a refusal is of: a file, or one of the words ACC and NUMBER.
-#[derive(Drop)]
+#[derive(Clone, Copy)]
 pub enum Part {
     Tree,
     Trace,
@@ -41,7 +43,7 @@ pub enum Part {
 
 // What is answered: a refusal, of what, by which number and at which line, 0 for none; or how many slots the transaction waited,
 // and the slot of its admission.
-#[derive(Drop)]
+#[derive(Clone, Copy)]
 pub enum Reply {
     Refused(Part, u8, u32),
     Waited(u32, u32),

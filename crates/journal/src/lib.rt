@@ -1,4 +1,6 @@
 // The text of a run, built in pages that the caller lends.
+#![tactic(auto)]
+
 ghost use Rattle.std.specs.Prelude.{◌≡◌, length};
 ghost use Rattle.folds.specs.Fold.{pick};
 ghost use Rattle.put.specs.Page.{bytes as bytes_of, field, Written};

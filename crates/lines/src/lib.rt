@@ -1,6 +1,8 @@
 // A line of a file read into a struct, and tested against the form of its record; what a reader of files answers.
 //
 // Shape and limits of all records stand in one table. A line is placed only after both are tested.
+#![tactic(auto)]
+
 ghost use Rattle.std.specs.Prelude.{◌≡◌, ◌<◌};
 ghost use Rattle.lines.specs.Answer.{answer_number, answer_line};
 ghost use Rattle.lines.specs.Lines.{kind_of, named, push, line_of, plain_form, bus_form, form_of, dashes_kept, limits_kept, is_record, shaped};
@@ -9,7 +11,7 @@ use model::{Refusal, number};
 use text::{Field, part_end, read_field, same_bytes};
 
 // What a line's record name says.
-#[derive(Drop)]
+#[derive(Clone, Copy)]
 pub enum Kind {
     NoRecord,
     BusLine,
@@ -21,7 +23,7 @@ pub enum Kind {
 
 // A line: its record name, how many fields follow it, whether one of them is malformed, and of the first eleven which are
 // "-" and the numbers of the others. A field that is no number, or is absent, is held as 0.
-#[derive(Drop)]
+#[derive(Clone, Copy)]
 pub struct Line {
     pub kind: Kind,
     pub count: usize,
@@ -31,7 +33,7 @@ pub struct Line {
 }
 
 // The fields of a record: how many at least and at most, which may be "-", and the limits of each.
-#[derive(Drop)]
+#[derive(Clone, Copy)]
 pub struct Form {
     pub least: usize,
     pub count: usize,
@@ -229,7 +231,7 @@ pub fn limits_kept(kind: Kind, values: [u64; 11]) -> bool
 
 // What a reader answers: accepted; refused, with the line; or refused because the configuration breaks its rules, which
 // has no line.
-#[derive(Drop)]
+#[derive(Clone, Copy)]
 pub enum FileAnswer {
     Accepted,
     Refused(Refusal, u32),

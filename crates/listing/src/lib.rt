@@ -1,5 +1,7 @@
 // The report and the refusal of document 01, each built in a page that the caller lends. Each function answers how long its
 // text is and leaves the bytes past it as they were; a page has room for every text.
+#![tactic(auto)]
+
 ghost use Rattle.std.specs.Prelude.{true, ◌≡◌};
 ghost use Rattle.rules.specs.Rules.{tree_keeps};
 ghost use Rattle.put.specs.Page.{ended, Written};

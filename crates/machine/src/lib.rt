@@ -1,6 +1,8 @@
 // The machine of document 01 for one channel, reads or writes: the fresh state, the offer of one transaction, and one slot of service.
 // Each call takes the configuration and a state by value and returns its answer with the next state, which is of the same channel; a
 // refusal returns the state it was handed.
+#![tactic(auto)]
+
 ghost use Rattle.std.specs.Prelude.{◌≡◌, true, map, ◌<◌, ◌≤◌};
 ghost use Rattle.model.specs.Tree.{delay_of, waiting_of, returns_of, admitted_of};
 ghost use Rattle.model.specs.Builders.{zero_state};
@@ -14,35 +16,35 @@ use rules::{both_keep, less_one, tree_keeps};
 use turns::choose;
 
 // What the start answers.
-#[derive(Drop)]
+#[derive(Clone, Copy)]
 pub enum FreshAnswer {
     Started,
     Refused(Refusal),
 }
 
 // The start's answer with the fresh state, or with zeros on a refusal.
-#[derive(Drop)]
+#[derive(Clone, Copy)]
 pub struct FreshReply {
     pub answer: FreshAnswer,
     pub state: State,
 }
 
 // What the offer of one transaction answers.
-#[derive(Drop)]
+#[derive(Clone, Copy)]
 pub enum OfferAnswer {
     Admitted,
     Refused(Refusal),
 }
 
 // An offer's answer with the next state.
-#[derive(Drop)]
+#[derive(Clone, Copy)]
 pub struct OfferReply {
     pub answer: OfferAnswer,
     pub state: State,
 }
 
 // What one slot did: nothing waited, or the accelerator of this number was served.
-#[derive(Drop)]
+#[derive(Clone, Copy)]
 pub enum SlotAnswer {
     Idle,
     Served(u8),
@@ -50,7 +52,7 @@ pub enum SlotAnswer {
 }
 
 // A slot's answer with the next state.
-#[derive(Drop)]
+#[derive(Clone, Copy)]
 pub struct SlotReply {
     pub answer: SlotAnswer,
     pub state: State,

@@ -1,4 +1,6 @@
 // Where the paths of two accelerators meet: the deepest interconnect that both cross.
+#![tactic(auto)]
+
 ghost use Rattle.std.specs.Prelude.{◌≡◌, ◌≤◌};
 ghost use Rattle.model.specs.Tree.{above, path};
 ghost use Rattle.meeting.specs.Meeting.{crosses, meeting, meet_of};

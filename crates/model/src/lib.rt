@@ -2,6 +2,8 @@
 //
 // Everything here goes by value. Each accessor answers zero, or an empty port, past the end of its array, so that each
 // check answers on any value whatever.
+#![tactic(auto)]
+
 pub mod access;
 
 ghost use Rattle.std.specs.Prelude.{◌≡◌, ◌+◌, ◌≤◌, ltb};
@@ -9,7 +11,7 @@ ghost use Rattle.folds.specs.Fold.{pick};
 ghost use Rattle.model.specs.Answer.{number_of};
 
 // What a port carries: nothing, the accelerator or the lower interconnect of this number.
-#[derive(Drop)]
+#[derive(Clone, Copy)]
 pub enum Port {
     Empty,
     Acc(u8),
@@ -17,14 +19,14 @@ pub enum Port {
 }
 
 // A port as an element of an array.
-#[derive(Drop)]
+#[derive(Clone, Copy)]
 pub struct PortCell {
     pub port: Port,
 }
 
 // The bus line: the window P in slots; the delays tA, dA, dD, dB, pR, pW, tD, tB in clock cycles; the burst length B; the
 // return delay r in slots, 0 where the line leaves it out; whether its record name is bus3, which means AXI3.
-#[derive(Drop)]
+#[derive(Clone, Copy)]
 pub struct Bus {
     pub window: u16,
     pub ta: u8,
@@ -42,7 +44,7 @@ pub struct Bus {
 
 // An interconnect: the parent and the port on it that carries this one (0 and 0 at the root, whose line has "-" there),
 // granularity g, and what each of its eight input ports carries.
-#[derive(Drop)]
+#[derive(Clone, Copy)]
 pub struct Interconnect {
     pub parent: u8,
     pub port: u8,
@@ -52,7 +54,7 @@ pub struct Interconnect {
 
 // An accelerator: the interconnect and port that it is on, outstanding limit phi, budget of transactions a window, and of
 // a job the reads Nr, writes Nw, computing C and period T.
-#[derive(Drop)]
+#[derive(Clone, Copy)]
 pub struct Accelerator {
     pub interconnect: u8,
     pub port: u8,
@@ -65,7 +67,7 @@ pub struct Accelerator {
 }
 
 // A configuration: the first `ints` interconnects and the first `accs` accelerators are in the tree.
-#[derive(Drop)]
+#[derive(Clone, Copy)]
 pub struct Tree {
     pub bus: Bus,
     pub interconnects: [Interconnect; 15],
@@ -75,7 +77,7 @@ pub struct Tree {
 }
 
 // Reads and writes share nothing: each channel has a state of its own.
-#[derive(Drop)]
+#[derive(Clone, Copy)]
 pub enum Channel {
     Read,
     Write,
@@ -84,7 +86,7 @@ pub enum Channel {
 // The state of one channel: for each accelerator the transactions that wait, those that return and those admitted in this
 // window; for each interconnect its last port and its allowance; the slot count; and which channel it is of. The returning
 // ones are the bits of a number: bit d for one that was served d slots ago, and so is due r + 1 - d slots ahead.
-#[derive(Drop)]
+#[derive(Clone, Copy)]
 pub struct State {
     pub waiting: [u8; 32],
     pub returning: [u32; 32],
@@ -96,7 +98,7 @@ pub struct State {
 }
 
 // Why a file, a call or a state is refused.
-#[derive(Drop)]
+#[derive(Clone, Copy)]
 pub enum Refusal {
     Shape,
     Limit,

@@ -1,5 +1,7 @@
 // A line of a tree file placed in what is read so far, which is held as a tree: before the bus line its window is 0, and an
 // accelerator whose line is not read yet has phi 0. What the line's fields make of the tree is in `records`.
+#![tactic(auto)]
+
 ghost use Rattle.std.specs.Prelude.{◌≡◌, true, ltb};
 ghost use Rattle.folds.specs.Fold.{all};
 ghost use Rattle.rules.specs.Rules.{is_empty};
@@ -14,7 +16,7 @@ use model::{Port, Refusal, Tree};
 use records::{empty_tree, store_acc, store_bus, store_child, store_root};
 
 // A tree file's answer, with the tree that it gives. On a refusal the tree is empty.
-#[derive(Drop)]
+#[derive(Clone, Copy)]
 pub struct TreeRead {
     pub answer: FileAnswer,
     pub tree: Tree,

@@ -1,4 +1,6 @@
 // A tree file read, and its report or its written text put into a lent buffer.
+#![tactic(auto)]
+
 ghost use Rattle.std.specs.Prelude.{◌≡◌, length};
 ghost use Rattle.lines.specs.Answer.{answer_number, answer_line};
 ghost use Rattle.reader.specs.TreeFile.{read_tree};
@@ -13,7 +15,7 @@ use reader::read_tree;
 use writer::{WriteAnswer, write_tree};
 
 // How many bytes were put, and the refusal's number and line; number 0 says that the file is accepted.
-#[derive(Drop)]
+#[derive(Clone, Copy)]
 pub struct Printed {
     pub bytes: usize,
     pub number: u8,

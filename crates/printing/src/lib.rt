@@ -1,12 +1,14 @@
 // What the programs of one tree file do, `report` and `rewrite`: they read the file, standard input without a name or with "-", and
 // write a text of its tree to standard output. A refusal is one line there, and one line in words on standard error.
+#![tactic(auto)]
+
 use input::{Input, file_bytes, page_text};
 use libc::{STDERR_FILENO, STDIN_FILENO};
 use plan::Printed;
 use usage::Asked;
 
 // Which of the two runs.
-#[derive(Drop)]
+#[derive(Clone, Copy)]
 pub enum Program {
     Report,
     Rewrite,

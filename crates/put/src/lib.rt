@@ -1,5 +1,7 @@
 // Texts stored in a lent buffer, one after the other. Each function stores from `at` on and answers where the next byte
 // goes; what would lie past the buffer's end is dropped.
+#![tactic(auto)]
+
 ghost use Rattle.std.specs.Prelude.{◌≡◌, [], ◌∷◌, ◌++◌, ◌+◌, ◌≤◌, length};
 ghost use Rattle.text.specs.Write.{decimal_text};
 ghost use Rattle.put.specs.Put.{Put};

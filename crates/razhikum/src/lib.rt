@@ -1,6 +1,8 @@
 // The planner for programs in C and Rust: what the static library exports, on numbers and byte slices. No function has a
 // `requires`: each answers every input, by a struct of numbers (`answers`). The header include/razhikum.h says the same to a C
 // compiler, and the package in rust/ to Rust.
+#![tactic(auto)]
+
 ghost use Rattle.std.specs.Prelude.{◌≡◌, length};
 ghost use Rattle.reader.specs.TreeFile.{read_tree};
 ghost use Rattle.plan.specs.Plan.{Printing};
@@ -29,7 +31,7 @@ use waits::why;
 
 // A report or a tree as text: how many bytes of the buffer it has; or the refusal, which puts none.
 #[repr(C)]
-#[derive(Drop)]
+#[derive(Clone, Copy)]
 pub struct Page {
     pub bytes: usize,
     pub number: u8,

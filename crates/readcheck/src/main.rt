@@ -3,6 +3,8 @@
 //
 // Standard input holds the files, each after a line of three fields: t for a tree or o for a trace, a name, and how many
 // bytes the file has. A trace is read on the first tree of document 01's report. Files near the size limit are made here.
+#![tactic(auto)]
+
 ghost use Rattle.std.specs.Prelude.{◌≡◌, length};
 
 use libc::{STDIN_FILENO, STDOUT_FILENO};

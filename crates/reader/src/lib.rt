@@ -1,4 +1,6 @@
 // The reader of a tree file: size, then line by line, then the end.
+#![tactic(auto)]
+
 ghost use Rattle.std.specs.Prelude.{◌≡◌};
 ghost use Rattle.reader.specs.TreeFile.{read_tree};
 

@@ -1,4 +1,6 @@
 // A refusal in words for a person, from the bytes of the file that is refused, put into a page that the caller lends; and said.
+#![tactic(auto)]
+
 mod parts;
 mod shapes;
 mod values;

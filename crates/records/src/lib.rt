@@ -1,6 +1,8 @@
 // What the fields of a record make of the tree read so far; whether its line may stand in the file is for `placing` to say.
 //
 // Each public function answers on any values: a record that cannot be held leaves the tree as it is.
+#![tactic(auto)]
+
 ghost use Rattle.std.specs.Prelude.{◌≡◌, true, ◌<◌, max};
 ghost use Rattle.lines.specs.Lines.{bus_kind, limits_kept};
 ghost use Rattle.records.specs.Records.{empty_tree, bus_of, with_port, with_interconnect, acc_of, bus_stored, has_room, root_stored, child_stored, acc_stored};

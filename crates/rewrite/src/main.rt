@@ -1,5 +1,7 @@
 // rewrite [FILE]: reads a tree file, standard input without a name or with "-", and writes its tree back as text to standard output.
 // A refusal is one line there, and one line in words on standard error.
+#![tactic(auto)]
+
 use printing::{Program, run};
 
 fn main() {

@@ -1,5 +1,7 @@
 // The check of a configuration and of a state: each clause of the rules is a function that answers on any value
 // whatever.
+#![tactic(auto)]
+
 ghost use Rattle.std.specs.Prelude.{◌≡◌, ◌-◌, min};
 ghost use Rattle.folds.specs.Fold.{all, within};
 ghost use Rattle.model.specs.Tree.{beat_limit, port_of};

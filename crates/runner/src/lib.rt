@@ -1,5 +1,7 @@
 // The runner of document 01: a trace is run slot by slot on a configuration, from the fresh state of a channel, and each slot's
 // service is written as one byte.
+#![tactic(auto)]
+
 mod steps;
 mod waiting;
 
@@ -24,7 +26,7 @@ pub const IDLE: u8 = 255;
 
 // What a run answers: refused, with a line of the trace, or 0 for a size; refused because the configuration breaks its
 // rules, which has no line; or done or stopped, with the number of slots used.
-#[derive(Drop)]
+#[derive(Clone, Copy)]
 pub enum RunAnswer {
     Refused(Refusal, u32),
     Broken,
@@ -33,21 +35,21 @@ pub enum RunAnswer {
 }
 
 // The place of the next line, and a slot before which it is not due.
-#[derive(Drop)]
+#[derive(Clone, Copy)]
 pub struct NextLine {
     pub at: usize,
     pub due: u32,
 }
 
 // The lines due in a slot, taken: the next line, and the accelerators that they are of, bit a for accelerator a.
-#[derive(Drop)]
+#[derive(Clone, Copy)]
 pub struct DueLines {
     pub next: NextLine,
     pub accelerators: u32,
 }
 
 // How a slot ends: its byte, whether a window opens then, and how many slots of the window are left from there on.
-#[derive(Drop)]
+#[derive(Clone, Copy)]
 pub struct SlotEnd {
     pub served: u8,
     pub opened: bool,
@@ -55,7 +57,7 @@ pub struct SlotEnd {
 }
 
 // What a run tells of one transaction: the slots of its admission and of its service, and how many of its accelerator were served.
-#[derive(Drop)]
+#[derive(Clone, Copy)]
 pub struct Wait {
     pub admission: u32,
     pub service: u32,
@@ -63,7 +65,7 @@ pub struct Wait {
 }
 
 // What a run answers, and what it tells of one transaction.
-#[derive(Drop)]
+#[derive(Clone, Copy)]
 pub struct RunWait {
     pub answer: RunAnswer,
     pub wait: Wait,

@@ -20,7 +20,7 @@ pub const BEATS: usize = 6400;
 pub const ENTRIES: usize = 256;
 
 // A burst: its start address, its beats, and the bytes of a beat.
-#[derive(Drop)]
+#[derive(Clone, Copy)]
 pub struct Asked {
     pub start: usize,
     pub beats: usize,
@@ -28,14 +28,14 @@ pub struct Asked {
 }
 
 // What the splitter says: the number of a refusal, or 0; how many pieces there are.
-#[derive(Drop)]
+#[derive(Clone, Copy)]
 pub struct Split {
     pub number: usize,
     pub pieces: usize,
 }
 
 // What the joiner says: 0 taken, DONE, or the number of a refusal; the pieces, and how many are answered.
-#[derive(Drop)]
+#[derive(Clone, Copy)]
 pub struct Joined {
     pub code: usize,
     pub pieces: usize,
@@ -45,14 +45,14 @@ pub struct Joined {
 pub const DONE: usize = 255;
 
 // What comes of an offered burst: the number of a refusal, or 0; how many pieces are admitted.
-#[derive(Drop)]
+#[derive(Clone, Copy)]
 pub struct Offered {
     pub number: usize,
     pub admitted: usize,
 }
 
 // A walk over the beats: the next byte, the beats that are left of this piece, and the pieces so far.
-#[derive(Drop)]
+#[derive(Clone, Copy)]
 struct Walk {
     at: usize,
     left: usize,

@@ -3,6 +3,8 @@
 //
 // Test code: it is proved that each function is safe and ends. Those that a comparison with the library reads its entries by have
 // equations: which number of the store each of them answers.
+#![tactic(auto)]
+
 pub mod book;
 pub mod bursts;
 pub mod calls;
@@ -144,7 +146,7 @@ pub const OTHER_SLOT: usize = 61;
 pub const EMPTY_WINDOW: usize = 62;
 
 // An answer on a file: 0 where it is accepted, or the number of a refusal; and the line.
-#[derive(Drop)]
+#[derive(Clone, Copy)]
 pub struct Said {
     pub number: usize,
     pub line: usize,

@@ -9,7 +9,7 @@ use crate::{
 };
 
 // What is said of a transaction: the number and line of a refusal, or 0; how many slots it waited, and the slot of its admission.
-#[derive(Drop)]
+#[derive(Clone, Copy)]
 pub struct Told {
     pub number: usize,
     pub line: usize,

@@ -46,7 +46,7 @@ pub(crate) const QUEUE: usize = 2560;
 const SINCE: usize = 1536;
 
 // How a run ends: the number and line of a refusal, or 0; whether it is done; the slots used.
-#[derive(Drop)]
+#[derive(Clone, Copy)]
 pub struct Ended {
     pub number: usize,
     pub line: usize,

@@ -10,7 +10,7 @@ use crate::{
 use store::least;
 
 // The figures of an accelerator: of the shares and the transactions of others that of reads first.
-#[derive(Drop)]
+#[derive(Clone, Copy)]
 pub struct Row {
     pub level: usize,
     pub sr: usize,

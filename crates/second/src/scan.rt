@@ -21,7 +21,7 @@ pub const DASH: usize = 1099511627776;
 
 // What has been seen of a line: its number, how many fields are closed, the record name; and of the open field how many
 // bytes it has, its number, and whether it is "-". `bad` once the shape is wrong.
-#[derive(Drop)]
+#[derive(Clone, Copy)]
 pub struct Scan {
     pub line: usize,
     pub fields: usize,

@@ -1,6 +1,8 @@
 // D and share of document 01, for each channel. Each function answers on any configuration whatever: what is walked is bounded by the number
 // of levels, and not by the tables. A port's capacity is what is beneath it by the outstanding limits of the channel
 // (model::access::weight_under).
+#![tactic(auto)]
+
 ghost use Rattle.std.specs.Prelude.{◌≡◌, ◌+◌, ◌*◌, ◌^◌, ◌≤◌};
 ghost use Rattle.model.specs.Tree.{limit_of, above};
 ghost use Rattle.model.specs.Beneath.{weight_in};

@@ -1,6 +1,8 @@
 // simulate CHANNEL TREE TRACE [SLOTS]: runs the trace, of reads or of writes, on the tree and writes a line for each slot used, and a
 // last line that says whether the run is done or stopped. A refusal is one line on standard output and one line in words on standard
 // error.
+#![tactic(auto)]
+
 use answers::{Outcome, channel_number};
 use input::{Input, file_bytes, page_text};
 use libc::STDERR_FILENO;

@@ -1,5 +1,7 @@
 // What the program `simulate` does by its words and prints: the words read, the text of a run's outcome page by page, and what a
 // refusal is of.
+#![tactic(auto)]
+
 ghost use Rattle.std.specs.Prelude.{◌≡◌, ◌≤◌, length, take};
 ghost use Rattle.put.specs.Page.{Written};
 ghost use Rattle.usage.specs.Usage.{channel_asked};
@@ -15,7 +17,7 @@ use usage::{
 
 // What `simulate` does by its words: it runs so many slots of a channel, 65,537 for every number above 65,536, or says its usage or
 // its help.
-#[derive(Drop)]
+#[derive(Clone, Copy)]
 pub enum Asked {
     Usage,
     Help,
@@ -23,7 +25,7 @@ pub enum Asked {
 }
 
 // What a refusal is of: the tree, the word SLOTS or the trace; or nothing is refused.
-#[derive(Drop)]
+#[derive(Clone, Copy)]
 pub enum Part {
     Nothing,
     Tree,

@@ -1,5 +1,7 @@
 // split TREE ADDRESS BEATS SIZE: cuts a burst into pieces of the tree's burst length and writes a line for each, its start address and
 // its beats, and a last line with their count. A refusal is one line on standard output and one line in words on standard error.
+#![tactic(auto)]
+
 use burst::Burst;
 use input::{Input, file_bytes, page_text};
 use libc::STDERR_FILENO;

@@ -1,5 +1,7 @@
 // What the program `split` does by its words, answers for a tree file and a burst, and prints: the words read, the answer with what
 // a refusal is of, and its text.
+#![tactic(auto)]
+
 ghost use Rattle.std.specs.Prelude.{◌≡◌, min};
 ghost use Rattle.put.specs.Page.{Written};
 ghost use Rattle.put.specs.Put.{Put};
@@ -21,7 +23,7 @@ use usage::{NumberWord, address_asked, asks_help, help_asked, is_option, number_
 
 // What `split` does by its words: it cuts a burst, or says its usage or its help. 4,294,967,295 stands for every count of beats and
 // every size above it: no burst has either.
-#[derive(Drop)]
+#[derive(Clone, Copy)]
 pub enum Asked {
     Usage,
     Help,
@@ -29,7 +31,7 @@ pub enum Asked {
 }
 
 // What a refusal is of: the tree file, or one of the words ADDRESS, BEATS and SIZE.
-#[derive(Drop)]
+#[derive(Clone, Copy)]
 pub enum Part {
     Tree,
     Address,
@@ -38,7 +40,7 @@ pub enum Part {
 }
 
 // What is answered: a refusal, of what, by which number and at which line, 0 for none; or how many pieces there are.
-#[derive(Drop)]
+#[derive(Clone, Copy)]
 pub enum Reply {
     Refused(Part, u8, u32),
     Pieces(u32),

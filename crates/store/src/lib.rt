@@ -2,6 +2,8 @@
 // begin at fixed places: those of `second` lie below 3072, from 5120 and from 8192 on, the counts of `crosscheck`, `callcheck` and
 // `burstcheck` from 3072 on, those of `generator` from 4096 on. There are no structs for a tree, a state or their records. A place
 // past the end goes round.
+#![tactic(auto)]
+
 ghost use Rattle.std.specs.Prelude.{◌≡◌, ◌<◌, min};
 ghost use Rattle.store.specs.Store.{place_of, number_at, stored, added, cleared, noted};
 

@@ -1,9 +1,11 @@
 // Bytes read as parts, fields and decimal numbers. Nothing here knows of trees or traces.
+#![tactic(auto)]
+
 ghost use Rattle.std.specs.Prelude.{◌≡◌, ◌+◌, ◌≤◌, length, drop};
 ghost use Rattle.text.specs.Text.{part_length, field_length, same, digits_of, field_of};
 
 // What a field says: "-", a number, or neither.
-#[derive(Drop)]
+#[derive(Clone, Copy)]
 pub enum Field {
     Malformed,
     Dash,

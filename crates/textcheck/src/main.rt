@@ -1,6 +1,8 @@
 // A program that writes every text the programs print: help and usage, the report, the rewriting and refusals of tree files,
 // simulations of refused, done and stopped runs of both channels by the word SLOTS, waits, bursts in pieces, and refusals in words;
 // what the programs do by their words; and which files can be read. The file `stdout` holds them, written apart from the definitions.
+#![tactic(auto)]
+
 use answers::channel_number;
 use burst::Burst;
 use input::Input;

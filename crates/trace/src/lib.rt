@@ -1,5 +1,7 @@
 // The reader of a trace file. The requests stay in the file's bytes: a trace is read once as a whole, to accept or refuse
 // it, and then walked line by line from the bytes.
+#![tactic(auto)]
+
 ghost use Rattle.std.specs.Prelude.{◌≡◌, true, ◌+◌, ◌<◌, ◌≤◌, ltb, get_or};
 ghost use Rattle.lines.specs.Lines.{limits_kept};
 ghost use Rattle.trace.specs.OfferText.{number_at, offer_text, offer_of};
@@ -11,7 +13,7 @@ use rules::tree_keeps;
 use text::{Field, field_end, read_field, same_bytes};
 
 // An o line of a trace: so many transactions of an accelerator are requested at a slot.
-#[derive(Drop)]
+#[derive(Clone, Copy)]
 pub struct Request {
     pub slot: u32,
     pub accelerator: u8,
@@ -19,14 +21,14 @@ pub struct Request {
 }
 
 // A trace line's answer: the request, or why it is refused.
-#[derive(Drop)]
+#[derive(Clone, Copy)]
 pub enum OfferRead {
     NoOffer(Refusal),
     Offer(Request),
 }
 
 // What stands at a place of a trace: the end, or a request and the place after its line.
-#[derive(Drop)]
+#[derive(Clone, Copy)]
 pub enum NextRequest {
     Done,
     Due(Request, usize),
@@ -34,7 +36,7 @@ pub enum NextRequest {
 
 // What a field of a trace says, where it begins at a place of the file and a certain byte ends it: a number and the place after
 // that byte, or no number.
-#[derive(Drop)]
+#[derive(Clone, Copy)]
 pub enum NumberAt {
     NoNumber,
     NumberTo(u64, usize),
@@ -42,7 +44,7 @@ pub enum NumberAt {
 
 // What a line of a trace says, where it begins at a place of the file: slot, accelerator and count, and the place after its LF;
 // or it fails test 1 of a line.
-#[derive(Drop)]
+#[derive(Clone, Copy)]
 pub enum OfferText {
     Unshaped,
     Shaped(u64, u64, u64, usize),

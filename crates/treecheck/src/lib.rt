@@ -3,6 +3,8 @@
 //
 // Test code: it is proved that each function is safe and ends, and of the comparison which number of the store it compares with
 // which entry of the tree.
+#![tactic(auto)]
+
 ghost use Rattle.std.specs.Prelude.{◌≡◌, ◌&&◌};
 ghost use Rattle.folds.specs.Fold.{all};
 ghost use Rattle.model.specs.Tree.{interconnect_of, accelerator_of};

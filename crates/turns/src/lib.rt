@@ -1,4 +1,6 @@
 // The turn rule: which port an interconnect serves in a slot, and the choice from the root down to an accelerator.
+#![tactic(auto)]
+
 ghost use Rattle.std.specs.Prelude.{◌≡◌, min, ltb};
 ghost use Rattle.folds.specs.Fold.{pick};
 ghost use Rattle.turns.specs.Turns.{live_set, next_port, turn_port, turn_allowance, reached, who, with_turn, turned, after};
@@ -8,14 +10,14 @@ use model::{Port, State, Tree};
 use rules::less_one;
 
 // The turn at an interconnect in a slot: its port, and the allowance before this slot takes one off.
-#[derive(Drop)]
+#[derive(Clone, Copy)]
 pub struct Turn {
     pub port: u8,
     pub allowance: u8,
 }
 
 // What the downward choice comes to: the accelerator served (255 for none), and the state with the turns taken.
-#[derive(Drop)]
+#[derive(Clone, Copy)]
 pub struct Choice {
     pub served: u8,
     pub state: State,

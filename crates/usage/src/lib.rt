@@ -1,6 +1,8 @@
 // What the programs say of themselves, each text put into a page that the caller lends; what their words say: help, files, a
 // channel, a number, an address; and what a program of one file, `report` or `rewrite`, does by its words. `simulate` is in
 // `simulation`, `why` in `inquiry`, `split` in `splitting`.
+#![tactic(auto)]
+
 ghost use Rattle.std.specs.Prelude.{◌≡◌, min};
 ghost use Rattle.put.specs.Page.{Written};
 ghost use Rattle.usage.specs.Usage.{asks_help, help_asked, is_option, is_dash, two_files, channel_asked, number_asked, address_asked, file_asked, report_usage, report_help, rewrite_usage, rewrite_help, simulate_usage, simulate_help, why_usage, why_help, split_usage, split_help};
@@ -10,7 +12,7 @@ use put::put_bytes;
 use text::{Field, read_field, same_bytes};
 
 // What a program of one file does by its words.
-#[derive(Drop)]
+#[derive(Clone, Copy)]
 pub enum Asked {
     Usage,
     Help,
@@ -19,14 +21,14 @@ pub enum Asked {
 }
 
 // What a word says that should name a channel: none, or which.
-#[derive(Drop)]
+#[derive(Clone, Copy)]
 pub enum ChannelWord {
     NoChannel,
     Known(Channel),
 }
 
 // What a word says that should be a number: none, or which.
-#[derive(Drop)]
+#[derive(Clone, Copy)]
 pub enum NumberWord {
     NoNumber,
     Number(u32),

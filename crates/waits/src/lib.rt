@@ -1,4 +1,6 @@
 // Why a burst waited: the slots from a transaction's admission up to the one before its service, and who was served in each.
+#![tactic(auto)]
+
 ghost use Rattle.std.specs.Prelude.{◌≡◌, not, ◌≤◌, ◌-◌, eqb, length, take, drop};
 ghost use Rattle.folds.specs.Fold.{pick};
 ghost use Rattle.rules.specs.Rules.{tree_keeps};
@@ -16,7 +18,7 @@ use runner::{RunAnswer, RunWait, Wait, run_wait};
 // What `why` answers: refused, with a line of the trace, or 0 for a size; refused without a line, because the configuration breaks
 // its rules, because there is no such accelerator, or because the run serves fewer of it; or the number of slots that the
 // transaction waited and the slot of its admission.
-#[derive(Drop)]
+#[derive(Clone, Copy)]
 pub enum WhyAnswer {
     Refused(Refusal, u32),
     Broken,

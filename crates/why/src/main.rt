@@ -1,6 +1,8 @@
 // why CHANNEL TREE TRACE ACC NUMBER: runs the trace, of reads or of writes, on the tree and writes a line for each slot in which a
 // transaction waited, and a last line with their count. A refusal is one line on standard output and one line in words on standard
 // error.
+#![tactic(auto)]
+
 use input::{Input, file_bytes, page_text};
 use inquiry::{Asked, Part, Reply};
 use libc::STDERR_FILENO;

@@ -1,5 +1,7 @@
 // The text of a configuration, written into a lent buffer: the bus line, the int lines by number, and the acc lines by interconnect and
 // then by port. That is the order of the ports in the tree, so nothing is sorted.
+#![tactic(auto)]
+
 ghost use Rattle.std.specs.Prelude.{◌≡◌, map, length};
 ghost use Rattle.text.specs.Write.{fields_text, numbers, line_text, rows, file_text};
 ghost use Rattle.put.specs.Page.{ended};
@@ -14,7 +16,7 @@ use rules::tree_keeps;
 
 // What the writer answers: refused, because the configuration breaks its rules, because the buffer is over 65,536 bytes, or because it
 // is shorter than the text; or the number of bytes of the text.
-#[derive(Drop)]
+#[derive(Clone, Copy)]
 pub enum WriteAnswer {
     Broken,
     TooLong,
