@@ -33,9 +33,9 @@ OPERATORS = {"=", ":", "→", "↔", "≡", "≤", "<", "+", "-", "*", "/", "^",
 # a variant by its type.
 PRELUDE = "use Rattle.std.specs.Prelude.{"
 BY_HAND = {
-    ("guarantee/windows_rounded_down", 0): (PRELUDE, PRELUDE + "◌/◌, "),
-    ("waits/past_the_list_cleared", 0): (PRELUDE, PRELUDE + "replicate, "),
-    ("writer/text_before_13", 1): (PRELUDE, PRELUDE + "take, "),
+    ("guarantee/windows_rounded_down", 0): (PRELUDE + "ℕ", PRELUDE + "◌/◌, ℕ"),
+    ("waits/past_the_list_cleared", 0): (PRELUDE + "ℕ", PRELUDE + "replicate, ℕ"),
+    ("writer/text_before_13", 1): (PRELUDE + "ℕ", PRELUDE + "take, ℕ"),
     ("machine/slot_changes_channel", 0): (
         "    at_slot s (map (older (delay_of t)) s.returning) (pick (opens t s.slot) (replicate 32 0) s.admitted) (s.slot + 1)",
         "    record { waiting = s.waiting; returning = map (older (delay_of t)) s.returning; admitted = pick (opens t s.slot) (replicate 32 0) s.admitted; last = s.last; allowance = s.allowance; slot = s.slot + 1; channel = Rattle.model.specs.declared.Channel.TheVariants.Write }"),
