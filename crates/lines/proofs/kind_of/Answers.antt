@@ -1,4 +1,16 @@
 -- `kind_of` meets its contract: its tests are those of the definition, in the same order.
+use Prim.Native.Nat.{ℕ}
+use mathlib.Core.Path.{◌≡◌, sym, ◌∙◌}
+use mathlib.Core.Bool.{false}
+use mathlib.Core.List.{List}
+use borrow.Author.Rules.{rules}
+use Rattle.text.specs.Text.{same}
+use Rattle.lines.specs.declared.Kind.TheVariants.{BusLine, IntLine, AccLine, OfferLine}
+use Rattle.lines.specs.Lines.{name_of}
+use Rattle.lines.proofs.Fields.{kind_bus, kind_int, kind_acc, kind_offer, kind_bus3, kind_none}
+use Rattle.lines.proofs.kind_of.Goals as goal
+
+-- `kind_of` meets its contract: its tests are those of the definition, in the same order.
 pub returns-then-same_bytes : goal.returns-then-same_bytes
 returns-then-same_bytes c = sym (kind_bus _ (sym c.same_bytes.ensures ∙ c.if-same_bytes.true))
 

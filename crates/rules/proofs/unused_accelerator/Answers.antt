@@ -5,14 +5,10 @@ use lib.Dec.{eqb}
 use borrow.Author.Rules.{rules}
 use Rattle.model.specs.declared.Accelerator.{Accelerator}
 use Rattle.rules.specs.Rules.{unused_accelerator}
-use Rattle.rules.proofs.unused_accelerator.Statement.{statement}
-use Rattle.rules.proofs.unused_accelerator.Tie as tie
+use Rattle.rules.proofs.unused_accelerator.Goals as goal
 
-returns : tie.Need-returns
+pub returns : goal.returns
 unfolding unused_accelerator
 returns c =
     ap (λ (x : Accelerator). eqb x.interconnect 0 && eqb x.port 0 && eqb x.phi 0 && eqb x.budget 0 && eqb x.reads 0 && eqb x.writes 0 && eqb x.computing 0 && eqb x.period 0)
-    c.before.before.before.before.before.before.before.before.accelerator-at.ensures
-
-pub unused-accelerator-spec : {M : Type 1} → statement M
-unused-accelerator-spec = tie.close (tie.spec (λ c κs. search rules) returns)
+    c.accelerator_at-x.ensures
