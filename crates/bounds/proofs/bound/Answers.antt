@@ -3,8 +3,6 @@
 use mathlib.Core.Bool.{true}
 use mathlib.Core.Path.{◌≡◌, refl, ap, sym, ◌∙◌, subst₂}
 use Prim.Native.Nat.{ℕ, ◌<◌}
-use borrow.Author.Tests.{not-true, not-false}
-use borrow.Author.Rules.{rules}
 use Rattle.model.specs.declared.Tree.{Tree}
 use Rattle.model.specs.declared.Accelerator.{Accelerator}
 use Rattle.model.specs.declared.Channel.TheVariants.{Read, Write}
@@ -17,8 +15,7 @@ use Rattle.bounds.specs.Bounds.{analysis_from, analysis_of, analysed}
 use Rattle.bounds.specs.Limited.{Limited, Share}
 use Rattle.bounds.proofs.Fits.{limited, shared}
 use Rattle.bounds.proofs.Answers.{bound_broken, bound_unknown, bound_analysed}
-use Rattle.bounds.proofs.bound.Statement.{statement}
-use Rattle.bounds.proofs.bound.Tie as tie
+use Rattle.bounds.proofs.bound.Goals as goal
 
 -- what holds of the figures that the definition reads holds of those that the callees give
 module _ (t : Tree) (k : tree_keeps t ≡ true) (a : ℕ) (b : a < t.accs) (x : Accelerator) (l sr sw : ℕ) (Q : Accelerator → ℕ → ℕ → ℕ → Type 0) where
@@ -28,35 +25,30 @@ module _ (t : Tree) (k : tree_keeps t ≡ true) (a : ℕ) (b : a < t.accs) (x : 
       subst₂ (λ (i r : ℕ). Q x i r sw) (sym (f ∙ ap (λ (y : Accelerator). level_of t y.interconnect) e)) (sym (g ∙ share_within_lem t (sound t k) Read a b))
       (subst₂ (λ (y : Accelerator) (s : ℕ). Q y (level_of t (home_of t a)) (share_of t Read a) s) (sym e) (sym (h ∙ share_within_lem t (sound t k) Write a b)) q)
 
-returns : tie.Need-returns
-returns c =
-    sym (bound_broken _ _ (sym c.before.tree-keeps.ensures ∙ not-true _ c.if1.true))
+pub returns-then-not-tree_keeps : goal.returns-then-not-tree_keeps
+returns-then-not-tree_keeps c =
+    sym (bound_broken _ _ (sym c.tree_keeps.ensures ∙ c.if-not-tree_keeps.true))
 
-returns-2 : tie.Need-returns-2
-returns-2 c =
-    sym (bound_unknown _ _ (sym c.before.before.before.tree-keeps.ensures ∙ not-false _ c.before.before.if1.false) c.if2.true)
+pub returns-then-t-a : goal.returns-then-t-a
+returns-then-t-a c =
+    sym (bound_unknown _ _ (sym c.tree_keeps.ensures ∙ c.if-not-tree_keeps.false) c.if-t-a.true)
 
-figures-from-requires : tie.Need-figures-from-requires
-figures-from-requires c κs =
-    let a = c.before.before.before.before.before.before.before.before.args in
-    let k = sym c.before.before.before.before.before.before.before.tree-keeps.ensures ∙ not-false _ c.before.before.before.before.before.before.if1.false in
-    let b = c.before.before.before.before.if2.false in
-    read a.t k a.a b _ _ _ _ (λ x l r w. Limited a.t.bus x l × Share r × Share w) c.before.before.before.accelerator-at.ensures
-    c.before.before.level-of.ensures c.before.share-of.ensures c.share-of2.ensures
+pub figures_from-requires : goal.figures_from-requires
+figures_from-requires c =
+    let a = c.args in
+    let k = sym c.tree_keeps.ensures ∙ c.if-not-tree_keeps.false in
+    let b = c.if-t-a.false in
+    read a.t k a.a b _ _ _ _ (λ x l r w. Limited a.t.bus x l × Share r × Share w) c.accelerator_at-x.ensures
+    c.level_of-level.ensures c.share_of-reads.ensures c.share_of-writes.ensures
     (limited a.t k a.a b, shared a.t k a.a b Read, shared a.t k a.a b Write)
 
-returns-3 : tie.Need-returns-3
-returns-3 c =
-    let a = c.before.before.before.before.before.before.before.before.before.args in
-    let k = sym c.before.before.before.before.before.before.before.before.tree-keeps.ensures ∙ not-false _ c.before.before.before.before.before.before.before.if1.false in
-    let b = c.before.before.before.before.before.if2.false in
-    c.figures-from.ensures
+pub returns : goal.returns
+returns c =
+    let a = c.args in
+    let k = sym c.tree_keeps.ensures ∙ c.if-not-tree_keeps.false in
+    let b = c.if-t-a.false in
+    c.figures_from.ensures
     ∙ read a.t k a.a b _ _ _ _ (λ x l r w. analysed (analysis_from a.t.bus x l r w) ≡ analysed (analysis_of a.t a.a))
-    c.before.before.before.before.accelerator-at.ensures c.before.before.before.level-of.ensures c.before.before.share-of.ensures
-    c.before.share-of2.ensures refl
+    c.accelerator_at-x.ensures c.level_of-level.ensures c.share_of-reads.ensures
+    c.share_of-writes.ensures refl
     ∙ sym (bound_analysed a.t a.a k b)
-
-pub bound-spec : {M : Type 1} → statement M
-bound-spec =
-    tie.close (tie.spec (λ c κs. search rules) returns returns-2 (λ c κs. search rules) (λ c κs. search rules) (λ c κs. search rules)
-    (λ c κs. search rules) figures-from-requires returns-3)
