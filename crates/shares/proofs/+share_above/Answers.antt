@@ -17,10 +17,9 @@ returns-then-j-eq0 t c = (product_root _ _ _ _ c.if-j-eq0.true, product_some _)
 
 pub overflow_mul-result : goal.overflow_mul-result
 overflow_mul-result t c =
-    let entry = c in
     let h = c.if-n-eq0.false in
-    let most = product_most entry.args.n _ _ h c.factor_at.ensures.1 c.share_above.ensures.1 in
-    record { fits = omega (arith, most, product_room entry.args.n entry.requires) }
+    let most = product_most c.args.n _ _ h c.factor_at.ensures.1 c.share_above.ensures.1 in
+    record { fits = omega (arith, most, product_room c.args.n c.requires) }
 
 pub returns : goal.returns
 returns t c =
