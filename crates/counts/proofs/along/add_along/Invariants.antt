@@ -11,7 +11,7 @@ use Rattle.counts.proofs.Steps.{up_none, up_out, up_root, up_next, Raises, raise
 use Rattle.counts.proofs.along.add_along.Given as goal
 
 abbrev pub invariant-loop-left : goal.invariant-loop-left
-invariant-loop-left l =     Raises (up l.left (parent_ports l.table) l.c) l.under l.turns (raised (up 4 (parent_ports l.table) l.place) l.initial.under)
+invariant-loop-left l = Raises (up l.left (parent_ports l.table) l.c) l.under l.turns (raised (up 4 (parent_ports l.table) l.place) l.initial.under)
     (opened (up 4 (parent_ports l.table) l.place) (lives l.initial.turns)) (take 30 l.initial.turns)
 
 abbrev pub decreases-loop-left : goal.decreases-loop-left
