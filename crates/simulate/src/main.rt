@@ -24,13 +24,7 @@ fn say_help(out: &impl Print, errors: &impl Print) {
 }
 
 // Writes one page of the outcome's text; answers whether all of it was written.
-fn show_page(
-    out: &impl Print,
-    errors: &impl Print,
-    o: Outcome,
-    served: &[u8],
-    page: u32,
-) -> bool {
+fn show_page(out: &impl Print, errors: &impl Print, o: Outcome, served: &[u8], page: u32) -> bool {
     let mut text = [0u8; 65536];
     let n = simulation::page_text(o, served, page, &mut text);
     input::write_out(out, errors, page_text(&text, n))
@@ -168,6 +162,8 @@ fn main(rt: HostRuntime) {
     match asked {
         Asked::Usage => say_usage(errors),
         Asked::Help => say_help(&rt, errors),
-        Asked::Run(channel, slots) => run_files(&rt, stdin, errors, channel, slots, tree_name, trace_name),
+        Asked::Run(channel, slots) => run_files(
+            &rt, stdin, errors, channel, slots, tree_name, trace_name,
+        ),
     }
 }

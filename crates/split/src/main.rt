@@ -22,14 +22,7 @@ fn say_help(out: &impl Print, errors: &impl Print) {
 }
 
 // What was refused, by this number at this line.
-fn explain_part(
-    errors: &impl Print,
-    part: Part,
-    number: u8,
-    line: u32,
-    name: &[u8],
-    tree: &[u8],
-) {
+fn explain_part(errors: &impl Print, part: Part, number: u8, line: u32, name: &[u8], tree: &[u8]) {
     match part {
         Part::Tree => explain(errors, name, false, tree, number, line),
         Part::Address => explain(errors, b"ADDRESS", false, tree, number, line),

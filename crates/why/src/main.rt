@@ -154,6 +154,8 @@ fn main(rt: HostRuntime) {
     match asked {
         Asked::Usage => say_usage(errors),
         Asked::Help => say_help(&rt, errors),
-        Asked::Wait(channel, a, k) => ask_files(&rt, stdin, errors, channel, a, k, tree_name, trace_name),
+        Asked::Wait(channel, a, k) => ask_files(
+            &rt, stdin, errors, channel, a, k, tree_name, trace_name,
+        ),
     }
 }
