@@ -2,10 +2,11 @@
 use Prim.Native.Nat.{ℕ, zero, suc}
 use mathlib.Core.Path.{◌≡◌, refl}
 use mathlib.Core.Bool.{true}
-use mathlib.Core.List.{List, [], ◌∷◌, map}
+use mathlib.Core.List.{List, [], ◌∷◌}
 use mir.Val.{Val}
 use denote.Array.{each}
 use denote.Shadow.{shadow}
+use borrow.Author.Rules.{rules}
 use lib.ListN.{get_or, length}
 use borrow.Author.Tests.{eq-eqb}
 use Rattle.folds.proofs.Folds.{joined, at_all}
@@ -13,17 +14,15 @@ use Rattle.model.specs.declared.Tree.{Tree}
 use Rattle.model.specs.declared.State.{State}
 use Rattle.model.specs.declared.Interconnect.{Interconnect}
 use Rattle.model.specs.Tree.{interconnect_of, no_interconnect}
-use Rattle.model.specs.contracts.Interconnect.{the_field}
-use Rattle.model.specs.contracts.PortCell as PortCell
-use Rattle.model.proofs.Lists.{long}
+use Rattle.model.specs.contracts.Interconnect.{the_row}
 use Rattle.rules.specs.Rules.{sized_tree, sized}
 
 -- an interconnect that a program holds in an array has eight ports
-pub eight_cells : (l : List Interconnect) (us : List Val) → shadow (each _ the_field.row.own_val (map the_field.into l) us)
+pub eight_cells : (l : List Interconnect) (us : List Val) → shadow (each the_row.Denot the_row.own_val l us)
     → (j : ℕ) → length (get_or l j no_interconnect).ports ≡ 8
 eight_cells [] us p j = refl
 eight_cells (x ∷ l) [] p j = absurd p
-eight_cells (x ∷ l) (u ∷ us) p zero = long (PortCell.the_field).into x.ports 8 p.0.1.1.1.1.1.0.1.0.1
+eight_cells (x ∷ l) (u ∷ us) p zero = search rules
 eight_cells (x ∷ l) (u ∷ us) p (suc j) = eight_cells l us p.1 j
 
 -- every configuration that a program holds has arrays of their lengths

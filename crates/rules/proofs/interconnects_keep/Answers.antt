@@ -1,0 +1,16 @@
+-- `interconnects_keep` meets its contract: the loop has tested each number below the next one.
+use mathlib.Core.Path.{◌≡◌, sym}
+use Prim.Native.Nat.{◌≤◌, ◌-◌}
+use native.Mathlib.Omega.{arith}
+use borrow.Author.Rules.{rules}
+use Rattle.folds.specs.Fold.{all}
+use Rattle.rules.specs.Rules.{interconnect_keeps}
+use Rattle.model.proofs.Sums.{all_none, all_turn, all_end}
+use Rattle.rules.proofs.interconnects_keep.Goals as goal
+
+pub loop-j-init : goal.loop-j-init
+loop-j-init c = (search rules, sym (all_none _))
+
+pub loop-j-preserved : goal.loop-j-preserved
+loop-j-preserved c =
+    (omega arith, all_turn _ (interconnect_keeps c.args.t) _ _ c.loop-j.invariant.1 c.interconnect_keeps-ok.ensures)

@@ -1,0 +1,10 @@
+-- `clear` meets its contract: the loop has set each number before the next one.
+use Rattle.std.proofs.Common.{◌≡◌, ℕ, ◌+◌, ◌-◌, ◌≤◌, List, sym, refl, ap, ◌∙◌, add-one, arith, rules}
+use Rattle.store.specs.Store.{cleared, stored}
+use Rattle.store.proofs.clear.Given as goal
+
+abbrev pub invariant-loop-i : goal.invariant-loop-i
+invariant-loop-i l = (l.i ≤ l.n) × (l.d ≡ cleared l.initial.d l.part l.i)
+
+abbrev pub decreases-loop-i : goal.decreases-loop-i
+decreases-loop-i l = l.n - l.i
