@@ -1,5 +1,5 @@
 #!/usr/bin/env bash
-# Tests the C header against the archive that `rt staticlib razhikum` writes: bash include/test.sh [ARCHIVE]
+# Tests the C header against the archive that `bash tools/archive` writes: bash include/test.sh [ARCHIVE]
 # Compiles the header as C11 and as C++11 with every warning an error, checks layout, version and answered values (test.c), that
 # the archive can be called from several threads (no writable data, nothing called but memcpy and memset), that it has little read-only
 # data, the stack of each call (stack.c), and what the example prints. Compilers: CC and CXX, else cc and c++.
@@ -7,7 +7,7 @@ set -euo pipefail
 cd "$(dirname "$0")/.."
 archive=${1:-target/staticlib/librazhikum.a}
 if [ ! -f "$archive" ]; then
-    echo "include/test.sh: $archive is missing: run rt staticlib razhikum first" >&2
+    echo "include/test.sh: $archive is missing: run bash tools/archive first" >&2
     exit 1
 fi
 work=$(mktemp -d)

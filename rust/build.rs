@@ -1,4 +1,4 @@
-//! Links the proved static library, which `rt staticlib razhikum` writes: `target/staticlib` of this repository, or the folder
+//! Links the proved static library, which `bash tools/archive` writes: `target/staticlib` of this repository, or the folder
 //! that RAZHIKUM_LIB_DIR names by a full path.
 use std::path::{Path, PathBuf};
 
@@ -10,7 +10,7 @@ fn main() {
     println!("cargo::rerun-if-changed={}", archive.display());
     if !archive.exists() {
         println!(
-            "cargo::error={} is missing: run `rt staticlib razhikum` in the repository, or name its folder in RAZHIKUM_LIB_DIR",
+            "cargo::error={} is missing: run `bash tools/archive` in the repository, or name its folder in RAZHIKUM_LIB_DIR",
             archive.display()
         );
         return;

@@ -258,7 +258,7 @@ fn program_row(program: &str, arguments: &[&str], input: Option<&str>) {
     let root = Path::new(env!("CARGO_MANIFEST_DIR")).join("..");
     let path = root.join("target/bin").join(program);
     if !path.exists() {
-        println!("{program}: not there; `rt check {program}` builds it");
+        println!("{program}: not there; `bash tools/build {program}` builds it");
         return;
     }
     let samples = (0..SAMPLES).map(|_| {

@@ -1,6 +1,6 @@
 //! The Razhikum planner for Rust: whether the blocks of a tree of interconnects meet their periods, which block is served in
 //! which slot of a channel, and why a burst waited; a tree written back; and long bursts cut to the tree's nominal length, with the
-//! joiner of the pieces' answers. The work is done by the proved static library `librazhikum.a`, which `rt staticlib razhikum` writes
+//! joiner of the pieces' answers. The work is done by the proved static library `librazhikum.a`, which `bash tools/archive` writes
 //! for x86-64; this package wraps it: slices in, enums and structs out.
 //!
 //! No function of the library has a condition on the values that it is given, so every call is safe and answers every input,

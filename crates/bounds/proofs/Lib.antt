@@ -1,5 +1,4 @@
 pub mod Recursion
 pub mod Fits
 pub mod Widest
-pub mod Terms
 pub mod Answers

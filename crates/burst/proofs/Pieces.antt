@@ -8,7 +8,7 @@ use native.Mathlib.Nat.{div-mul-le_self, div-add-mod', mod-lt, mul-div_cancel, m
 use native.Mathlib.Omega.{arith}
 use lib.Dec.{eqb}
 use borrow.Author.Tests.{eqb-true, eq-eqb, ne_eqb, not-false}
-use Rattle.folds.specs.Fold.{pick, sum, ceiling}
+use Rattle.folds.specs.Fold.{sum}
 use Rattle.folds.proofs.Folds.{picked, passed}
 use Rattle.burst.specs.declared.Burst.{Burst}
 use Rattle.burst.specs.Burst.{low_of, last_byte, page_of, crosses_page, pieces_of, beats_of, start_of, piece_of}

@@ -37,7 +37,6 @@ use callcheck::states::BUDGET_PASSED;
 use callcheck::states::BUDGET_USED;
 use callcheck::states::ONE_RETURNS;
 use callcheck::states::ONE_WAITS;
-use libc::STDOUT_FILENO;
 use second::ADMITTED_LATE;
 use second::AFTER_LAST;
 use second::AS_READ;
@@ -656,14 +655,14 @@ const PLACES: [usize; 209] = [
 ];
 
 // Writes the label that begins at `from`, and the number n; where the next label begins.
-fn show_line(labels: &[u8], from: usize, n: usize) -> usize {
+fn show_line(out: &impl Print, labels: &[u8], from: usize, n: usize) -> usize {
     let mut to = from;
     while to < labels.len() {
         if labels[to] == 10 {
-            io::write_all(STDOUT_FILENO, &labels[from..to]);
-            io::write_all(STDOUT_FILENO, b"\t");
-            io::print_decimal(STDOUT_FILENO, n as u64);
-            io::write_all(STDOUT_FILENO, b"\n");
+            let _ = out.write_all(&labels[from..to]);
+            let _ = out.write_all(b"\t");
+            let _ = out.print(n);
+            let _ = out.write_all(b"\n");
             return to + 1;
         }
         to += 1;
@@ -672,10 +671,10 @@ fn show_line(labels: &[u8], from: usize, n: usize) -> usize {
 }
 
 // Writes every count.
-pub fn show(d: &[usize; 16384]) {
+pub fn show(out: &impl Print, d: &[usize; 16384]) {
     let labels = LABELS;
     let mut from = 0;
     for i in 0..209 {
-        from = show_line(&labels, from, get(d, PLACES[i], 0));
+        from = show_line(out, &labels, from, get(d, PLACES[i], 0));
     }
 }

@@ -77,10 +77,27 @@ pub fn put_text(w: &mut [u8; 16384], d: &mut [usize; 16384], s: &[u8]) {
     }
 }
 
+// Puts the decimal digits of n at the end of the text and answers where the first stands.
+fn put_digits(text: &mut [u8; 20], n: usize) -> usize {
+    let mut at = 20;
+    let mut rest = n;
+    while at > 0 {
+        at -= 1;
+        text[at] = b'0' + (rest % 10) as u8;
+        rest /= 10;
+        if rest == 0 {
+            return at;
+        }
+    }
+    0
+}
+
 pub fn put_number(w: &mut [u8; 16384], d: &mut [usize; 16384], n: usize) {
     let mut text = [0u8; 20];
-    let digits = io::decimal(n as u64, &mut text);
-    put_text(w, d, &text[..digits]);
+    let first = put_digits(&mut text, n);
+    if first < 20 {
+        put_text(w, d, &text[first..]);
+    }
 }
 
 // A tab and x.

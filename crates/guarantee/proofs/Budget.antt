@@ -16,8 +16,8 @@ use Rattle.folds.specs.Fold.{pick}
 use Rattle.model.specs.Tree.{window_of, budget_of, admitted_of}
 use Rattle.folds.proofs.Folds.{picked, passed}
 use Rattle.rules.proofs.Sound.{sound_of, kept_of}
-use Rattle.machine.specs.Machine.{Answer, admitted}
-use Rattle.machine.specs.Calls.{Call, slot}
+use Rattle.machine.specs.Machine.{Answer}
+use Rattle.machine.specs.Calls.{Call}
 use Rattle.machine.proofs.Laws.{Ticked}
 use Rattle.guarantee.specs.Guarantee.{Event, slot_counts, admits_one, admissions_from}
 use Rattle.guarantee.proofs.Leads.{Does, admits, declines, serves, idles, halts, Leads, stay, go}

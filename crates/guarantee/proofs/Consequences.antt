@@ -1,6 +1,6 @@
 -- Each consequence is read off one field of demand 3, by the laws of queues and of lists of events alone; that a transaction
 -- waits until its one service is such a law.
-use Prim.Native.Nat.{ℕ, suc, ◌+◌, ◌-◌, ◌*◌, ◌≤◌, ◌<◌}
+use Prim.Native.Nat.{ℕ, suc, ◌-◌, ◌*◌, ◌<◌}
 use mathlib.Core.List.{List, [], ◌∷◌, ◌++◌, append_assoc}
 use mathlib.Core.Path.{◌≡◌, refl, sym, ◌∙◌, ap, subst}
 use native.Mathlib.Nat.{mul-zero}
@@ -12,11 +12,11 @@ use Rattle.folds.specs.Fold.{pick}
 use Rattle.folds.proofs.Folds.{picked}
 use Rattle.model.specs.declared.Tree.{Tree}
 use Rattle.model.specs.declared.State.{State}
-use Rattle.model.specs.Tree.{window_of, budget_of, waiting_of, admitted_of}
-use Rattle.machine.specs.Machine.{Answer, admitted, served, idle}
+use Rattle.model.specs.Tree.{window_of, waiting_of}
+use Rattle.machine.specs.Machine.{admitted, served, idle}
 use Rattle.machine.specs.Calls.{Call, offer, slot, step, state_after}
 use Rattle.shares.specs.Shares.{share_of}
-use Rattle.guarantee.specs.Guarantee.{Event, event, events_of, Ticket, admitted_by, without_first, queue_from, starting_queue, queue_after, slots_in, admissions_from, admissions_in, up_to, Holds, StillWaits, Guarantee}
+use Rattle.guarantee.specs.Guarantee.{Event, event, events_of, Ticket, without_first, queue_from, starting_queue, queue_after, admissions_from, admissions_in, up_to, Holds, Guarantee}
 use Rattle.guarantee.specs.Consequences.{WaitsUntilServed, Consequences}
 use Rattle.guarantee.proofs.Queue.{queue_append, absent_nil}
 use Rattle.guarantee.proofs.Events.{events_append, admitted_append}

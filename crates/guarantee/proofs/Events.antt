@@ -3,13 +3,10 @@ use Prim.Native.Nat.{ℕ, ◌+◌}
 use mathlib.Core.List.{List, [], ◌∷◌, ◌++◌}
 use mathlib.Core.Path.{◌≡◌, refl, ap}
 use native.Mathlib.Omega.{arith}
-use lib.Dec.{eqb}
-use Rattle.folds.specs.Fold.{pick}
 use Rattle.model.specs.declared.Tree.{Tree}
 use Rattle.model.specs.declared.State.{State}
-use Rattle.model.specs.Tree.{window_of}
 use Rattle.machine.specs.Calls.{Call, step, state_after}
-use Rattle.guarantee.specs.Guarantee.{Event, event, events_of, slot_counts, slots_in, admits_one, admissions_from}
+use Rattle.guarantee.specs.Guarantee.{Event, event, events_of, slot_counts, slots_in, admissions_from}
 
 pub state_append : (t : Tree) (s : State) (cs ds : List Call) → state_after t s (cs ++ ds) ≡ state_after t (state_after t s cs) ds
 unfolding state_after

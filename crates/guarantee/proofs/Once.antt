@@ -3,7 +3,7 @@
 --
 -- Once x q              ticket x is in the queue q at most once
 -- Order xs x zs z       of two places in one list, before x after xs and before z after zs: the same, or one after the other
-use Prim.Native.Nat.{ℕ, suc, ◌+◌, ◌≤◌, ◌<◌}
+use Prim.Native.Nat.{ℕ, suc, ◌+◌, ◌<◌}
 use mathlib.Core.List.{List, [], ◌∷◌, ◌++◌, append_assoc}
 use mathlib.Core.Logic.{◌⊎◌, inl, inr}
 use mathlib.Core.Path.{◌≡◌, refl, sym, ◌∙◌, ap, ap₂, subst}
@@ -12,7 +12,6 @@ use native.Mathlib.Omega.{arith}
 use lib.ListN.{length, length-append}
 use lib.Dec.{eqb}
 use borrow.Author.Tests.{eq-eqb}
-use Rattle.folds.specs.Fold.{pick}
 use Rattle.folds.proofs.Folds.{picked, clash}
 use Rattle.model.specs.declared.State.{State}
 use Rattle.model.specs.Tree.{waiting_of}
@@ -26,9 +25,13 @@ data Once (x : Ticket) : List Ticket → Type 0 where
   this : {q : List Ticket} → Absent x q → Once x (x ∷ q)
   other : {y : Ticket} {q : List Ticket} → (y ≡ x → ⊥) → Once x q → Once x (y ∷ q)
 
+absent_behind : {x : Ticket} {r : List Ticket} (q : List Ticket) → Once x r → r ≡ x ∷ q → Absent x q
+absent_behind q none e = clash cc
+absent_behind {x} q (this {q = p} f) e = let s : p ≡ q = cc e in subst (Absent x) s f
+absent_behind {x} q (other {y = y} d o) e = let s : y ≡ x = cc e in absurd (d s)
+
 absent_after : {x : Ticket} {q : List Ticket} → Once x (x ∷ q) → Absent x q
-absent_after (this f) = f
-absent_after (other d o) = absurd (d refl)
+absent_after {q = q} o = absent_behind q o refl
 
 absent_once : (x : Ticket) (q : List Ticket) → Absent x q → Once x q
 absent_once x [] f = none

@@ -1,36 +1,7 @@
--- The bytes of a file that was read are within the buffer; what a read answers, by its number.
-use Prim.Native.Nat.{ℕ, ◌≤◌, min}
-use native.Mathlib.Omega.{arith}
-use mathlib.Core.Bool.{true, false}
-use mathlib.Core.Path.{◌≡◌, refl, ap, sym, subst, ◌∙◌}
-use lib.IntN.{ℤ, pos, negsuc}
-use lib.Signed.{lt_z}
-use borrow.Author.Tests.{ltb-true}
-use Rattle.io.specs.Counts.{clamp_len}
+-- What a read or a write answered, by its number, is within the buffer.
+use Rattle.std.proofs.Common.{◌≡◌, ◌≤◌, ℕ, ℤ, pos, negsuc, arith, subst, sym, ap}
 use Rattle.input.specs.declared.Input.{Input}
-use Rattle.input.specs.declared.Input.TheVariants.{Bytes, Failed}
 use Rattle.input.specs.Input.{size_of, answer_of}
-
-pub read_within : {x : Input} {n k : ℕ} → x ≡ Bytes n → size_of x ≤ k → n ≤ k
-read_within {x} {n} {k} e h = subst (λ (m : ℕ). m ≤ k) (ap size_of e) h
-
-failed : (z : ℤ) (n : ℕ) → lt_z z (pos 0) ≡ true → Failed ≡ answer_of z n
-unfolding answer_of
-failed (pos k) n e = absurd (omega (arith, ltb-true k 0 e))
-failed (negsuc k) n e = refl
-
-given : (z : ℤ) (n : ℕ) {m : ℕ} → lt_z z (pos 0) ≡ false → m ≡ clamp_len z n → Bytes m ≡ answer_of z n
-unfolding answer_of
-given (pos k) n e f = ap Bytes f
-given (negsuc k) n e f = let x : ◌≡◌ {A = ℕ} 0 1 = cc in absurd (omega arith)
-
--- the code tests the number y that the machine holds, which is z
-module _ {y z : ℤ} (n : ℕ) (i : y ≡ z) where
-  pub answer_failed : lt_z y (pos 0) ≡ true → Failed ≡ answer_of z n
-  answer_failed e = failed y n e ∙ ap (λ (x : ℤ). answer_of x n) i
-
-  pub answer_bytes : {m : ℕ} → lt_z y (pos 0) ≡ false → m ≡ clamp_len y n → Bytes m ≡ answer_of z n
-  answer_bytes e f = given y n e f ∙ ap (λ (x : ℤ). answer_of x n) i
 
 pub answer_within : {x : Input} (z : ℤ) (n : ℕ) → x ≡ answer_of z n → size_of x ≤ n
 unfolding answer_of

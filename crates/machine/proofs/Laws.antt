@@ -113,7 +113,7 @@ known t S a = elim (dec_lt a t.accs) [
   | yes l ↦ lt-leb t.accs a l ∙ sym (lt-leb (phi_of t a) 0 (S.phi a l).0)
   | no d ↦
       let e : t.accs ≤ a = omega arith in
-      le-leb t.accs a e ∙ sym (le-leb (phi_of t a) 0 (omega (arith, S.no_phi_lem a e)))
+      le-leb t.accs a e ∙ sym (le-leb (phi_of t a) 0 (omega (arith, S.no_phi a e)))
 ]
 
 -- by its tests

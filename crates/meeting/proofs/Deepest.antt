@@ -26,6 +26,7 @@ crosses_true i (x ∷ xs) e = elim (ℕ_discrete i x.interconnect) [
 
 pub on_crosses : (i p : ℕ) (xs : List Crossing) → On i p xs → crosses i xs ≡ true
 unfolding crosses
+on_crosses i p [] o = elim o [ ]
 on_crosses i p (x ∷ xs) (here e f) = ap (λ c. c || crosses i xs) (eq-eqb i x.interconnect (sym e))
 on_crosses i p (x ∷ xs) (there o) = ap (λ c. eqb i x.interconnect || c) (on_crosses i p xs o) ∙ or-true (eqb i x.interconnect)
 

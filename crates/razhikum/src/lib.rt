@@ -1,6 +1,6 @@
-// The planner for programs in C and Rust: what the static library exports, on numbers and byte slices. No function has a
-// `requires`: each answers every input, by a struct of numbers (`answers`). The header include/razhikum.h says the same to a C
-// compiler, and the package in rust/ to Rust.
+// The planner for programs in C and Rust: what the static library `razhikum_c` exports, by the same names and clauses, on numbers and
+// byte slices. No function has a `requires`: each answers every input, by a struct of numbers (`answers`). The header include/razhikum.h
+// says the same to a C compiler, and the package in rust/ to Rust.
 #![tactic(auto)]
 
 ghost use Rattle.std.specs.Prelude.{◌≡◌, length};
@@ -49,16 +49,14 @@ fn page_of(x: Printed) -> Page
 }
 
 // The version of these functions and structs, as the header's RAZHIKUM_VERSION says it.
-#[unsafe(no_mangle)]
-pub extern "C" fn razhikum_version() -> u32
+pub fn razhikum_version() -> u32
     ensures { result ≡ version }
 {
     30000
 }
 
 // Whether the tree file is accepted, or why and at which line it is refused.
-#[unsafe(no_mangle)]
-pub extern "C" fn razhikum_read_tree(tree: &[u8]) -> Reading
+pub fn razhikum_read_tree(tree: &[u8]) -> Reading
     ensures { result ≡ tree_reading (read_tree tree.now) }
 {
     let x = read_tree(tree);
@@ -67,8 +65,7 @@ pub extern "C" fn razhikum_read_tree(tree: &[u8]) -> Reading
 }
 
 // Whether the tree file and, on its tree, the trace file are accepted, or which of them is refused, why and where.
-#[unsafe(no_mangle)]
-pub extern "C" fn razhikum_read_trace(tree: &[u8], trace: &[u8]) -> Reading
+pub fn razhikum_read_trace(tree: &[u8], trace: &[u8]) -> Reading
     ensures { result ≡ trace_reading (read_tree tree.now) trace.now }
 {
     let x = read_tree(tree);
@@ -80,8 +77,7 @@ pub extern "C" fn razhikum_read_trace(tree: &[u8], trace: &[u8]) -> Reading
 }
 
 // How many accelerators the tree file has: they are numbered from 0 on.
-#[unsafe(no_mangle)]
-pub extern "C" fn razhikum_count(tree: &[u8]) -> Count
+pub fn razhikum_count(tree: &[u8]) -> Count
     ensures { result ≡ count_from (read_tree tree.now) }
 {
     let x = read_tree(tree);
@@ -90,8 +86,7 @@ pub extern "C" fn razhikum_count(tree: &[u8]) -> Count
 }
 
 // The report of a tree file, put at the beginning of `out`; a refusal is answered by number and line, and leaves `out` as it was.
-#[unsafe(no_mangle)]
-pub extern "C" fn razhikum_report(tree: &[u8], out: &mut [u8; 65536]) -> Page
+pub fn razhikum_report(tree: &[u8], out: &mut [u8; 65536]) -> Page
     ensures { Printing (read_tree tree.now) out.old out.new result.bytes result.number result.line }
 {
     page_of(plan::report(tree, out))
@@ -99,8 +94,7 @@ pub extern "C" fn razhikum_report(tree: &[u8], out: &mut [u8; 65536]) -> Page
 
 // The tree file written back: the text of its tree, put at the beginning of `out`; a refusal is answered by number and line, and leaves
 // `out` as it was.
-#[unsafe(no_mangle)]
-pub extern "C" fn razhikum_rewrite(tree: &[u8], out: &mut [u8]) -> Page
+pub fn razhikum_rewrite(tree: &[u8], out: &mut [u8]) -> Page
     ensures answer { result ≡ page_of (rewrite_of (read_tree tree.now) (length out.old)) }
     ensures bytes { out.new ≡ rewrite_buffer (read_tree tree.now) out.old }
 {
@@ -122,8 +116,7 @@ fn run_on(tree: &[u8], channel: Channel, trace: &[u8], out: &mut [u8]) -> Outcom
 
 // Runs the trace on a channel of the tree, 0 for reads and 1 for writes, and writes one byte a slot into `out`: the accelerator's
 // number, or 255 for idle. Any other number of a channel is refused by 2, before the files are read.
-#[unsafe(no_mangle)]
-pub extern "C" fn razhikum_run(tree: &[u8], channel: u8, trace: &[u8], out: &mut [u8]) -> Outcome
+pub fn razhikum_run(tree: &[u8], channel: u8, trace: &[u8], out: &mut [u8]) -> Outcome
     ensures answer { result ≡ outcome_on channel (read_tree tree.now) trace.now out.old }
     ensures bytes { out.new ≡ buffer_on channel (read_tree tree.now) trace.now out.old }
 {
@@ -156,8 +149,7 @@ fn why_on(
 // Lists the slots in which a transaction of the accelerator waited on a channel, oldest first, two bytes a slot into `out`: the
 // accelerator that was served, then the deepest interconnect that both paths cross, or 255 where it is the same accelerator. Its served
 // transactions are numbered from 1. The channel is a number, as for a run.
-#[unsafe(no_mangle)]
-pub extern "C" fn razhikum_why(
+pub fn razhikum_why(
     tree: &[u8],
     channel: u8,
     trace: &[u8],
@@ -175,8 +167,7 @@ pub extern "C" fn razhikum_why(
 }
 
 // The bounds of an accelerator of the tree file.
-#[unsafe(no_mangle)]
-pub extern "C" fn razhikum_bound(tree: &[u8], accelerator: u8) -> Row
+pub fn razhikum_bound(tree: &[u8], accelerator: u8) -> Row
     ensures { result ≡ row_from (read_tree tree.now) accelerator }
 {
     let x = read_tree(tree);
@@ -189,8 +180,7 @@ pub extern "C" fn razhikum_bound(tree: &[u8], accelerator: u8) -> Row
 
 // Cuts a burst into pieces of the tree's burst length: of each piece the start address and the beats, and 0 in the entries after them. A
 // refusal leaves both arrays as they were.
-#[unsafe(no_mangle)]
-pub extern "C" fn razhikum_split(
+pub fn razhikum_split(
     tree: &[u8],
     start: u32,
     beats: u32,
@@ -211,8 +201,7 @@ pub extern "C" fn razhikum_split(
 }
 
 // Hands the answer of the piece of this number, from 1 on, to the joiner of a burst of so many pieces, of which so many are answered.
-#[unsafe(no_mangle)]
-pub extern "C" fn razhikum_join(pieces: u32, answered: u32, number: u32) -> Joined
+pub fn razhikum_join(pieces: u32, answered: u32, number: u32) -> Joined
     ensures { result ≡ joined_of (join_of (record { pieces = pieces; answered = answered }) number) }
 {
     let joiner = Joiner {

@@ -5,66 +5,66 @@
 // bytes the file has. A trace is read on the first tree of document 01's report. Files near the size limit are made here.
 #![tactic(auto)]
 
-ghost use Rattle.std.specs.Prelude.{◌≡◌, length};
+ghost use Rattle.std.specs.Prelude.{◌≡◌, ◌≤◌, length};
 
-use libc::{STDIN_FILENO, STDOUT_FILENO};
 use lines::FileAnswer;
 use model::{Bus, Tree};
 use reader::read_tree;
+use std::io::Read;
 use text::{Field, part_end, read_field};
 use trace::{NextRequest, read_trace, request_at};
 
-fn words(s: &[u8]) {
-    io::write_all(STDOUT_FILENO, s);
+fn words(out: &impl Print, s: &[u8]) {
+    let _ = out.write_all(s);
 }
 
-fn figure(n: u64) {
-    words(b"\t");
-    io::print_decimal(STDOUT_FILENO, n);
+fn figure(out: &impl Print, n: u64) {
+    words(out, b"\t");
+    let _ = out.print(n);
 }
 
 // Writes the answer; says whether it is accepted.
-fn show(answer: FileAnswer) -> bool {
+fn show(out: &impl Print, answer: FileAnswer) -> bool {
     match answer {
         FileAnswer::Accepted => {
-            words(b"\taccepted");
+            words(out, b"\taccepted");
             true
         }
         FileAnswer::Refused(r, n) => {
-            words(b"\trefused");
-            figure(model::number(r) as u64);
-            figure(n as u64);
+            words(out, b"\trefused");
+            figure(out, model::number(r) as u64);
+            figure(out, n as u64);
             false
         }
         FileAnswer::Broken => {
-            words(b"\trefused\t11");
+            words(out, b"\trefused\t11");
             false
         }
     }
 }
 
-fn figure_bus(b: Bus) {
-    figure(b.delay as u64);
+fn figure_bus(out: &impl Print, b: Bus) {
+    figure(out, b.delay as u64);
     if b.axi3 {
-        words(b"\tbus3");
+        words(out, b"\tbus3");
     }
 }
 
-fn try_tree(name: &[u8], s: &[u8]) {
-    words(name);
+fn try_tree(out: &impl Print, name: &[u8], s: &[u8]) {
+    words(out, name);
     let r = read_tree(s);
     let t = r.tree;
     let answer = r.answer;
-    if show(answer) {
-        figure(t.ints as u64);
-        figure(t.accs as u64);
-        figure_bus(t.bus);
+    if show(out, answer) {
+        figure(out, t.ints as u64);
+        figure(out, t.accs as u64);
+        figure_bus(out, t.bus);
     }
-    words(b"\n");
+    words(out, b"\n");
 }
 
 // The requests of a trace, and the sum of their counts.
-fn walk(s: &[u8]) {
+fn walk(out: &impl Print, s: &[u8]) {
     let mut at = 0;
     let mut lines: u64 = 0;
     let mut sum: u64 = 0;
@@ -78,16 +78,16 @@ fn walk(s: &[u8]) {
         }
         turns += 1;
     }
-    figure(lines);
-    figure(sum);
+    figure(out, lines);
+    figure(out, sum);
 }
 
-fn try_trace(name: &[u8], t: Tree, s: &[u8]) {
-    words(name);
-    if show(read_trace(t, s)) {
-        walk(s);
+fn try_trace(out: &impl Print, name: &[u8], t: Tree, s: &[u8]) {
+    words(out, name);
+    if show(out, read_trace(t, s)) {
+        walk(out, s);
     }
-    words(b"\n");
+    words(out, b"\n");
 }
 
 fn size_of(s: &[u8]) -> usize {
@@ -99,7 +99,7 @@ fn size_of(s: &[u8]) -> usize {
 }
 
 // One file of the input, from `at` on; where the next one begins.
-fn next_file(t: Tree, s: &[u8], at: usize) -> usize {
+fn next_file(out: &impl Print, t: Tree, s: &[u8], at: usize) -> usize {
     let n = s.len();
     if n < 2 {
         return n;
@@ -123,9 +123,9 @@ fn next_file(t: Tree, s: &[u8], at: usize) -> usize {
     }
     let stop = start + size;
     if s[at] == 116 {
-        try_tree(&s[from..mid], &s[start..stop]);
+        try_tree(out, &s[from..mid], &s[start..stop]);
     } else {
-        try_trace(&s[from..mid], t, &s[start..stop]);
+        try_trace(out, &s[from..mid], t, &s[start..stop]);
     }
     stop
 }
@@ -164,39 +164,47 @@ fn put_last(buf: &mut [u8], lines: &[u8]) {
 }
 
 // A trace of `n` bytes: `line` over and over, and `last` at its end.
-fn try_long_trace(buf: &mut [u8], name: &[u8], t: Tree, line: &[u8], last: &[u8], n: usize) {
+fn try_long_trace(
+    out: &impl Print,
+    buf: &mut [u8],
+    name: &[u8],
+    t: Tree,
+    line: &[u8],
+    last: &[u8],
+    n: usize,
+) {
     if buf.len() < n {
         return;
     }
     fill(&mut buf[0..n], line);
     put_last(&mut buf[0..n], last);
-    try_trace(name, t, &buf[0..n]);
+    try_trace(out, name, t, &buf[0..n]);
 }
 
-fn long_trace(name: &[u8], t: Tree, line: &[u8], last: &[u8], n: usize) {
+fn long_trace(out: &impl Print, name: &[u8], t: Tree, line: &[u8], last: &[u8], n: usize) {
     let mut buf = space();
-    try_long_trace(&mut buf, name, t, line, last, n);
+    try_long_trace(out, &mut buf, name, t, line, last, n);
 }
 
-fn try_long_tree(buf: &mut [u8], name: &[u8], n: usize) {
+fn try_long_tree(out: &impl Print, buf: &mut [u8], name: &[u8], n: usize) {
     if buf.len() < n {
         return;
     }
     fill(&mut buf[0..n], b"x");
-    try_tree(name, &buf[0..n]);
+    try_tree(out, name, &buf[0..n]);
 }
 
-fn long_tree(name: &[u8], n: usize) {
+fn long_tree(out: &impl Print, name: &[u8], n: usize) {
     let mut buf = space();
-    try_long_tree(&mut buf, name, n);
+    try_long_tree(out, &mut buf, name, n);
 }
 
 // Each file of the input.
-fn try_files(t: Tree, s: &[u8]) {
+fn try_files(out: &impl Print, t: Tree, s: &[u8]) {
     let mut at = 0;
     let mut turns: u32 = 0;
     while turns < 1000 {
-        at = next_file(t, s, at);
+        at = next_file(out, t, s, at);
         turns += 1;
     }
 }
@@ -210,9 +218,10 @@ fn report_tree() -> Tree {
 }
 
 // Traces at the limit of a total.
-fn long_totals(t: Tree) {
+fn long_totals(out: &impl Print, t: Tree) {
     let full = b"o\t0\t0\t16\n";
     long_trace(
+        out,
         b"total 65535",
         t,
         full,
@@ -220,6 +229,7 @@ fn long_totals(t: Tree) {
         36873,
     );
     long_trace(
+        out,
         b"total 65536",
         t,
         full,
@@ -227,6 +237,7 @@ fn long_totals(t: Tree) {
         36873,
     );
     long_trace(
+        out,
         b"falling slot over the total",
         t,
         b"o\t1\t0\t16\n",
@@ -236,27 +247,43 @@ fn long_totals(t: Tree) {
 }
 
 // Traces at the size limit.
-fn long_sizes(t: Tree) {
+fn long_sizes(out: &impl Print, t: Tree) {
     let least = b"o\t0\t0\t1\n";
-    long_trace(b"8192 lines", t, least, b"", 65536);
-    long_trace(b"65537 bytes", t, least, b"", 65537);
+    long_trace(out, b"8192 lines", t, least, b"", 65536);
+    long_trace(out, b"65537 bytes", t, least, b"", 65537);
 }
 
 // A trace on a tree that breaks its rules.
-fn try_broken() {
+fn try_broken(out: &impl Print) {
     let none = read_tree(b"");
     let no_tree = none.tree;
-    try_trace(b"broken tree", no_tree, b"");
+    try_trace(out, b"broken tree", no_tree, b"");
 }
 
-fn main() {
+// Reads until the buffer is full, the input ends or a read fails, and answers how many bytes were read.
+fn read_full(from: &mut impl Read, buf: &mut [u8]) -> usize
+    ensures { result ≤ length buf.new }
+{
+    let mut done = 0;
+    while done < buf.len() {
+        let more = from.read(&mut buf[done..]).unwrap_or(0);
+        if more == 0 {
+            return done;
+        }
+        done += more;
+    }
+    done
+}
+
+fn main(rt: HostRuntime) {
+    let out = &rt;
     let t = report_tree();
-    let mut input = io::large_buffer();
-    let n = io::read_full(STDIN_FILENO, &mut input);
-    try_files(t, &input[..n]);
-    long_tree(b"65536 bytes", 65536);
-    long_tree(b"65537 bytes", 65537);
-    long_totals(t);
-    long_sizes(t);
-    try_broken();
+    let mut input = [0u8; 65536];
+    let n = read_full(&mut rt.stdin(), &mut input);
+    try_files(out, t, &input[..n]);
+    long_tree(out, b"65536 bytes", 65536);
+    long_tree(out, b"65537 bytes", 65537);
+    long_totals(out, t);
+    long_sizes(out, t);
+    try_broken(out);
 }

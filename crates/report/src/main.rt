@@ -4,6 +4,6 @@
 
 use printing::{Program, run};
 
-fn main() {
-    run(Program::Report);
+fn main(rt: HostRuntime) {
+    run(&rt, &mut rt.stdin(), &rt.stderr(), Program::Report);
 }

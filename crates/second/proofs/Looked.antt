@@ -1,5 +1,5 @@
 -- What the second reader's look at a row says of the definitions: by the tests, and by the step of `carried_below`.
-use Rattle.std.proofs.Common.{◌≡◌, ℕ, ◌+◌, ◌%◌, ◌^◌, ◌<◌, ◌≤◌, Bool, true, false, ◌&&◌, eqb, ltb, leb, List, sym, refl, ap, ◌∙◌, add-one, arith, le-ltb, lt-ltb, le-leb}
+use Rattle.std.proofs.Common.{◌≡◌, ℕ, ◌+◌, ◌%◌, ◌^◌, ◌<◌, ◌≤◌, Bool, true, false, ◌&&◌, eqb, ltb, List, sym, refl, ap, ◌∙◌, add-one, arith, le-ltb, lt-ltb, le-leb}
 use borrow.Author.Tests.{lt-leb}
 use Rattle.folds.proofs.Folds.{picked, passed}
 use Rattle.second.specs.Rows.{cell_of, rows_of, ints_of, is_on, block_of, carried_below}

@@ -34,6 +34,7 @@ module _ (t : Tree) (φ : ℕ → ℕ) where
 
   one_along : (xs : List Crossing) → share_along t φ xs ≡ 1 → (i p : ℕ) → On i p xs → others_at t φ i p ≡ 0
   unfolding share_along
+  one_along [] e i p o = elim o [ ]
   one_along (x ∷ xs) e i p (here f g) = subst₂ (λ j q. others_at t φ j q ≡ 0) f g (factors_one _ _ (share_least t φ xs) e).0
   one_along (x ∷ xs) e i p (there o) = one_along xs (factors_one _ _ (share_least t φ xs) e).1 i p o
 

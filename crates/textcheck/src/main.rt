@@ -7,48 +7,54 @@ use answers::channel_number;
 use burst::Burst;
 use input::Input;
 use inquiry::Reply;
-use libc::STDOUT_FILENO;
 use model::Channel;
 use plan::Printed;
 use simulation::{Asked, Part};
+use std::io;
+use std::io::Read;
+use std::rt::Files;
 use text::{part_end, same_bytes};
 
-fn show(page: &[u8], n: usize) {
+fn show(out: &impl Print, page: &[u8], n: usize) {
     if n <= page.len() {
-        io::write_all(STDOUT_FILENO, &page[..n]);
+        let _ = out.write_all(&page[..n]);
     }
 }
 
-fn show_page(page: &[u8; 65536], n: usize) {
-    show(page, n);
+fn show_page(out: &impl Print, page: &[u8; 65536], n: usize) {
+    show(out, page, n);
 }
 
-fn show_usage() {
+fn show_usage(out: &impl Print) {
     let mut page = [0u8; 65536];
     let n = usage::report_usage(&mut page);
-    show_page(&page, n);
+    show_page(out, &page, n);
     let n = usage::report_help(&mut page);
-    show_page(&page, n);
+    show_page(out, &page, n);
     let n = usage::rewrite_usage(&mut page);
-    show_page(&page, n);
+    show_page(out, &page, n);
     let n = usage::rewrite_help(&mut page);
-    show_page(&page, n);
+    show_page(out, &page, n);
     let n = usage::simulate_usage(&mut page);
-    show_page(&page, n);
+    show_page(out, &page, n);
     let n = usage::simulate_help(&mut page);
-    show_page(&page, n);
+    show_page(out, &page, n);
     let n = usage::why_usage(&mut page);
-    show_page(&page, n);
+    show_page(out, &page, n);
     let n = usage::why_help(&mut page);
-    show_page(&page, n);
+    show_page(out, &page, n);
     let n = usage::split_usage(&mut page);
-    show_page(&page, n);
+    show_page(out, &page, n);
     let n = usage::split_help(&mut page);
-    show_page(&page, n);
+    show_page(out, &page, n);
 }
 
-fn say_line(line: &[u8]) {
-    io::write_all(STDOUT_FILENO, line);
+fn say_line(out: &impl Print, line: &[u8]) {
+    let _ = out.write_all(line);
+}
+
+fn say_number(out: &impl Print, n: u64) {
+    let _ = out.print(n);
 }
 
 // The word that a line begins with: each is ended by a semicolon. Of an empty line no byte, as of a word that was not given.
@@ -85,7 +91,7 @@ fn word_count(line: &[u8]) -> usize {
 }
 
 // What `report` does, started with these words; `rewrite` does the same.
-fn report_does(words: &[u8], terminal: bool) {
+fn report_does(out: &impl Print, words: &[u8], terminal: bool) {
     let second = after(words);
     let third = after(second);
     let asked = usage::file_asked(
@@ -96,22 +102,22 @@ fn report_does(words: &[u8], terminal: bool) {
         terminal,
     );
     match asked {
-        usage::Asked::Usage => say_line(b"report: usage\n"),
-        usage::Asked::Help => say_line(b"report: help\n"),
-        usage::Asked::Input => say_line(b"report: standard input\n"),
-        usage::Asked::File => say_line(b"report: the file\n"),
+        usage::Asked::Usage => say_line(out, b"report: usage\n"),
+        usage::Asked::Help => say_line(out, b"report: help\n"),
+        usage::Asked::Input => say_line(out, b"report: standard input\n"),
+        usage::Asked::File => say_line(out, b"report: the file\n"),
     }
 }
 
-fn say_channel(channel: Channel) {
+fn say_channel(out: &impl Print, channel: Channel) {
     match channel {
-        Channel::Read => say_line(b"reads"),
-        Channel::Write => say_line(b"writes"),
+        Channel::Read => say_line(out, b"reads"),
+        Channel::Write => say_line(out, b"writes"),
     }
 }
 
 // What `simulate` does, started with these words.
-fn simulate_does(words: &[u8]) {
+fn simulate_does(out: &impl Print, words: &[u8]) {
     let second = after(words);
     let third = after(second);
     let fourth = after(third);
@@ -123,20 +129,20 @@ fn simulate_does(words: &[u8]) {
         word(fourth),
     );
     match asked {
-        Asked::Usage => say_line(b"simulate: usage\n"),
-        Asked::Help => say_line(b"simulate: help\n"),
+        Asked::Usage => say_line(out, b"simulate: usage\n"),
+        Asked::Help => say_line(out, b"simulate: help\n"),
         Asked::Run(channel, k) => {
-            say_line(b"simulate: ");
-            say_channel(channel);
-            say_line(b", slots ");
-            io::print_decimal(STDOUT_FILENO, k as u64);
-            say_line(b"\n");
+            say_line(out, b"simulate: ");
+            say_channel(out, channel);
+            say_line(out, b", slots ");
+            say_number(out, k as u64);
+            say_line(out, b"\n");
         }
     }
 }
 
 // What `why` does, started with these words.
-fn why_does(words: &[u8]) {
+fn why_does(out: &impl Print, words: &[u8]) {
     let second = after(words);
     let third = after(second);
     let fourth = after(third);
@@ -150,22 +156,22 @@ fn why_does(words: &[u8]) {
         word(fifth),
     );
     match asked {
-        inquiry::Asked::Usage => say_line(b"why: usage\n"),
-        inquiry::Asked::Help => say_line(b"why: help\n"),
+        inquiry::Asked::Usage => say_line(out, b"why: usage\n"),
+        inquiry::Asked::Help => say_line(out, b"why: help\n"),
         inquiry::Asked::Wait(channel, a, k) => {
-            say_line(b"why: ");
-            say_channel(channel);
-            say_line(b", accelerator ");
-            io::print_decimal(STDOUT_FILENO, a as u64);
-            say_line(b", number ");
-            io::print_decimal(STDOUT_FILENO, k as u64);
-            say_line(b"\n");
+            say_line(out, b"why: ");
+            say_channel(out, channel);
+            say_line(out, b", accelerator ");
+            say_number(out, a as u64);
+            say_line(out, b", number ");
+            say_number(out, k as u64);
+            say_line(out, b"\n");
         }
     }
 }
 
 // What `split` does, started with these words.
-fn split_does(words: &[u8]) {
+fn split_does(out: &impl Print, words: &[u8]) {
     let second = after(words);
     let third = after(second);
     let fourth = after(third);
@@ -177,55 +183,56 @@ fn split_does(words: &[u8]) {
         word(fourth),
     );
     match asked {
-        splitting::Asked::Usage => say_line(b"split: usage\n"),
-        splitting::Asked::Help => say_line(b"split: help\n"),
+        splitting::Asked::Usage => say_line(out, b"split: usage\n"),
+        splitting::Asked::Help => say_line(out, b"split: help\n"),
         splitting::Asked::Split(b) => {
-            say_line(b"split: start ");
-            io::print_decimal(STDOUT_FILENO, b.start as u64);
-            say_line(b", beats ");
-            io::print_decimal(STDOUT_FILENO, b.beats as u64);
-            say_line(b", size ");
-            io::print_decimal(STDOUT_FILENO, b.size as u64);
-            say_line(b"\n");
+            say_line(out, b"split: start ");
+            say_number(out, b.start as u64);
+            say_line(out, b", beats ");
+            say_number(out, b.beats as u64);
+            say_line(out, b", size ");
+            say_number(out, b.size as u64);
+            say_line(out, b"\n");
         }
     }
 }
 
 // What the program does that the line's first word names, by the words after it: `report` where standard input is no terminal,
 // and where it is one.
-fn does(line: &[u8]) {
+fn does(out: &impl Print, line: &[u8]) {
     let name = word(line);
     let words = after(line);
     if same_bytes(name, b"report") {
-        report_does(words, false);
-        report_does(words, true);
+        report_does(out, words, false);
+        report_does(out, words, true);
     }
     if same_bytes(name, b"simulate") {
-        simulate_does(words);
+        simulate_does(out, words);
     }
     if same_bytes(name, b"why") {
-        why_does(words);
+        why_does(out, words);
     }
     if same_bytes(name, b"split") {
-        split_does(words);
+        split_does(out, words);
     }
 }
 
 // What is done by each line of the table.
-fn do_lines(table: &[u8]) {
+fn do_lines(out: &impl Print, table: &[u8]) {
     let mut at = 0;
     while at < table.len() {
         let end = part_end(table, at, b'\n');
         if table.len() <= end {
             return;
         }
-        does(&table[at..end]);
+        does(out, &table[at..end]);
         at = end + 1;
     }
 }
 
-fn report_lines() {
+fn report_lines(out: &impl Print) {
     do_lines(
+        out,
         b"report;\n\
         report;--help;\n\
         report;-h;\n\
@@ -243,8 +250,9 @@ fn report_lines() {
     );
 }
 
-fn simulate_lines() {
+fn simulate_lines(out: &impl Print) {
     do_lines(
+        out,
         b"simulate;\n\
         simulate;--help;\n\
         simulate;-h;\n\
@@ -275,8 +283,9 @@ fn simulate_lines() {
 }
 
 // No word for the channel, another word, or the words in another order.
-fn channel_lines() {
+fn channel_lines(out: &impl Print) {
     do_lines(
+        out,
         b"simulate;a.tree;a.trace;\n\
         simulate;a.tree;a.trace;1;\n\
         simulate;a.tree;a.trace;1;2;\n\
@@ -307,8 +316,9 @@ fn channel_lines() {
     );
 }
 
-fn why_lines() {
+fn why_lines(out: &impl Print) {
     do_lines(
+        out,
         b"why;\n\
         why;--help;\n\
         why;read;-h;\n\
@@ -337,8 +347,9 @@ fn why_lines() {
     );
 }
 
-fn split_lines() {
+fn split_lines(out: &impl Print) {
     do_lines(
+        out,
         b"split;\n\
         split;--help;\n\
         split;a.tree;-h;\n\
@@ -369,8 +380,9 @@ fn split_lines() {
 }
 
 // Each kind of word ADDRESS: the largest, the one after it, 10 and 11 digits, and no number.
-fn address_lines() {
+fn address_lines(out: &impl Print) {
     do_lines(
+        out,
         b"split;a.tree;0;1;1;\n\
         split;a.tree;4294967295;256;128;\n\
         split;a.tree;4294967296;256;128;\n\
@@ -389,80 +401,93 @@ fn address_lines() {
 }
 
 // The first 16 bytes of a file, or that it cannot be read.
-fn load(name: &[u8]) {
+fn load(rt: &(impl Files + Print), stdin: &mut impl Read, errors: &impl Print, name: &[u8]) {
     let mut bytes = [0u8; 16];
-    let read = input::load(name, &mut bytes);
+    let read = input::load(name, rt, stdin, errors, &mut bytes);
     match read {
         Input::Bytes(n) => {
-            say_line(b"read: ");
-            show(&bytes, n);
-            say_line(b"\n");
+            say_line(rt, b"read: ");
+            show(rt, &bytes, n);
+            say_line(rt, b"\n");
         }
-        Input::Failed => say_line(b"cannot be read\n"),
+        Input::Failed => say_line(rt, b"cannot be read\n"),
+    }
+}
+
+// What reads as a standard input that is closed: every read fails, by the system's number for a bad file descriptor.
+#[derive(Clone, Copy)]
+struct Closed {
+    number: i32,
+}
+
+impl Read for Closed {
+    fn read(&mut self, _buf: &mut [u8]) -> io::Result<usize> {
+        Err(io::Error::from_raw_os_error(self.number))
     }
 }
 
 // Files that are there, standard input, and then what is no file: no such name, two directories, no name, a name too long, and
-// standard input again, which is closed.
-fn load_all() {
-    load(b"five.txt");
-    load(b"twenty.txt");
-    load(b"empty.txt");
-    load(b"-");
-    load(b"missing.txt");
-    load(b".");
-    load(b"/");
-    load(b"");
-    load(&[b'x'; 5000]);
-    load(b"-");
+// a standard input which is closed.
+fn load_all(rt: &(impl Files + Print), stdin: &mut impl Read, errors: &impl Print) {
+    load(rt, stdin, errors, b"five.txt");
+    load(rt, stdin, errors, b"twenty.txt");
+    load(rt, stdin, errors, b"empty.txt");
+    load(rt, stdin, errors, b"-");
+    load(rt, stdin, errors, b"missing.txt");
+    load(rt, stdin, errors, b".");
+    load(rt, stdin, errors, b"/");
+    load(rt, stdin, errors, b"");
+    load(rt, stdin, errors, &[b'x'; 5000]);
+    load(rt, &mut Closed { number: 9 }, errors, b"-");
 }
 
 // The text of a tree in the page; of a refused tree the first byte of the page, which is left as it was, and the refusal.
-fn show_printed(r: Printed, page: &mut [u8; 65536]) {
+fn show_printed(out: &impl Print, r: Printed, page: &mut [u8; 65536]) {
     if r.number == 0 {
-        show_page(page, r.bytes);
+        show_page(out, page, r.bytes);
         return;
     }
-    show_page(page, 1);
+    show_page(out, page, 1);
     let n = listing::refusal_text(r.number, r.line, page);
-    show_page(page, n);
+    show_page(out, page, n);
 }
 
-fn report(tree: &[u8]) {
+fn report(out: &impl Print, tree: &[u8]) {
     let mut page = [b'.'; 65536];
     let r = plan::report(tree, &mut page);
-    show_printed(r, &mut page);
+    show_printed(out, r, &mut page);
 }
 
-fn rewrite(tree: &[u8]) {
+fn rewrite(out: &impl Print, tree: &[u8]) {
     let mut page = [b'.'; 65536];
     let r = plan::rewrite(tree, &mut page);
-    show_printed(r, &mut page);
+    show_printed(out, r, &mut page);
 }
 
 // A refusal of the bytes in words.
-fn say(trace: bool, bytes: &[u8], number: u8, line: u32) {
+fn say(out: &impl Print, trace: bool, bytes: &[u8], number: u8, line: u32) {
     let mut page = [0u8; 65536];
     let n = reasons::reason_text(trace, bytes, number, line, &mut page);
-    show_page(&page, n);
+    show_page(out, &page, n);
 }
 
 // Refusals in words of files, each ended by a semicolon.
-fn say_each(trace: bool, files: &[u8], number: u8, line: u32) {
+fn say_each(out: &impl Print, trace: bool, files: &[u8], number: u8, line: u32) {
     let mut at = 0;
     while at < files.len() {
         let end = part_end(files, at, b';');
         if files.len() <= end {
             return;
         }
-        say(trace, &files[at..end], number, line);
+        say(out, trace, &files[at..end], number, line);
         at = end + 1;
     }
 }
 
 // A wrong shape: what is most likely wrong, the name, the counts.
-fn say_shapes() {
+fn say_shapes(out: &impl Print) {
     say_each(
+        out,
         false,
         b"\xef\xbb\xbfbus\t8\n;\
         bus\t8\r\n;\
@@ -476,8 +501,9 @@ fn say_shapes() {
         1,
         1,
     );
-    say(true, b"int\t0\t-\t-\t1\n", 1, 1);
+    say(out, true, b"int\t0\t-\t-\t1\n", 1, 1);
     say_each(
+        out,
         false,
         b"bus\n;\
         bus\t8\t1\t4\t2\t2\t30\t25\t1\t1\t16\t2\t3\n;\
@@ -485,13 +511,14 @@ fn say_shapes() {
         1,
         1,
     );
-    say(false, b"\nacc\t0\t0\t0\t4\t2\t10\t5\t1000\n", 1, 2);
-    say(true, b"o\t0\t0\t1\t\n", 1, 1);
+    say(out, false, b"\nacc\t0\t0\t0\t4\t2\t10\t5\t1000\n", 1, 2);
+    say(out, true, b"o\t0\t0\t1\t\n", 1, 1);
 }
 
 // A field that may not stand, and a line of no wrong shape.
-fn say_fields() {
+fn say_fields(out: &impl Print) {
     say_each(
+        out,
         false,
         b"\nacc\t0\t0\t0\tx7\t2\t10\t5\t1000\t2000\n;\
         \nacc\t0\t0\t0\t4\t2\t10\t5\t1000\t-\n;",
@@ -499,6 +526,7 @@ fn say_fields() {
         2,
     );
     say_each(
+        out,
         false,
         b"bus\t8\t1\t4\t2\t2\t30\t25\t1\t1\t16\t\n;\
         int\t-\t-\t-\t1\n;\
@@ -507,6 +535,7 @@ fn say_fields() {
         1,
     );
     say_each(
+        out,
         true,
         b"o\t0\t01\t1\n;\
         o\t0\t0\t\n;\
@@ -518,8 +547,9 @@ fn say_fields() {
 }
 
 // The fields of every record, each outside its limits: line 2.
-fn say_tree_limits() {
+fn say_tree_limits(out: &impl Print) {
     say_each(
+        out,
         false,
         b"\nbus\t0\t1\t4\t2\t2\t30\t25\t1\t1\t16\n;\
         \nbus\t8\t256\t4\t2\t2\t30\t25\t1\t1\t16\n;\
@@ -551,9 +581,10 @@ fn say_tree_limits() {
 }
 
 // The fields of every record; a total; a line that is in its limits.
-fn say_limits() {
-    say_tree_limits();
+fn say_limits(out: &impl Print) {
+    say_tree_limits(out);
     say_each(
+        out,
         true,
         b"\no\t4294967295\t0\t1\n;\
         \no\t0\t0\t17\n;\
@@ -561,73 +592,77 @@ fn say_limits() {
         2,
         2,
     );
-    say(false, b"\nint\t0\t-\t-\t1\n", 2, 2);
+    say(out, false, b"\nint\t0\t-\t-\t1\n", 2, 2);
 }
 
 // Order, by the record that is refused and in general.
-fn say_order(bus: &[u8], offers: &[u8]) {
-    say(false, bus, 3, 1);
+fn say_order(out: &impl Print, bus: &[u8], offers: &[u8]) {
+    say(out, false, bus, 3, 1);
     say_each(
+        out,
         false,
         b"int\t3\t1\t6\t1\n;\
         acc\t7\t0\t1\t4\t2\t10\t5\t1000\t2000\n;",
         3,
         1,
     );
-    say(false, bus, 3, 2);
-    say(false, b"", 3, 1);
-    say(true, offers, 3, 1);
+    say(out, false, bus, 3, 2);
+    say(out, false, b"", 3, 1);
+    say(out, true, offers, 3, 1);
 }
 
 // The other numbers of a file.
-fn say_places(bus: &[u8], offers: &[u8]) {
+fn say_places(out: &impl Print, bus: &[u8], offers: &[u8]) {
     say_each(
+        out,
         false,
         b"int\t3\t1\t6\t1\n;\
         acc\t7\t0\t1\t4\t2\t10\t5\t1000\t2000\n;",
         4,
         1,
     );
-    say(false, bus, 4, 1);
-    say(false, b"int\t5\t4\t0\t1\n", 5, 1);
-    say(false, bus, 5, 1);
-    say(true, offers, 6, 2);
-    say(false, bus, 6, 1);
-    say(true, offers, 7, 2);
-    say(false, bus, 7, 1);
+    say(out, false, bus, 4, 1);
+    say(out, false, b"int\t5\t4\t0\t1\n", 5, 1);
+    say(out, false, bus, 5, 1);
+    say(out, true, offers, 6, 2);
+    say(out, false, bus, 6, 1);
+    say(out, true, offers, 7, 2);
+    say(out, false, bus, 7, 1);
 }
 
 // Both, of a bus line and of a trace.
-fn say_lines(bus: &[u8], offers: &[u8]) {
-    say_order(bus, offers);
-    say_places(bus, offers);
+fn say_lines(out: &impl Print, bus: &[u8], offers: &[u8]) {
+    say_order(out, bus, offers);
+    say_places(out, bus, offers);
 }
 
 // These numbers, a byte each, of a tree file.
-fn say_of_tree(tree: &[u8], numbers: &[u8], line: u32) {
+fn say_of_tree(out: &impl Print, tree: &[u8], numbers: &[u8], line: u32) {
     for i in 0..numbers.len() {
-        say(false, tree, numbers[i], line);
+        say(out, false, tree, numbers[i], line);
     }
 }
 
 // Numbers that name no line of a file, and those of a file without a line.
-fn say_numbers() {
+fn say_numbers(out: &impl Print) {
     say_lines(
+        out,
         b"bus\t8\t1\t4\t2\t2\t30\t25\t1\t1\t16\n",
         b"o\t5\t0\t1\no\t3\t6\t1\n",
     );
     let tree = b"bus\t8\n";
-    say(false, tree, 0, 1);
-    say_of_tree(tree, &[8, 9, 10, 11], 0);
-    say(true, tree, 7, 0);
-    say(true, tree, 12, 0);
-    say_of_tree(tree, &[12, 13, 14, 15, 16, 17], 1);
-    say_of_tree(tree, &[13, 14, 15, 16, 17, 255, 1, 2, 3], 0);
+    say(out, false, tree, 0, 1);
+    say_of_tree(out, tree, &[8, 9, 10, 11], 0);
+    say(out, true, tree, 7, 0);
+    say(out, true, tree, 12, 0);
+    say_of_tree(out, tree, &[12, 13, 14, 15, 16, 17], 1);
+    say_of_tree(out, tree, &[13, 14, 15, 16, 17, 255, 1, 2, 3], 0);
 }
 
 // What a bus3 line may be refused for, and names that are no record.
-fn say_older() {
+fn say_older(out: &impl Print) {
     say_each(
+        out,
         false,
         b"bus33\t8\n;\
         BUS3\t8\n;\
@@ -636,102 +671,103 @@ fn say_older() {
         1,
         1,
     );
-    say(true, b"bus3\t8\n", 1, 1);
+    say(out, true, b"bus3\t8\n", 1, 1);
     say_each(
+        out,
         false,
         b"bus3\t8\t1\t4\t2\t2\t30\t25\t1\t1\t17\n;\
         bus3\t8\t1\t4\t2\t2\t30\t25\t1\t1\t16\t16\n;",
         2,
         1,
     );
-    say(false, b"bus3\t8\t1\t4\t2\t2\t30\t25\t1\t1\t16\n", 3, 1);
-    say(false, b"bus3\t8\t1\t4\t2\t2\t30\t25\t1\t1\t16\n", 4, 1);
-    say(false, b"bus3\t8\t1\t4\t2\t2\t30\t25\t1\t1\t16\n", 5, 1);
+    say(out, false, b"bus3\t8\t1\t4\t2\t2\t30\t25\t1\t1\t16\n", 3, 1);
+    say(out, false, b"bus3\t8\t1\t4\t2\t2\t30\t25\t1\t1\t16\n", 4, 1);
+    say(out, false, b"bus3\t8\t1\t4\t2\t2\t30\t25\t1\t1\t16\n", 5, 1);
 }
 
 // Of a refusal also what is refused.
-fn run_over(served: &mut [u8], channel: Channel, tree: &[u8], trace: &[u8]) {
+fn run_over(out: &impl Print, served: &mut [u8], channel: Channel, tree: &[u8], trace: &[u8]) {
     let o = razhikum::razhikum_run(tree, channel_number(channel), trace, served);
     let mut page = [0u8; 65536];
     let n = simulation::page_text(o, served, 0, &mut page);
-    show_page(&page, n);
+    show_page(out, &page, n);
     let part = simulation::refused_part(o, served.len());
     match part {
         Part::Nothing => {}
-        Part::Tree => say_line(b"of the tree\n"),
-        Part::Word => say_line(b"of SLOTS\n"),
-        Part::Trace => say_line(b"of the trace\n"),
+        Part::Tree => say_line(out, b"of the tree\n"),
+        Part::Word => say_line(out, b"of SLOTS\n"),
+        Part::Trace => say_line(out, b"of the trace\n"),
     }
 }
 
-fn simulate(channel: Channel, tree: &[u8], trace: &[u8], word: &[u8]) {
+fn simulate(out: &impl Print, channel: Channel, tree: &[u8], trace: &[u8], word: &[u8]) {
     let asked = simulation::slots_asked(channel, word);
     let Asked::Run(c, k) = asked else {
-        say_line(b"no number\n");
+        say_line(out, b"no number\n");
         return;
     };
     let mut served = [0u8; 65537];
     if k <= 65537 {
-        run_over(&mut served[..k], c, tree, trace);
+        run_over(out, &mut served[..k], c, tree, trace);
     }
 }
 
 // The first page of the reply's text.
-fn show_reply(reply: Reply, list: &[u8; 65536]) {
+fn show_reply(out: &impl Print, reply: Reply, list: &[u8; 65536]) {
     let mut page = [0u8; 65536];
     let n = inquiry::page_text(reply, list, 0, &mut page);
-    show_page(&page, n);
+    show_page(out, &page, n);
 }
 
 // Of a refusal also what is refused.
-fn why(channel: Channel, tree: &[u8], trace: &[u8], a: u8, k: u32) {
+fn why(out: &impl Print, channel: Channel, tree: &[u8], trace: &[u8], a: u8, k: u32) {
     let mut list = [0u8; 65536];
     let reply = inquiry::inquire(tree, channel, trace, a, k, &mut list);
-    show_reply(reply, &list);
+    show_reply(out, reply, &list);
     let Reply::Refused(part, _, _) = reply else {
         return;
     };
     match part {
-        inquiry::Part::Tree => say_line(b"of the tree\n"),
-        inquiry::Part::Trace => say_line(b"of the trace\n"),
-        inquiry::Part::Accelerator => say_line(b"of ACC\n"),
-        inquiry::Part::Number => say_line(b"of NUMBER\n"),
+        inquiry::Part::Tree => say_line(out, b"of the tree\n"),
+        inquiry::Part::Trace => say_line(out, b"of the trace\n"),
+        inquiry::Part::Accelerator => say_line(out, b"of ACC\n"),
+        inquiry::Part::Number => say_line(out, b"of NUMBER\n"),
     }
 }
 
-fn why_words(tree: &[u8]) {
+fn why_words(out: &impl Print, tree: &[u8]) {
     let trace = b"o\t0\t0\t2\no\t0\t1\t1\n";
-    why(Channel::Read, tree, trace, 0, 1);
-    why(Channel::Read, tree, trace, 0, 2);
-    why(Channel::Read, tree, trace, 1, 1);
-    why(Channel::Read, tree, trace, 0, 3);
-    why(Channel::Read, tree, trace, 0, 0);
-    why(Channel::Read, tree, trace, 2, 0);
-    why(Channel::Read, tree, trace, 255, 4294967295);
-    why(Channel::Read, tree, b"o\t0\t2\t1\n", 2, 0);
-    why(Channel::Read, b"x\n", b"x\n", 2, 0);
+    why(out, Channel::Read, tree, trace, 0, 1);
+    why(out, Channel::Read, tree, trace, 0, 2);
+    why(out, Channel::Read, tree, trace, 1, 1);
+    why(out, Channel::Read, tree, trace, 0, 3);
+    why(out, Channel::Read, tree, trace, 0, 0);
+    why(out, Channel::Read, tree, trace, 2, 0);
+    why(out, Channel::Read, tree, trace, 255, 4294967295);
+    why(out, Channel::Read, tree, b"o\t0\t2\t1\n", 2, 0);
+    why(out, Channel::Read, b"x\n", b"x\n", 2, 0);
 }
 
 // The same trace as writes: accelerator 1 has none, so that none of it is served and none waits for it.
-fn why_writes(tree: &[u8]) {
+fn why_writes(out: &impl Print, tree: &[u8]) {
     let trace = b"o\t0\t0\t2\no\t0\t1\t1\n";
-    why(Channel::Write, tree, trace, 0, 1);
-    why(Channel::Write, tree, trace, 0, 2);
-    why(Channel::Write, tree, trace, 1, 1);
-    why(Channel::Write, tree, trace, 2, 1);
-    why(Channel::Write, tree, b"o\t0\t2\t1\n", 0, 1);
-    why(Channel::Write, b"x\n", trace, 0, 1);
+    why(out, Channel::Write, tree, trace, 0, 1);
+    why(out, Channel::Write, tree, trace, 0, 2);
+    why(out, Channel::Write, tree, trace, 1, 1);
+    why(out, Channel::Write, tree, trace, 2, 1);
+    why(out, Channel::Write, tree, b"o\t0\t2\t1\n", 0, 1);
+    why(out, Channel::Write, b"x\n", trace, 0, 1);
 }
 
 // The text of a reply to a burst, with these arrays.
-fn show_pieces(reply: splitting::Reply, starts: &[u32; 256], beats: &[u32; 256]) {
+fn show_pieces(out: &impl Print, reply: splitting::Reply, starts: &[u32; 256], beats: &[u32; 256]) {
     let mut page = [0u8; 65536];
     let n = splitting::reply_text(reply, starts, beats, &mut page);
-    show_page(&page, n);
+    show_page(out, &page, n);
 }
 
 // Of a refusal also what is refused.
-fn split(tree: &[u8], start: u32, beats: u32, size: u32) {
+fn split(out: &impl Print, tree: &[u8], start: u32, beats: u32, size: u32) {
     let b = Burst {
         start: start,
         beats: beats,
@@ -740,80 +776,81 @@ fn split(tree: &[u8], start: u32, beats: u32, size: u32) {
     let mut starts = [7u32; 256];
     let mut lengths = [8u32; 256];
     let reply = splitting::split_file(tree, b, &mut starts, &mut lengths);
-    show_pieces(reply, &starts, &lengths);
+    show_pieces(out, reply, &starts, &lengths);
     let splitting::Reply::Refused(part, _, _) = reply else {
         return;
     };
     match part {
-        splitting::Part::Tree => say_line(b"of the tree\n"),
-        splitting::Part::Address => say_line(b"of ADDRESS\n"),
-        splitting::Part::Beats => say_line(b"of BEATS\n"),
-        splitting::Part::Size => say_line(b"of SIZE\n"),
+        splitting::Part::Tree => say_line(out, b"of the tree\n"),
+        splitting::Part::Address => say_line(out, b"of ADDRESS\n"),
+        splitting::Part::Beats => say_line(out, b"of BEATS\n"),
+        splitting::Part::Size => say_line(out, b"of SIZE\n"),
     }
 }
 
 // A burst of one piece and of several, with B 16: its first piece may start within a beat.
-fn split_pieces(tree: &[u8]) {
-    split(tree, 4096, 1, 1);
-    split(tree, 0, 16, 4);
-    split(tree, 0, 17, 4);
-    split(tree, 5, 40, 4);
-    split(tree, 1, 256, 16);
+fn split_pieces(out: &impl Print, tree: &[u8]) {
+    split(out, tree, 4096, 1, 1);
+    split(out, tree, 0, 16, 4);
+    split(out, tree, 0, 17, 4);
+    split(out, tree, 5, 40, 4);
+    split(out, tree, 1, 256, 16);
 }
 
 // Bursts at the end of a page, and of the last page.
-fn split_at_ends(tree: &[u8]) {
-    split(tree, 4090, 3, 2);
-    split(tree, 4091, 3, 2);
-    split(tree, 4092, 3, 2);
-    split(tree, 4095, 1, 1);
-    split(tree, 4095, 2, 1);
-    split(tree, 4095, 1, 128);
-    split(tree, 4095, 2, 128);
-    split(tree, 4063, 33, 1);
-    split(tree, 4064, 33, 1);
-    split(tree, 16, 256, 16);
-    split(tree, 4294967295, 1, 1);
-    split(tree, 4294967295, 2, 1);
-    split(tree, 4294967168, 1, 128);
-    split(tree, 4294967295, 1, 128);
-    split(tree, 4294967168, 2, 128);
+fn split_at_ends(out: &impl Print, tree: &[u8]) {
+    split(out, tree, 4090, 3, 2);
+    split(out, tree, 4091, 3, 2);
+    split(out, tree, 4092, 3, 2);
+    split(out, tree, 4095, 1, 1);
+    split(out, tree, 4095, 2, 1);
+    split(out, tree, 4095, 1, 128);
+    split(out, tree, 4095, 2, 128);
+    split(out, tree, 4063, 33, 1);
+    split(out, tree, 4064, 33, 1);
+    split(out, tree, 16, 256, 16);
+    split(out, tree, 4294967295, 1, 1);
+    split(out, tree, 4294967295, 2, 1);
+    split(out, tree, 4294967168, 1, 128);
+    split(out, tree, 4294967295, 1, 128);
+    split(out, tree, 4294967168, 2, 128);
 }
 
 // No burst: 15 comes before 16, and the tree before both.
-fn split_refused(tree: &[u8]) {
-    split(tree, 0, 0, 1);
-    split(tree, 0, 257, 1);
-    split(tree, 0, 1, 0);
-    split(tree, 0, 1, 3);
-    split(tree, 0, 1, 256);
-    split(tree, 4095, 2, 3);
-    split(tree, 4095, 257, 3);
-    split(tree, 5, 4294967295, 4294967295);
-    split(b"x\n", 5, 40, 4);
-    split(b"x\n", 0, 0, 0);
-    split(b"", 4095, 2, 1);
+fn split_refused(out: &impl Print, tree: &[u8]) {
+    split(out, tree, 0, 0, 1);
+    split(out, tree, 0, 257, 1);
+    split(out, tree, 0, 1, 0);
+    split(out, tree, 0, 1, 3);
+    split(out, tree, 0, 1, 256);
+    split(out, tree, 4095, 2, 3);
+    split(out, tree, 4095, 257, 3);
+    split(out, tree, 5, 4294967295, 4294967295);
+    split(out, b"x\n", 5, 40, 4);
+    split(out, b"x\n", 0, 0, 0);
+    split(out, b"", 4095, 2, 1);
 }
 
 // B 1: a piece for each beat, 256 at most; and B 256.
-fn split_lengths() {
+fn split_lengths(out: &impl Print) {
     let one =
         b"bus\t8\t1\t4\t2\t2\t30\t25\t1\t1\t1\nint\t0\t-\t-\t1\nacc\t0\t0\t0\t4\t2\t10\t5\t1000\t2000\n";
-    split(one, 1, 3, 4);
-    split(one, 4093, 3, 1);
-    split(one, 4294963201, 256, 16);
+    split(out, one, 1, 3, 4);
+    split(out, one, 4093, 3, 1);
+    split(out, one, 4294963201, 256, 16);
     let most =
         b"bus\t8\t1\t4\t2\t2\t30\t25\t1\t1\t256\nint\t0\t-\t-\t1\nacc\t0\t0\t0\t4\t2\t10\t5\t1000\t2000\n";
-    split(most, 4294963201, 256, 16);
+    split(out, most, 4294963201, 256, 16);
 }
 
 // Arrays with other numbers than a burst has, by a count of pieces: those that they have are listed.
-fn split_arrays() {
+fn split_arrays(out: &impl Print) {
     let starts = [4294967295u32; 256];
     let beats = [4294967295u32; 256];
-    show_pieces(splitting::Reply::Pieces(0), &starts, &beats);
-    show_pieces(splitting::Reply::Pieces(2), &starts, &beats);
+    show_pieces(out, splitting::Reply::Pieces(0), &starts, &beats);
+    show_pieces(out, splitting::Reply::Pieces(2), &starts, &beats);
     show_pieces(
+        out,
         splitting::Reply::Pieces(4294967295),
         &[7u32; 256],
         &[8u32; 256],
@@ -821,65 +858,74 @@ fn split_arrays() {
 }
 
 // The texts of bursts cut into pieces.
-fn splits(tree: &[u8]) {
-    split_pieces(tree);
-    split_at_ends(tree);
-    split_refused(tree);
-    split_lengths();
-    split_arrays();
+fn splits(out: &impl Print, tree: &[u8]) {
+    split_pieces(out, tree);
+    split_at_ends(out, tree);
+    split_refused(out, tree);
+    split_lengths(out);
+    split_arrays(out);
 }
 
 // A simulation by each kind of word SLOTS.
-fn simulate_words(tree: &[u8], trace: &[u8]) {
-    simulate(Channel::Read, tree, trace, b"0");
-    simulate(Channel::Read, tree, trace, b"1");
-    simulate(Channel::Read, tree, trace, b"65536");
-    simulate(Channel::Read, tree, trace, b"65537");
-    simulate(Channel::Read, tree, trace, b"99999999999999999999999999");
-    simulate(Channel::Read, tree, trace, b"");
-    simulate(Channel::Read, tree, trace, b"00");
-    simulate(Channel::Read, tree, trace, b"-1");
-    simulate(Channel::Read, tree, trace, b"1x");
+fn simulate_words(out: &impl Print, tree: &[u8], trace: &[u8]) {
+    simulate(out, Channel::Read, tree, trace, b"0");
+    simulate(out, Channel::Read, tree, trace, b"1");
+    simulate(out, Channel::Read, tree, trace, b"65536");
+    simulate(out, Channel::Read, tree, trace, b"65537");
+    simulate(
+        out,
+        Channel::Read,
+        tree,
+        trace,
+        b"99999999999999999999999999",
+    );
+    simulate(out, Channel::Read, tree, trace, b"");
+    simulate(out, Channel::Read, tree, trace, b"00");
+    simulate(out, Channel::Read, tree, trace, b"-1");
+    simulate(out, Channel::Read, tree, trace, b"1x");
 }
 
 // The same trace as writes: accelerator 1 has none, and the run is stopped with its request held. So it is where that request comes
 // first; without it the run is done.
-fn simulate_writes(tree: &[u8], trace: &[u8]) {
-    simulate(Channel::Write, tree, trace, b"0");
-    simulate(Channel::Write, tree, trace, b"1");
-    simulate(Channel::Write, tree, trace, b"4");
-    simulate(Channel::Write, tree, b"o\t0\t1\t1\no\t2\t0\t1\n", b"4");
-    simulate(Channel::Write, tree, b"o\t0\t0\t2\n", b"65536");
-    simulate(Channel::Write, tree, trace, b"65537");
-    simulate(Channel::Write, tree, trace, b"x");
+fn simulate_writes(out: &impl Print, tree: &[u8], trace: &[u8]) {
+    simulate(out, Channel::Write, tree, trace, b"0");
+    simulate(out, Channel::Write, tree, trace, b"1");
+    simulate(out, Channel::Write, tree, trace, b"4");
+    simulate(out, Channel::Write, tree, b"o\t0\t1\t1\no\t2\t0\t1\n", b"4");
+    simulate(out, Channel::Write, tree, b"o\t0\t0\t2\n", b"65536");
+    simulate(out, Channel::Write, tree, trace, b"65537");
+    simulate(out, Channel::Write, tree, trace, b"x");
 }
 
 // A refused tree, a refused trace, and then also a refused word.
-fn simulate_refused(tree: &[u8]) {
-    simulate(Channel::Read, b"x\n", b"", b"1");
-    simulate(Channel::Write, b"x\n", b"", b"65537");
-    simulate(Channel::Write, tree, b"o\t0\t2\t1\n", b"1");
-    simulate(Channel::Read, tree, b"o\t0\t2\t1\n", b"65537");
+fn simulate_refused(out: &impl Print, tree: &[u8]) {
+    simulate(out, Channel::Read, b"x\n", b"", b"1");
+    simulate(out, Channel::Write, b"x\n", b"", b"65537");
+    simulate(out, Channel::Write, tree, b"o\t0\t2\t1\n", b"1");
+    simulate(out, Channel::Read, tree, b"o\t0\t2\t1\n", b"65537");
 }
 
-fn reports(tree: &[u8]) {
-    report(tree);
+fn reports(out: &impl Print, tree: &[u8]) {
+    report(out, tree);
     report(
+        out,
         b"bus\t8\t1\t4\t2\t2\t30\t25\t1\t1\t16\nint\t0\t-\t-\t1\nacc\t0\t0\t0\t33\t2\t10\t5\t1000\t2000\n",
     );
-    report(b"");
+    report(out, b"");
 }
 
 // Acc lines in another order than their ports, and a return delay of 0; a delay of 3, interconnects above 9, the last port, and the
 // largest value of each field; a refused delay.
-fn rewritings() {
+fn rewritings(out: &impl Print) {
     rewrite(
+        out,
         b"bus\t8\t1\t4\t2\t2\t30\t25\t1\t1\t16\t0\n\
         int\t0\t-\t-\t1\n\
         acc\t0\t0\t3\t4\t2\t10\t5\t1000\t2000\n\
         acc\t1\t0\t0\t4\t2\t1\t0\t0\t100\n",
     );
     rewrite(
+        out,
         b"bus\t65535\t255\t255\t255\t255\t4095\t4095\t255\t255\t256\t3\n\
         int\t0\t-\t-\t16\n\
         int\t1\t0\t0\t1\n\
@@ -898,63 +944,71 @@ fn rewritings() {
         acc\t1\t9\t7\t4\t2\t10\t5\t1000\t2000\n\
         acc\t3\t2\t5\t4\t2\t10\t5\t1000\t2000\n",
     );
-    rewrite(b"bus\t8\t1\t4\t2\t2\t30\t25\t1\t1\t16\t16\n");
+    rewrite(out, b"bus\t8\t1\t4\t2\t2\t30\t25\t1\t1\t16\t16\n");
 }
 
 // A board that speaks AXI3: report, where every job meets its period, and text, and bursts of up to 16 beats and of more, with B 5.
-fn older_board() {
+fn older_board(out: &impl Print) {
     let tree =
         b"bus3\t8\t1\t4\t2\t2\t30\t25\t1\t1\t5\t0\nint\t0\t-\t-\t1\nacc\t0\t0\t0\t4\t2\t10\t5\t1000\t4000\n";
-    report(tree);
-    rewrite(tree);
-    split(tree, 3, 16, 4);
-    split(tree, 3, 17, 4);
-    split(tree, 0, 256, 1);
-    split(tree, 0, 0, 4);
-    split(tree, 0, 16, 3);
-    split(tree, 4095, 17, 3);
-    split(tree, 4095, 16, 4);
+    report(out, tree);
+    rewrite(out, tree);
+    split(out, tree, 3, 16, 4);
+    split(out, tree, 3, 17, 4);
+    split(out, tree, 0, 256, 1);
+    split(out, tree, 0, 0, 4);
+    split(out, tree, 0, 16, 3);
+    split(out, tree, 4095, 17, 3);
+    split(out, tree, 4095, 16, 4);
 }
 
 // Its bus line refused: B, a second bus line of either name, and names that no record has.
-fn older_refused() {
-    rewrite(b"bus3\t8\t1\t4\t2\t2\t30\t25\t1\t1\t17\n");
-    rewrite(b"bus3\t8\t1\t4\t2\t2\t30\t25\t1\t1\t16\nbus\t8\t1\t4\t2\t2\t30\t25\t1\t1\t16\n");
-    rewrite(b"bus\t8\t1\t4\t2\t2\t30\t25\t1\t1\t17\nbus3\t8\t1\t4\t2\t2\t30\t25\t1\t1\t16\n");
-    rewrite(b"bus33\t8\t1\t4\t2\t2\t30\t25\t1\t1\t16\n");
-    rewrite(b"BUS3\t8\t1\t4\t2\t2\t30\t25\t1\t1\t16\n");
-    rewrite(b"bus \t8\t1\t4\t2\t2\t30\t25\t1\t1\t16\n");
+fn older_refused(out: &impl Print) {
+    rewrite(out, b"bus3\t8\t1\t4\t2\t2\t30\t25\t1\t1\t17\n");
+    rewrite(
+        out,
+        b"bus3\t8\t1\t4\t2\t2\t30\t25\t1\t1\t16\nbus\t8\t1\t4\t2\t2\t30\t25\t1\t1\t16\n",
+    );
+    rewrite(
+        out,
+        b"bus\t8\t1\t4\t2\t2\t30\t25\t1\t1\t17\nbus3\t8\t1\t4\t2\t2\t30\t25\t1\t1\t16\n",
+    );
+    rewrite(out, b"bus33\t8\t1\t4\t2\t2\t30\t25\t1\t1\t16\n");
+    rewrite(out, b"BUS3\t8\t1\t4\t2\t2\t30\t25\t1\t1\t16\n");
+    rewrite(out, b"bus \t8\t1\t4\t2\t2\t30\t25\t1\t1\t16\n");
 }
 
 // The texts of the programs on a tree: the reports, the rewritings, the runs, the waits, the pieces.
-fn programs(tree: &[u8]) {
-    reports(tree);
-    rewritings();
-    simulate_words(tree, b"o\t0\t0\t1\no\t1\t1\t1\n");
-    simulate_writes(tree, b"o\t0\t0\t1\no\t1\t1\t1\n");
-    simulate_refused(tree);
-    why_words(tree);
-    why_writes(tree);
-    splits(tree);
-    older_board();
-    older_refused();
+fn programs(out: &impl Print, tree: &[u8]) {
+    reports(out, tree);
+    rewritings(out);
+    simulate_words(out, tree, b"o\t0\t0\t1\no\t1\t1\t1\n");
+    simulate_writes(out, tree, b"o\t0\t0\t1\no\t1\t1\t1\n");
+    simulate_refused(out, tree);
+    why_words(out, tree);
+    why_writes(out, tree);
+    splits(out, tree);
+    older_board(out);
+    older_refused(out);
 }
 
-fn main() {
-    show_usage();
+fn main(rt: HostRuntime) {
+    let out = &rt;
+    show_usage(out);
     programs(
+        out,
         b"bus\t8\t1\t4\t2\t2\t30\t25\t1\t1\t16\nint\t0\t-\t-\t1\nacc\t0\t0\t0\t4\t2\t10\t5\t1000\t2000\nacc\t1\t0\t3\t4\t2\t1\t0\t0\t100\n",
     );
-    report_lines();
-    simulate_lines();
-    why_lines();
-    channel_lines();
-    split_lines();
-    address_lines();
-    load_all();
-    say_shapes();
-    say_fields();
-    say_limits();
-    say_numbers();
-    say_older();
+    report_lines(out);
+    simulate_lines(out);
+    why_lines(out);
+    channel_lines(out);
+    split_lines(out);
+    address_lines(out);
+    load_all(&rt, &mut rt.stdin(), &rt.stderr());
+    say_shapes(out);
+    say_fields(out);
+    say_limits(out);
+    say_numbers(out);
+    say_older(out);
 }

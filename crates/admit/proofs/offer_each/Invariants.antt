@@ -1,0 +1,19 @@
+-- `offer_each` meets its contract: the offers that are left, made on the arrays as they are, are what all offers come to.
+use Prim.Native.Nat.{◌+◌, ◌*◌, ◌-◌, ◌<◌}
+use mathlib.Core.Path.{◌≡◌, refl, sym, ◌∙◌, ap}
+use native.Mathlib.Omega.{arith}
+use borrow.Author.Rules.{rules}
+use lib.Bits.{and_le_l}
+use lib.Count.{trailing_le}
+use lib.Dec.{ltb}
+use Rattle.folds.specs.Fold.{pick}
+use Rattle.admit.specs.Admitting.{is_in, arrays_of, offers_in, offers_before}
+use Rattle.admit.proofs.Offers.{in_lowest, left_less, in_empty}
+use Rattle.admit.proofs.offer_each.Given as goal
+
+abbrev pub invariant-loop-a : goal.invariant-loop-a
+invariant-loop-a l = (l.a < 256) × (l.rest < 4294967296)
+    × (offers_before l.table l.a (is_in l.rest) (arrays_of l.blocks l.under l.turns) ≡ offers_before l.table l.first (is_in l.others) (arrays_of l.initial.blocks l.initial.under l.initial.turns))
+
+abbrev pub decreases-loop-a : goal.decreases-loop-a
+decreases-loop-a l = 2 * l.rest + pick (ltb l.a 32) 1 0

@@ -1,0 +1,17 @@
+-- `table_of` meets its contract: the loop has filled the table below the next place.
+use Prim.Native.Nat.{◌-◌}
+use mathlib.Core.Path.{refl}
+use lib.ListN.{replicate}
+use native.Mathlib.Omega.{arith}
+use borrow.Author.Rules.{rules}
+use Rattle.folds.proofs.Entries.{Filled, filled_none, filled_more, filled_all}
+use Rattle.counts.specs.Table.{entry_of}
+use Rattle.counts.proofs.tables.table_of.Goals as goal
+
+pub loop-n-init : goal.loop-n-init
+loop-n-init c = filled_none 246 _ (replicate 246 0) refl
+
+pub loop-n-preserved : goal.loop-n-preserved
+loop-n-preserved c =
+    let l = c.loop-n in
+    filled_more 246 _ l.table l.n _ c.loop-n-test.true c.entry_at.ensures l.invariant
