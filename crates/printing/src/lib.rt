@@ -34,14 +34,7 @@ fn say_help(out: &impl Print, errors: &impl Print, p: Program) {
 }
 
 // The refusal: the line of document 01, and for a person the file's name and what is wrong.
-fn refuse(
-    out: &impl Print,
-    errors: &impl Print,
-    name: &[u8],
-    tree: &[u8],
-    number: u8,
-    line: u32,
-) {
+fn refuse(out: &impl Print, errors: &impl Print, name: &[u8], tree: &[u8], number: u8, line: u32) {
     let mut page = [0u8; 65536];
     let n = listing::refusal_text(number, line, &mut page);
     input::write_out(out, errors, page_text(&page, n));
@@ -97,7 +90,13 @@ pub fn run(
     let c = input::word(rt, 3, &mut third);
     let name = &first[0..a];
     let terminal = stdin.is_terminal();
-    let asked = usage::file_asked(input::words(rt), name, &second[0..b], &third[0..c], terminal);
+    let asked = usage::file_asked(
+        input::words(rt),
+        name,
+        &second[0..b],
+        &third[0..c],
+        terminal,
+    );
     match asked {
         Asked::Usage => say_usage(errors, p),
         Asked::Help => say_help(rt, errors, p),

@@ -115,14 +115,7 @@ pub fn reason_text(trace: bool, s: &[u8], number: u8, line: u32, out: &mut [u8; 
 }
 
 // Says on standard error, for every program, why the file of that name, a tree or, if `trace`, a trace, is refused.
-pub fn explain(
-    errors: &impl Print,
-    name: &[u8],
-    trace: bool,
-    s: &[u8],
-    number: u8,
-    line: u32,
-) {
+pub fn explain(errors: &impl Print, name: &[u8], trace: bool, s: &[u8], number: u8, line: u32) {
     let mut page = [0u8; 65536];
     let n = reason_text(trace, s, number, line, &mut page);
     input::say_of(errors, name, input::page_text(&page, n));

@@ -13,7 +13,6 @@ use Rattle.model.specs.declared.Port.{Port}
 use Rattle.model.specs.declared.Port.TheVariants.{Acc}
 use Rattle.model.specs.Tree.{interconnect_of, accelerator_of}
 use Rattle.text.specs.Write.{decimal_text, digits, numbers, fields_text, line_text, file_text}
-use Rattle.lines.specs.declared.Kind.TheVariants.{IntLine}
 use Rattle.lines.specs.Lines.{bus_kind, name_of}
 use Rattle.put.specs.Page.{bytes, ended}
 use Rattle.writer.specs.Lines.{bus_front, bus_values, bus_as, bus_written, root_written, child_written, acc_written, int_text, acc_text}

@@ -6,12 +6,12 @@ use mathlib.Core.Path.{◌≡◌, refl, ap, sym, ◌∙◌, subst}
 use native.Mathlib.Numerals.{add-one}
 use native.Mathlib.Nat.{add-zero, zero-add, le_antisymm}
 use native.Mathlib.Omega.{arith}
-use lib.ListN.{length, take, get_or, length-append}
+use lib.ListN.{length, take, get_or}
 use lib.Seq.{take-suc, take-length}
 use Rattle.text.specs.Write.{decimal_text, numbers, rows, fields_text, file_text}
 use Rattle.put.specs.Page.{ended, joined}
 use Rattle.put.specs.Put.{Put}
-use Rattle.put.proofs.Puts.{put_none, put_then, put_most}
+use Rattle.put.proofs.Puts.{put_none, put_then}
 use Rattle.put.proofs.Lines.{joined_more}
 use Rattle.model.specs.declared.Tree.{Tree}
 use Rattle.model.specs.declared.Port.{Port}

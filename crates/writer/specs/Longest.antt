@@ -4,7 +4,7 @@
 -- carrier p            an interconnect on port p of interconnect 10 that carries eight accelerators, from 8 p on
 -- longest              root: interconnects 1 to 7 and 10; interconnect 1: 8 and 9; interconnect 10: 11 to 14, which carry eight
 --                      accelerators each. So every accelerator is on an interconnect, and interconnects 11 to 14 have a parent, of two digits
-use Rattle.std.specs.Prelude.{ℕ, suc, ◌+◌, ◌*◌, ◌/◌, ◌%◌, List, [], ◌∷◌, ◌++◌, eqb, replicate}
+use Rattle.std.specs.Prelude.{ℕ, suc, ◌+◌, ◌*◌, ◌/◌, ◌%◌, List, ◌∷◌, ◌++◌, eqb, replicate}
 use Rattle.model.specs.declared.Tree.{Tree}
 use Rattle.model.specs.declared.Interconnect.{Interconnect}
 use Rattle.model.specs.declared.PortCell.{PortCell}

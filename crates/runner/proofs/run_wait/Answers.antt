@@ -1,0 +1,101 @@
+-- `run_wait` meets its contract: each return is the ending that the tests before it pick, and what is told is told by a run alone.
+use mathlib.Core.Path.{◌≡◌, ap, sym, ◌∙◌}
+use borrow.Author.Rules.{rules}
+use Rattle.machine.specs.Answers.{fresh_means}
+use Rattle.trace.proofs.Traces.{reads_kept}
+use Rattle.runner.specs.Run.{start}
+use Rattle.runner.specs.Places.{left_at}
+use Rattle.runner.specs.Answers.{run_means}
+use Rattle.runner.specs.Wait.{waits_after, used_by}
+use Rattle.runner.proofs.Trace.{accepts_start}
+use Rattle.runner.proofs.Telling.{asked_known}
+use Rattle.runner.proofs.Endings.{begun, unbegun, ran_broken, ran_size, ran_read, told_broken, told_size, told_read_lem}
+use Rattle.runner.proofs.run_wait.Goals as goal
+
+pub returns-in_default : goal.returns-in_default
+returns-in_default c =
+    let fresh = c in
+    let x = fresh.args in
+    let u = c.untold.ensures in
+    let no = unbegun x.t x.channel _ _ fresh.fresh-start.ensures _ (ap fresh_means c.in_default.is) in
+    let r = ran_broken x.t x.channel x.trace.now x.out.now no in record {
+      answer = ap run_means u.answer ∙ r.0;
+      bytes = r.1;
+      wait = u.wait ∙ told_broken x.t x.channel x.trace.now x.a x.k _ no;
+    }
+
+pub returns-then-out-gt65536 : goal.returns-then-out-gt65536
+returns-then-out-gt65536 c =
+    let large = c in
+    let fresh = large in
+    let x = fresh.args in
+    let u = c.untold-then-out-gt65536.ensures in
+    let g = begun x.t x.channel _ _ fresh.fresh-start.ensures (ap fresh_means large.in-Started.is) in
+    let r = ran_size x.t x.channel x.trace.now x.out.now g.0 large.if-out-gt65536.true in record {
+      answer = ap run_means u.answer ∙ r.0;
+      bytes = r.1;
+      wait = u.wait ∙ told_size x.t x.channel x.trace.now x.a x.k _ g.0 large.if-out-gt65536.true;
+    }
+
+pub run_slots-requires : goal.run_slots-requires
+run_slots-requires c =
+    let accepted = c in
+    let read = accepted in
+    let small = read in
+    let fresh = small in
+    let x = fresh.args in
+    let g = begun x.t x.channel _ _ fresh.fresh-start.ensures (ap fresh_means small.in-Started.is) in
+    let y = sym (read.read_requests.ensures ∙ reads_kept x.t _ g.0) ∙ accepted.in-Accepted.is in
+    (g.0, g.1, small.if-out-gt65536.false, accepts_start x.t x.trace.now y, asked_known x.t x.a x.k _ c.number_asked-number.ensures)
+
+pub returns-in-Accepted : goal.returns-in-Accepted
+returns-in-Accepted c =
+    let ran = c in
+    let accepted = ran in
+    let read = accepted in
+    let small = read in
+    let fresh = small in
+    let x = fresh.args in
+    let g = begun x.t x.channel _ _ fresh.fresh-start.ensures (ap fresh_means small.in-Started.is) in
+    let y = sym (read.read_requests.ensures ∙ reads_kept x.t _ g.0) ∙ accepted.in-Accepted.is in
+    let e = ran_read x.t x.channel x.trace.now x.out.now g.0 small.if-out-gt65536.false _ y in
+    let w = told_read_lem x.t x.channel x.trace.now x.a x.k _ g.0 small.if-out-gt65536.false _ y in
+    let r = ran.run_slots.ensures in
+    let rs = left_at x.trace.now 0 in
+    let asked = ap (waits_after x.t (start x.t x.channel rs) (used_by x.t x.channel rs _) x.a) ran.number_asked-number.ensures in record {
+      answer = r.answer ∙ e.0;
+      bytes = r.bytes ∙ e.1;
+      wait = r.wait ∙ asked ∙ w;
+    }
+
+pub returns-in-Refused : goal.returns-in-Refused
+returns-in-Refused c =
+    let why = c in
+    let read = why in
+    let small = read in
+    let fresh = small in
+    let x = fresh.args in
+    let u = c.untold-in-Refused.ensures in
+    let g = begun x.t x.channel _ _ fresh.fresh-start.ensures (ap fresh_means small.in-Started.is) in
+    let y = sym (read.read_requests.ensures ∙ reads_kept x.t _ g.0) ∙ why.in-Refused.is in
+    let e = ran_read x.t x.channel x.trace.now x.out.now g.0 small.if-out-gt65536.false _ y in record {
+      answer = ap run_means u.answer ∙ e.0;
+      bytes = e.1;
+      wait = u.wait ∙ told_read_lem x.t x.channel x.trace.now x.a x.k _ g.0 small.if-out-gt65536.false _ y;
+    }
+
+pub returns-in-Broken : goal.returns-in-Broken
+returns-in-Broken c =
+    let broken = c in
+    let read = broken in
+    let small = read in
+    let fresh = small in
+    let x = fresh.args in
+    let u = c.untold-in-Broken.ensures in
+    let g = begun x.t x.channel _ _ fresh.fresh-start.ensures (ap fresh_means small.in-Started.is) in
+    let y = sym (read.read_requests.ensures ∙ reads_kept x.t _ g.0) ∙ broken.in-Broken.is in
+    let e = ran_read x.t x.channel x.trace.now x.out.now g.0 small.if-out-gt65536.false _ y in record {
+      answer = ap run_means u.answer ∙ e.0;
+      bytes = e.1;
+      wait = u.wait ∙ told_read_lem x.t x.channel x.trace.now x.a x.k _ g.0 small.if-out-gt65536.false _ y;
+    }
