@@ -6,7 +6,7 @@
 -- added d p i x       the store with x added there; a sum goes round at 2 to the 64th power
 -- cleared d p n       the store with the numbers 0 to n - 1 of the part set to 0
 -- noted d p i same    the store with one counted there, unless two answers are the same
-use Rattle.std.specs.Prelude.{ℕ, zero, suc, ◌+◌, ◌%◌, ◌^◌, Bool, List, set, slice_index, slice_set}
+use Rattle.std.specs.Prelude.{ℕ, zero, suc, ◌+◌, ◌%◌, ◌^◌, Bool, List, slice_index, slice_set}
 use Rattle.folds.specs.Fold.{pick}
 
 unfoldable pub place_of : ℕ → ℕ → ℕ

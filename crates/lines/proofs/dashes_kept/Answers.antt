@@ -1,10 +1,8 @@
 -- `dashes_kept` meets its contract: the loop has tested each field before the next one.
-use mathlib.Core.Path.{◌≡◌, refl, ap, sym, ◌∙◌, subst}
-use Prim.Native.Nat.{◌≤◌, ◌-◌}
+use mathlib.Core.Path.{refl, sym, subst}
+use Prim.Native.Nat.{◌≤◌}
 use native.Mathlib.Omega.{arith}
-use borrow.Author.Rules.{rules}
-use Rattle.folds.specs.Fold.{all}
-use Rattle.model.proofs.Sums.{all_none, all_turn, all_end}
+use Rattle.model.proofs.Sums.{all_none, all_turn}
 use Rattle.lines.specs.declared.Form.{Form}
 use Rattle.lines.specs.Lines.{dash_kept}
 use Rattle.lines.proofs.Fields.{form_count}

@@ -1,12 +1,5 @@
 -- `kind_of` meets its contract: its tests are those of the definition, in the same order.
-use Prim.Native.Nat.{ℕ}
-use mathlib.Core.Path.{◌≡◌, sym, ◌∙◌}
-use mathlib.Core.Bool.{false}
-use mathlib.Core.List.{List}
-use borrow.Author.Rules.{rules}
-use Rattle.text.specs.Text.{same}
-use Rattle.lines.specs.declared.Kind.TheVariants.{BusLine, IntLine, AccLine, OfferLine}
-use Rattle.lines.specs.Lines.{name_of}
+use mathlib.Core.Path.{sym, ◌∙◌}
 use Rattle.lines.proofs.Fields.{kind_bus, kind_int, kind_acc, kind_offer, kind_bus3, kind_none}
 use Rattle.lines.proofs.kind_of.Goals as goal
 

@@ -1,7 +1,6 @@
 -- `shape_kept` meets its contract: the tests are those of the definition, on what `is_record` and `form_of` give.
 use mathlib.Core.Path.{ap₂}
 use mathlib.Core.Bool.{Bool, ◌&&◌, not}
-use borrow.Author.Rules.{rules}
 use Rattle.folds.specs.Fold.{within}
 use Rattle.lines.specs.declared.Form.{Form}
 use Rattle.lines.specs.Lines.{shaped}

@@ -1,8 +1,5 @@
 -- `put_number` meets its contract: one digit is written as it is, and else the digits of n / 10 come before the last. The
 -- measure is n, which n / 10 is below.
-use Prim.Native.Nat.{ℕ, ◌<◌}
-use borrow.Author.Rules.{rules}
-use Rattle.put.proofs.Puts.{put_digit, put_digits}
 use Rattle.put.proofs.+put_number.Given as goal
 
 abbrev pub decreases-put_number : goal.decreases-put_number

@@ -1,11 +1,7 @@
 -- `put_bytes` meets its contract: before each turn the first i bytes of the text are stored.
-use mathlib.Core.Path.{◌≡◌, refl, ◌∙◌}
-use Prim.Native.Nat.{◌≤◌, ◌-◌}
-use native.Mathlib.Nat.{le_antisymm}
-use lib.ListN.{length, take}
+use mathlib.Core.Path.{◌∙◌}
 use borrow.Author.Rules.{rules}
-use Rattle.put.specs.Put.{Put}
-use Rattle.put.proofs.Puts.{put_none, put_next, put_whole}
+use Rattle.put.proofs.Puts.{put_next}
 use Rattle.put.proofs.put_bytes.Goals as goal
 
 pub loop-i-preserved : goal.loop-i-preserved

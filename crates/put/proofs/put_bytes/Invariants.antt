@@ -1,11 +1,8 @@
 -- `put_bytes` meets its contract: before each turn the first i bytes of the text are stored.
-use mathlib.Core.Path.{◌≡◌, refl, ◌∙◌}
+use mathlib.Core.Path.{◌≡◌}
 use Prim.Native.Nat.{◌≤◌, ◌-◌}
-use native.Mathlib.Nat.{le_antisymm}
 use lib.ListN.{length, take}
-use borrow.Author.Rules.{rules}
 use Rattle.put.specs.Put.{Put}
-use Rattle.put.proofs.Puts.{put_none, put_next, put_whole}
 use Rattle.put.proofs.put_bytes.Given as goal
 
 abbrev pub invariant-loop-i : goal.invariant-loop-i

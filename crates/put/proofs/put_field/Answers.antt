@@ -1,5 +1,4 @@
 -- `put_field` meets its contract: the number's text, and then the byte after it.
-use borrow.Author.Rules.{rules}
 use Rattle.put.proofs.Puts.{put_then}
 use Rattle.put.proofs.put_field.Goals as goal
 

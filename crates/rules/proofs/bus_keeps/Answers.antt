@@ -1,6 +1,4 @@
 -- `bus_keeps` meets its contract: each field is tested against its limits.
-use mir.Facts.{Fits-widen}
-use borrow.Author.Rules.{rules}
 use Rattle.rules.specs.Rules.{bus_keeps}
 use Rattle.rules.proofs.Returns.{no_low}
 use Rattle.model.proofs.Lists.{and_cong}

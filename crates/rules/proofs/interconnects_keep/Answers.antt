@@ -1,11 +1,9 @@
 -- `interconnects_keep` meets its contract: the loop has tested each number below the next one.
-use mathlib.Core.Path.{◌≡◌, sym}
-use Prim.Native.Nat.{◌≤◌, ◌-◌}
+use mathlib.Core.Path.{sym}
 use native.Mathlib.Omega.{arith}
 use borrow.Author.Rules.{rules}
-use Rattle.folds.specs.Fold.{all}
 use Rattle.rules.specs.Rules.{interconnect_keeps}
-use Rattle.model.proofs.Sums.{all_none, all_turn, all_end}
+use Rattle.model.proofs.Sums.{all_none, all_turn}
 use Rattle.rules.proofs.interconnects_keep.Goals as goal
 
 pub loop-j-init : goal.loop-j-init

@@ -1,12 +1,10 @@
 -- `ports_carry` meets its contract: the loop has tested each number below the next one.
-use mathlib.Core.Path.{◌≡◌, ap, sym, ◌∙◌}
-use Prim.Native.Nat.{◌≤◌, ◌-◌}
+use mathlib.Core.Path.{ap, sym, ◌∙◌}
 use native.Mathlib.Omega.{arith}
 use borrow.Author.Rules.{rules}
-use Rattle.folds.specs.Fold.{all}
 use Rattle.model.specs.Tree.{port_of}
 use Rattle.rules.specs.Rules.{carries}
-use Rattle.model.proofs.Sums.{all_none, all_turn, all_end}
+use Rattle.model.proofs.Sums.{all_none, all_turn}
 use Rattle.rules.proofs.ports_carry.Goals as goal
 
 pub loop-p-init : goal.loop-p-init

@@ -1,12 +1,9 @@
 -- `ports_carry` meets its contract: the loop has tested each number below the next one.
-use mathlib.Core.Path.{◌≡◌, ap, sym, ◌∙◌}
+use mathlib.Core.Path.{◌≡◌}
 use Prim.Native.Nat.{◌≤◌, ◌-◌}
-use native.Mathlib.Omega.{arith}
-use borrow.Author.Rules.{rules}
 use Rattle.folds.specs.Fold.{all}
 use Rattle.model.specs.Tree.{port_of}
 use Rattle.rules.specs.Rules.{carries}
-use Rattle.model.proofs.Sums.{all_none, all_turn, all_end}
 use Rattle.rules.proofs.ports_carry.Given as goal
 
 abbrev pub invariant-loop-p : goal.invariant-loop-p

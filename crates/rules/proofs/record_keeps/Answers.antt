@@ -3,7 +3,6 @@ use mathlib.Core.Path.{ap, ap₂, sym, ◌∙◌}
 use Prim.Native.Nat.{ℕ}
 use borrow.Author.Tests.{le-ltb, lt-ltb}
 use lib.Dec.{leb, eqb}
-use borrow.Author.Rules.{rules}
 use Rattle.model.specs.declared.Accelerator.{Accelerator}
 use Rattle.rules.specs.Rules.{on_the_way, record_keeps}
 use Rattle.folds.proofs.Folds.{picked, passed}

@@ -1,11 +1,8 @@
 -- `records_keep` meets its contract: the loop has tested each number below the next one.
-use mathlib.Core.Path.{◌≡◌, sym}
+use mathlib.Core.Path.{◌≡◌}
 use Prim.Native.Nat.{◌≤◌, ◌-◌}
-use native.Mathlib.Omega.{arith}
-use borrow.Author.Rules.{rules}
 use Rattle.folds.specs.Fold.{all}
 use Rattle.rules.specs.Rules.{record_keeps}
-use Rattle.model.proofs.Sums.{all_none, all_turn, all_end}
 use Rattle.rules.proofs.records_keep.Given as goal
 
 abbrev pub invariant-loop-a : goal.invariant-loop-a

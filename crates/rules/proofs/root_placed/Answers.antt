@@ -2,7 +2,6 @@
 use mathlib.Core.Path.{ap}
 use mathlib.Core.Bool.{◌&&◌}
 use lib.Dec.{eqb}
-use borrow.Author.Rules.{rules}
 use Rattle.model.specs.declared.Interconnect.{Interconnect}
 use Rattle.rules.specs.Rules.{root_placed}
 use Rattle.rules.proofs.root_placed.Goals as goal

@@ -3,7 +3,6 @@ use mathlib.Core.Path.{ap, ap₂, ◌∙◌, sym}
 use Prim.Native.Nat.{ℕ, min}
 use borrow.Author.Tests.{le-ltb, lt-ltb}
 use lib.Dec.{leb, eqb}
-use borrow.Author.Rules.{rules}
 use Rattle.model.specs.declared.Interconnect.{Interconnect}
 use Rattle.model.specs.Beneath.{waits_under}
 use Rattle.rules.specs.Rules.{turn_keeps}

@@ -1,11 +1,8 @@
 -- `turns_keep` meets its contract: the loop has tested each number below the next one.
-use mathlib.Core.Path.{◌≡◌, sym}
+use mathlib.Core.Path.{◌≡◌}
 use Prim.Native.Nat.{◌≤◌, ◌-◌}
-use native.Mathlib.Omega.{arith}
-use borrow.Author.Rules.{rules}
 use Rattle.folds.specs.Fold.{all}
 use Rattle.rules.specs.Rules.{turn_keeps}
-use Rattle.model.proofs.Sums.{all_none, all_turn, all_end}
 use Rattle.rules.proofs.turns_keep.Given as goal
 
 abbrev pub invariant-loop-j : goal.invariant-loop-j

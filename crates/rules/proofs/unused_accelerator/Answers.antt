@@ -2,7 +2,6 @@
 use mathlib.Core.Path.{ap}
 use mathlib.Core.Bool.{◌&&◌}
 use lib.Dec.{eqb}
-use borrow.Author.Rules.{rules}
 use Rattle.model.specs.declared.Accelerator.{Accelerator}
 use Rattle.rules.specs.Rules.{unused_accelerator}
 use Rattle.rules.proofs.unused_accelerator.Goals as goal

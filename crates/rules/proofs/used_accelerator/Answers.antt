@@ -2,8 +2,6 @@
 use mathlib.Core.Path.{ap, ◌∙◌}
 use mathlib.Core.Bool.{◌&&◌}
 use lib.Dec.{ltb, leb}
-use mir.Facts.{Fits-widen}
-use borrow.Author.Rules.{rules}
 use Rattle.model.specs.declared.Accelerator.{Accelerator}
 use Rattle.folds.specs.Fold.{within}
 use Rattle.model.specs.Tree.{port_of}

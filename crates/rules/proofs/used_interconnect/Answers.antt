@@ -2,7 +2,6 @@
 use mathlib.Core.Path.{ap, ◌∙◌}
 use Prim.Native.Nat.{ℕ}
 use lib.Dec.{leb}
-use borrow.Author.Rules.{rules}
 use Rattle.model.specs.declared.Interconnect.{Interconnect}
 use Rattle.folds.specs.Fold.{within}
 use Rattle.rules.specs.Rules.{used_interconnect}

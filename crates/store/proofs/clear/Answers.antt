@@ -1,5 +1,5 @@
 -- `clear` meets its contract: the loop has set each number before the next one.
-use Rattle.std.proofs.Common.{◌≡◌, ℕ, ◌+◌, ◌-◌, ◌≤◌, List, sym, refl, ap, ◌∙◌, add-one, arith, rules}
+use Rattle.std.proofs.Common.{◌≡◌, ℕ, ◌+◌, List, sym, refl, ap, ◌∙◌, add-one, arith, rules}
 use Rattle.store.specs.Store.{cleared, stored}
 use Rattle.store.proofs.clear.Goals as goal
 

@@ -1,6 +1,6 @@
 -- `clear` meets its contract: the loop has set each number before the next one.
-use Rattle.std.proofs.Common.{◌≡◌, ℕ, ◌+◌, ◌-◌, ◌≤◌, List, sym, refl, ap, ◌∙◌, add-one, arith, rules}
-use Rattle.store.specs.Store.{cleared, stored}
+use Rattle.std.proofs.Common.{◌≡◌, ◌-◌, ◌≤◌}
+use Rattle.store.specs.Store.{cleared}
 use Rattle.store.proofs.clear.Given as goal
 
 abbrev pub invariant-loop-i : goal.invariant-loop-i

@@ -1,11 +1,8 @@
 -- `field_end` meets its contract: no tab and no LF stands between the start and where the loop is.
 use mathlib.Core.Path.{◌≡◌}
 use Prim.Native.Nat.{◌≤◌, ◌-◌, ◌+◌}
-use native.Mathlib.Omega.{arith}
 use lib.ListN.{length, drop}
-use borrow.Author.Rules.{rules}
 use Rattle.text.specs.Text.{field_length}
-use Rattle.text.proofs.Fields.{field_none, field_tab, field_lf, field_more}
 use Rattle.text.proofs.field_end.Given as goal
 
 abbrev pub invariant-loop-end : goal.invariant-loop-end

@@ -1,10 +1,6 @@
 -- `part_end` meets its contract: no separator stands between the start and where the loop is.
-use mathlib.Core.Path.{◌≡◌}
-use Prim.Native.Nat.{◌≤◌, ◌-◌, ◌+◌}
 use native.Mathlib.Omega.{arith}
-use lib.ListN.{length, drop}
 use borrow.Author.Rules.{rules}
-use Rattle.text.specs.Text.{part_length}
 use Rattle.text.proofs.Parts.{part_here, part_more, part_none}
 use Rattle.text.proofs.part_end.Goals as goal
 

@@ -1,12 +1,12 @@
 -- `read_digits` meets its contract: what was read, moved up by the places that are passed, and the rest make the number.
-use mathlib.Core.Path.{◌≡◌, refl, ap, sym, ◌∙◌}
+use mathlib.Core.Path.{ap, sym, ◌∙◌}
 use Prim.Native.Nat.{◌≤◌, ◌<◌, ◌-◌, ◌+◌, ◌*◌, ◌^◌}
 use native.Mathlib.Omega.{arith}
 use lib.ListN.{length, drop, get_or}
 use borrow.Author.Rules.{rules}
 use Rattle.folds.proofs.Folds.{picked, passed}
-use Rattle.text.specs.Text.{all_digits, decimal}
-use Rattle.text.proofs.Digits.{digits_low, digits_high, digits_next, digits_end, decimal_end, decimal_next, below_ten, ten_fits}
+use Rattle.text.specs.Text.{decimal}
+use Rattle.text.proofs.Digits.{digits_low, digits_high, digits_next, digits_end, decimal_end, decimal_next, below_ten}
 use Rattle.text.specs.declared.Field.TheVariants.{Number}
 use Rattle.text.proofs.read_digits.Goals as goal
 

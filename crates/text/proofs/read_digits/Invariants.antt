@@ -1,13 +1,8 @@
 -- `read_digits` meets its contract: what was read, moved up by the places that are passed, and the rest make the number.
-use mathlib.Core.Path.{◌≡◌, refl, ap, sym, ◌∙◌}
+use mathlib.Core.Path.{◌≡◌}
 use Prim.Native.Nat.{◌≤◌, ◌<◌, ◌-◌, ◌+◌, ◌*◌, ◌^◌}
-use native.Mathlib.Omega.{arith}
-use lib.ListN.{length, drop, get_or}
-use borrow.Author.Rules.{rules}
-use Rattle.folds.proofs.Folds.{picked, passed}
+use lib.ListN.{length, drop}
 use Rattle.text.specs.Text.{all_digits, decimal}
-use Rattle.text.proofs.Digits.{digits_low, digits_high, digits_next, digits_end, decimal_end, decimal_next, below_ten, ten_fits}
-use Rattle.text.specs.declared.Field.TheVariants.{Number}
 use Rattle.text.proofs.read_digits.Given as goal
 
 abbrev pub invariant-loop-i : goal.invariant-loop-i

@@ -1,6 +1,5 @@
 -- `read_field` meets its contract: its tests are those of the definition, in the same order.
 use mathlib.Core.Path.{sym, ◌∙◌}
-use borrow.Author.Rules.{rules}
 use Rattle.text.proofs.Digits.{field_dash, field_short, field_long, field_zero, field_digits}
 use Rattle.text.proofs.read_field.Goals as goal
 

@@ -1,9 +1,6 @@
 -- `same_bytes` meets its contract: the bytes are equal exactly if they are equal from the place where the loop is.
-use mathlib.Core.Path.{◌≡◌, refl, sym, ◌∙◌}
-use Prim.Native.Nat.{◌≤◌, ◌-◌}
-use lib.ListN.{length, drop}
+use mathlib.Core.Path.{sym, ◌∙◌}
 use borrow.Author.Rules.{rules}
-use Rattle.text.specs.Text.{same}
 use Rattle.text.proofs.Digits.{same_long, same_not, same_next, same_end}
 use Rattle.text.proofs.same_bytes.Goals as goal
 

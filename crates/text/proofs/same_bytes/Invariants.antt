@@ -1,10 +1,8 @@
 -- `same_bytes` meets its contract: the bytes are equal exactly if they are equal from the place where the loop is.
-use mathlib.Core.Path.{◌≡◌, refl, sym, ◌∙◌}
+use mathlib.Core.Path.{◌≡◌}
 use Prim.Native.Nat.{◌≤◌, ◌-◌}
 use lib.ListN.{length, drop}
-use borrow.Author.Rules.{rules}
 use Rattle.text.specs.Text.{same}
-use Rattle.text.proofs.Digits.{same_long, same_not, same_next, same_end}
 use Rattle.text.proofs.same_bytes.Given as goal
 
 abbrev pub invariant-loop-i : goal.invariant-loop-i

@@ -1,15 +1,9 @@
 -- `live_set` meets its contract: the loop has the bits of the ports below the next one.
-use mathlib.Core.Path.{◌≡◌, ap, ◌∙◌}
-use Prim.Native.Nat.{ℕ, ◌≤◌, ◌-◌}
-use native.Mathlib.Omega.{arith}
-use native.Mathlib.Nat.{le_antisymm}
-use lib.ListN.{set}
+use mathlib.Core.Path.{◌≡◌}
+use Prim.Native.Nat.{◌≤◌, ◌-◌}
 use lib.Dec.{ltb}
-use borrow.Author.Rules.{rules}
-use Rattle.folds.specs.Fold.{pick}
 use Rattle.model.specs.Beneath.{waits_under}
 use Rattle.turns.specs.Turns.{bits_below}
-use Rattle.turns.proofs.Steps.{live_none, live_turn}
 use Rattle.turns.proofs.live_set.Given as goal
 
 abbrev pub invariant-loop-p : goal.invariant-loop-p

@@ -1,6 +1,6 @@
 -- `next_port` meets its contract: the empty set gives 8, and any other the port that the computed test has found.
 use borrow.Author.Rules.{rules}
-use Rattle.turns.proofs.Circle.{few_fit, none_live, some_live}
+use Rattle.turns.proofs.Circle.{none_live, some_live}
 use Rattle.turns.proofs.next_port.Goals as goal
 
 pub returns-then-set-eq0 : goal.returns-then-set-eq0

@@ -1,7 +1,6 @@
 -- `turn_at` meets its contract: whether the last port goes on picks the case of the definition.
 use mathlib.Core.Path.{ap, ap₂, ◌∙◌, subst}
 use Prim.Native.Nat.{ℕ, ◌≤◌, ◌<◌, min}
-use borrow.Author.Rules.{rules}
 use Rattle.model.specs.declared.Interconnect.{Interconnect}
 use Rattle.model.specs.Beneath.{waits_under}
 use Rattle.turns.specs.Turns.{next_port}

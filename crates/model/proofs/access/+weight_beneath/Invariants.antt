@@ -1,16 +1,12 @@
 -- `weight_beneath` meets its contract: the levels fall, and the loop has added the ports below the next one.
 use mathlib.Core.List.{List}
-use mathlib.Core.Path.{◌≡◌, ap, sym, ◌∙◌}
-use Prim.Native.Nat.{ℕ, ◌≤◌, ◌<◌, ◌-◌, ◌*◌, ◌^◌}
-use native.Mathlib.Omega.{arith}
-use borrow.Author.Rules.{rules}
-use native.Mathlib.Nat.{pos_of_ne-zero}
+use mathlib.Core.Path.{◌≡◌}
+use Prim.Native.Nat.{ℕ, ◌≤◌, ◌-◌, ◌*◌, ◌^◌}
 use Rattle.model.specs.declared.Tree.{Tree}
 use Rattle.model.specs.declared.Port.{Port}
 use Rattle.folds.specs.Fold.{sum as total}
 use Rattle.model.specs.Tree.{port_of}
 use Rattle.model.specs.Beneath.{weight_in, under, inside}
-use Rattle.model.proofs.Sums.{sum_none, inside_at_none, inside_step, add_port, eight_ports, sum_turn, sum_end, eight_at_most, room, byte_beneath}
 use Rattle.model.proofs.access.+weight_beneath.Given as goal
 
 -- the weight beneath a port that carries x, over n levels; beneath port q of interconnect j, one level less
