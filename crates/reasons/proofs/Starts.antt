@@ -12,7 +12,6 @@ use mathlib.Core.Bool.{Bool, true, false, not}
 use lib.ListN.{length-take, length-drop}
 use Rattle.text.specs.Text.{part_length}
 use Rattle.text.proofs.Parts.{part_fits}
-use Rattle.lines.specs.declared.Kind.{Kind}
 use Rattle.lines.specs.declared.Kind.TheVariants.{NoRecord, BusLine, OfferLine}
 use Rattle.reasons.specs.Words.{from_part, part_at}
 use Rattle.reasons.specs.Reasons.{fits, first_failing}
