@@ -224,3 +224,9 @@ tells t ch s a k o lo x X d l w W bs B = go x X
         record { service = untold (run.broken n) Y refl; told = λ v i r j. (i ∙ e.0, j ∙ e.1) }
     go (run.done n) Y = went (run.done n) Y (λ A u v. refl) (λ z. refl) (λ v. refl)
     go (run.stopped n) Y = went (run.stopped n) Y (λ A u v. refl) (λ z. refl) (λ v. refl)
+
+-- the answer and the buffer of the case of how the run ended
+pub by_end : (t : Tree) (a k : ℕ) (w : Waits) (bs d : List ℕ) (x y : Ending) → y ≡ x → (v : Why) → v ≡ why_by y (answer_by t a k w)
+    → (l : List ℕ) → l ≡ left_by y d (buffer_by t a k w bs d) → (v ≡ why_by x (answer_by t a k w)) × (l ≡ left_by x d (buffer_by t a k w bs d))
+by_end t a k w bs d x y X v i l j =
+    (i ∙ ap (λ (e : Ending). why_by e (answer_by t a k w)) X, j ∙ ap (λ (e : Ending). left_by e d (buffer_by t a k w bs d)) X)
