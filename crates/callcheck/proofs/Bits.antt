@@ -1,6 +1,5 @@
 -- A bit of the returns beside the slot in which that transaction comes home: by the test of the second machine.
 use Rattle.std.proofs.Common.{◌≡◌, ℕ, Bool, true, false, not, List, sym, ap, ◌∙◌}
-use Rattle.folds.specs.Fold.{pick}
 use Rattle.folds.proofs.Folds.{picked, passed}
 use Rattle.second.specs.Machine.{is_due}
 use Rattle.callcheck.specs.Same.{bit_is, same_return, same_bits}

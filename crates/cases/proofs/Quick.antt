@@ -30,7 +30,7 @@ use Rattle.lines.specs.declared.FileAnswer.TheVariants.{Accepted, Refused, Broke
 use Rattle.text.specs.Text.{lines}
 use Rattle.trace.specs.TraceFile.{read_trace, requests}
 use Rattle.machine.specs.Machine.{Answer, Outcome, fresh_state, on_admitted, offered_within, offered, slotted_within}
-use Rattle.machine.specs.Calls.{Call, slot, step, answers_of}
+use Rattle.machine.specs.Calls.{Call, step, answers_of}
 use Rattle.machine.proofs.Laws.{fresh_keeps, offer_keeps, slot_keeps}
 use Rattle.machine.proofs.Steps.{offer_passed, slot_passed}
 use Rattle.machine.proofs.Within.{step_within, step_within_lem, step_keeps}

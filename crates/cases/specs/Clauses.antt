@@ -20,7 +20,7 @@
 -- on_channel c          the figures on channel c, each headed by what it is for; others: those that name no channel
 -- clauses              the figures on both channels, and the others
 -- The claim, every clauses, is proved in `proofs/Clauses.antt`.
-use Rattle.std.specs.Prelude.{ℕ, zero, suc, ◌+◌, ◌-◌, true, false, List, [], ◌∷◌, ◌++◌, length, replicate}
+use Rattle.std.specs.Prelude.{ℕ, zero, suc, ◌-◌, true, false, List, [], ◌∷◌, ◌++◌, length, replicate}
 use Rattle.model.specs.declared.Tree.{Tree}
 use Rattle.model.specs.declared.State.{State}
 use Rattle.model.specs.declared.Bus.{Bus}
@@ -29,7 +29,6 @@ use Rattle.model.specs.declared.PortCell.{PortCell}
 use Rattle.model.specs.declared.Port.TheVariants.{Acc, Int}
 use Rattle.model.specs.declared.Channel.{Channel}
 use Rattle.model.specs.declared.Channel.TheVariants.{Read, Write}
-use Rattle.folds.specs.Fold.{all}
 use Rattle.model.specs.Tree.{empty_cell, no_accelerator, limit_of}
 use Rattle.model.specs.Trees.{ports, interconnect, block, tree, pair, chain, timed, nested, worked}
 use Rattle.model.specs.Builders.{zero_state, with_counts, with_turns, at_slot, with_bus, with_accelerators, with_job}

@@ -30,7 +30,6 @@ use Rattle.model.specs.declared.Tree.{Tree}
 use Rattle.model.specs.declared.State.{State}
 use Rattle.model.specs.declared.Channel.{Channel}
 use Rattle.model.specs.declared.Channel.TheVariants.{Read, Write}
-use Rattle.folds.specs.Fold.{all}
 use Rattle.rules.specs.Rules.{keeps}
 use Rattle.machine.specs.Machine.{Answer, admitted, served, idle, refused, Beginning, freshened, fresh_state}
 use Rattle.machine.specs.Calls.{Call, offer, slot, answers_of}

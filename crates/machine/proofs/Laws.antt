@@ -13,7 +13,7 @@ use Rattle.model.specs.declared.Tree.{Tree}
 use Rattle.model.specs.declared.State.{State}
 use Rattle.model.specs.declared.Channel.{Channel}
 use Rattle.folds.specs.Fold.{pick}
-use Rattle.model.specs.Tree.{granularity_of, job_of, phi_of, limit_of, budget_of, window_of, path, delay_of, waiting_of, returns_of, outstanding_of, admitted_of, last_of, allowance_of}
+use Rattle.model.specs.Tree.{granularity_of, job_of, phi_of, limit_of, budget_of, window_of, path, waiting_of, outstanding_of, admitted_of, last_of, allowance_of}
 use Rattle.model.specs.Beneath.{waits_under}
 use Rattle.rules.specs.Rules.{tree_keeps, keeps}
 use Rattle.folds.proofs.Folds.{joined, picked, passed, clash}
@@ -24,8 +24,7 @@ use Rattle.machine.specs.Machine.{Answer, admitted, served, idle, refused, Outco
 use Rattle.machine.specs.Calls.{Call, offer, slot, step}
 use Rattle.turns.proofs.Descent.{Turned, Unturned, Choice, choice}
 use Rattle.machine.proofs.Cases.{Offered, refuses, admits, offer_cases, Stops, stopped, Slotted, stops, idles, serves, slot_cases}
-use Rattle.machine.proofs.Keeps.{zeros, fresh_kept, fresh_way, tick_kept, tick_way, admit_waiting, admit_admitted, admit_kept, admit_way, take_waiting, take_returns, take_kept}
-use Rattle.machine.proofs.Returns.{older_at}
+use Rattle.machine.proofs.Keeps.{zeros, fresh_kept, fresh_way, tick_kept, tick_way, admit_waiting, admit_admitted, admit_kept, admit_way, take_waiting, take_kept}
 use Rattle.machine.proofs.Windows.{window_opens}
 
 pub fresh_keeps : (t : Tree) (c : Channel) → tree_keeps t ≡ true → keeps t (fresh_state t c) ≡ true

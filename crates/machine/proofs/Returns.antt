@@ -3,7 +3,7 @@
 use Prim.Native.Nat.{ℕ, zero, suc, ◌+◌, ◌*◌, ◌/◌, ◌%◌, ◌^◌, ◌≤◌, ◌<◌}
 use mathlib.Core.List.{List, [], ◌∷◌, map}
 use mathlib.Core.Path.{◌≡◌, refl, sym, ap, ap₂, subst, ◌∙◌}
-use native.Mathlib.Nat.{pow-suc, mul_comm, mod-lt, not-suc-le-zero, le_of_suc-le-suc, zero-mod, mul_assoc, one-le-pow, div-add-mod'}
+use native.Mathlib.Nat.{pow-suc, mod-lt, not-suc-le-zero, le_of_suc-le-suc, zero-mod, mul_assoc, one-le-pow, div-add-mod'}
 use native.Mathlib.Numerals.{add-one}
 use native.Mathlib.Omega.{arith}
 use lib.Count.{ones, ones_cat}

@@ -13,7 +13,7 @@ use borrow.Author.Tests.{eq-eqb, ne_eqb, le-leb, lt-leb, leb-false}
 use Rattle.model.specs.declared.Tree.{Tree}
 use Rattle.model.specs.declared.State.{State}
 use Rattle.model.specs.declared.Channel.{Channel}
-use Rattle.model.specs.Tree.{window_of, delay_of, waiting_of, returns_of, outstanding_of, admitted_of, job_of, phi_of, limit_of, budget_of}
+use Rattle.model.specs.Tree.{window_of, delay_of, waiting_of, returns_of, outstanding_of, admitted_of, job_of, phi_of, budget_of}
 use Rattle.model.specs.Builders.{zero_state, with_counts, with_service, at_slot}
 use Rattle.rules.specs.Rules.{tree_keeps, keeps}
 use Rattle.rules.proofs.Sound.{limit_phi}

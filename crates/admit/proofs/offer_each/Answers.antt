@@ -1,13 +1,9 @@
 -- `offer_each` meets its contract: the offers that are left, made on the arrays as they are, are what all offers come to.
-use Prim.Native.Nat.{◌+◌, ◌*◌, ◌-◌, ◌<◌}
-use mathlib.Core.Path.{◌≡◌, refl, sym, ◌∙◌, ap}
+use mathlib.Core.Path.{sym, ◌∙◌, ap}
 use native.Mathlib.Omega.{arith}
-use borrow.Author.Rules.{rules}
 use lib.Bits.{and_le_l}
 use lib.Count.{trailing_le}
-use lib.Dec.{ltb}
-use Rattle.folds.specs.Fold.{pick}
-use Rattle.admit.specs.Admitting.{is_in, arrays_of, offers_in, offers_before}
+use Rattle.admit.specs.Admitting.{is_in, arrays_of, offers_in}
 use Rattle.admit.proofs.Offers.{in_lowest, left_less, in_empty}
 use Rattle.admit.proofs.offer_each.Goals as goal
 

@@ -1,12 +1,7 @@
 -- `offer_held` meets its contract: what is left of the offers, made on the arrays as they are, is what all of them come to.
-use mathlib.Core.Path.{◌≡◌, refl, sym, ◌∙◌, ap}
-use Prim.Native.Nat.{◌<◌}
-use native.Mathlib.Omega.{arith}
+use mathlib.Core.Path.{◌≡◌}
 use lib.ListN.{get_or}
-use borrow.Author.Rules.{rules}
-use Rattle.machine.specs.Answers.{offer_means}
 use Rattle.admit.specs.Admitting.{helds, arrays_of, offers_for}
-use Rattle.admit.proofs.Offers.{offers_refused, offers_none, held_less, offers_turn, offers_unknown, offers_known, reads_held, on_refused}
 use Rattle.admit.proofs.offer_held.Given as goal
 
 abbrev pub invariant-loop-blocks : goal.invariant-loop-blocks

@@ -1,10 +1,8 @@
 -- `offer_one` meets its contract: the answer is the one by the limits, and an admission's counts are stored.
 use mathlib.Core.Path.{refl, sym, ◌∙◌, ap}
-use native.Mathlib.Omega.{arith}
-use borrow.Author.Rules.{rules}
 use Rattle.machine.specs.Answers.{offer_means}
 use Rattle.admit.specs.Admitting.{arrays_of}
-use Rattle.admit.proofs.Offers.{on_refused, on_admitted_lem, admits_room, reads_answer, stored_one}
+use Rattle.admit.proofs.Offers.{on_refused, on_admitted_lem, reads_answer, stored_one}
 use Rattle.admit.proofs.offer_one.Goals as goal
 
 pub returns-in-Admitted : goal.returns-in-Admitted

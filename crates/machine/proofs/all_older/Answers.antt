@@ -1,11 +1,10 @@
 -- `all_older` meets its contract: the loop has made each below the next one older.
-use mathlib.Core.Path.{◌≡◌, ap, ◌∙◌}
-use Prim.Native.Nat.{ℕ, ◌≤◌, ◌-◌}
+use mathlib.Core.Path.{◌≡◌, ◌∙◌}
 use native.Mathlib.Omega.{arith}
 use borrow.Author.Rules.{rules}
 use lib.ListN.{length}
 use Rattle.machine.specs.Machine.{older}
-use Rattle.machine.proofs.Returns.{map_to, map_none, map_turn, map_end}
+use Rattle.machine.proofs.Returns.{map_none, map_turn, map_end}
 use Rattle.machine.proofs.all_older.Goals as goal
 
 pub loop-a-init : goal.loop-a-init

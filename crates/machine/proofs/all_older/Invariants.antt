@@ -1,11 +1,8 @@
 -- `all_older` meets its contract: the loop has made each below the next one older.
-use mathlib.Core.Path.{◌≡◌, ap, ◌∙◌}
-use Prim.Native.Nat.{ℕ, ◌≤◌, ◌-◌}
-use native.Mathlib.Omega.{arith}
-use borrow.Author.Rules.{rules}
-use lib.ListN.{length}
+use mathlib.Core.Path.{◌≡◌}
+use Prim.Native.Nat.{◌≤◌, ◌-◌}
 use Rattle.machine.specs.Machine.{older}
-use Rattle.machine.proofs.Returns.{map_to, map_none, map_turn, map_end}
+use Rattle.machine.proofs.Returns.{map_to}
 use Rattle.machine.proofs.all_older.Given as goal
 
 abbrev pub invariant-loop-a : goal.invariant-loop-a

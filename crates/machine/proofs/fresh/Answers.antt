@@ -1,7 +1,5 @@
 -- `fresh` meets its contract: the check of the configuration picks the case of the definition.
 use mathlib.Core.Path.{ap, sym, ◌∙◌}
-use borrow.Author.Tests.{not-true, not-false}
-use borrow.Author.Rules.{rules}
 use Rattle.rules.proofs.Sound.{sound}
 use Rattle.machine.specs.Machine.{beginning, started, not_started}
 use Rattle.machine.proofs.Steps.{fresh_11, fresh_started}

@@ -1,14 +1,8 @@
 -- `fresh_state` meets its contract: the loop has filled the last ports below the next one.
-use mathlib.Core.Path.{◌≡◌, ap, ap₂, ◌∙◌}
-use mathlib.Core.List.{List, ◌++◌}
-use Prim.Native.Nat.{ℕ, ◌≤◌, ◌-◌}
-use native.Mathlib.Omega.{arith}
-use lib.ListN.{drop, set, replicate}
-use borrow.Author.Rules.{rules}
-use borrow.Author.Fill.{fill_none, fill_more}
-use Rattle.model.specs.declared.State.{State}
-use Rattle.model.specs.Builders.{with_turns}
-use Rattle.machine.proofs.Steps.{last_ports}
+use mathlib.Core.Path.{◌≡◌}
+use mathlib.Core.List.{◌++◌}
+use Prim.Native.Nat.{◌≤◌, ◌-◌}
+use lib.ListN.{drop, replicate}
 use Rattle.machine.proofs.fresh_state.Given as goal
 
 abbrev pub invariant-loop-j : goal.invariant-loop-j

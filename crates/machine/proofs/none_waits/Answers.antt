@@ -1,12 +1,11 @@
 -- `none_waits` meets its contract: the loop has tested each number below the next one.
-use mathlib.Core.Path.{◌≡◌, ap, sym}
-use Prim.Native.Nat.{ℕ, ◌≤◌, ◌-◌}
+use mathlib.Core.Path.{ap, sym}
+use Prim.Native.Nat.{ℕ}
 use native.Mathlib.Omega.{arith}
 use lib.Dec.{eqb}
 use borrow.Author.Rules.{rules}
-use Rattle.folds.specs.Fold.{all}
 use Rattle.model.specs.Tree.{waiting_of}
-use Rattle.model.proofs.Sums.{all_none, all_turn, all_end}
+use Rattle.model.proofs.Sums.{all_none, all_turn}
 use Rattle.machine.proofs.none_waits.Goals as goal
 
 pub loop-a-init : goal.loop-a-init

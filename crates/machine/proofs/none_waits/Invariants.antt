@@ -1,12 +1,9 @@
 -- `none_waits` meets its contract: the loop has tested each number below the next one.
-use mathlib.Core.Path.{◌≡◌, ap, sym}
-use Prim.Native.Nat.{ℕ, ◌≤◌, ◌-◌}
-use native.Mathlib.Omega.{arith}
+use mathlib.Core.Path.{◌≡◌}
+use Prim.Native.Nat.{◌≤◌, ◌-◌}
 use lib.Dec.{eqb}
-use borrow.Author.Rules.{rules}
 use Rattle.folds.specs.Fold.{all}
 use Rattle.model.specs.Tree.{waiting_of}
-use Rattle.model.proofs.Sums.{all_none, all_turn, all_end}
 use Rattle.machine.proofs.none_waits.Given as goal
 
 abbrev pub invariant-loop-a : goal.invariant-loop-a

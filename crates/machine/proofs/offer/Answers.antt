@@ -1,7 +1,5 @@
 -- `offer` meets its contract: the check of the rules picks the case of the definition.
 use mathlib.Core.Path.{sym, ◌∙◌}
-use borrow.Author.Tests.{not-true, not-false}
-use borrow.Author.Rules.{rules}
 use Rattle.machine.proofs.Steps.{offer_11, offer_passed}
 use Rattle.machine.proofs.offer.Goals as goal
 

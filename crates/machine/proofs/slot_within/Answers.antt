@@ -1,17 +1,14 @@
 -- `slot_within` meets its contract: each return is the case of the definition that the tests before it pick.
-use mathlib.Core.Path.{refl, ap, ap₂, sym, ◌∙◌}
+use mathlib.Core.Path.{refl, ap, ◌∙◌}
 use Prim.Native.Nat.{ℕ}
 use native.Mathlib.Omega.{arith}
-use borrow.Author.Rules.{rules}
 use mathlib.Core.List.{List}
 use lib.ListN.{get_or}
 use Rattle.model.specs.declared.State.{State}
 use Rattle.model.specs.Tree.{returns_of}
 use Rattle.rules.proofs.Sound.{sound_of}
-use Rattle.machine.specs.Machine.{outcome, served, idle, tick, take_one}
 use Rattle.turns.proofs.Steps.{choice_same}
 use Rattle.machine.proofs.Cases.{few_returns}
-use Rattle.machine.proofs.Steps.{slot_10, idle_within, serves_within}
 use Rattle.machine.proofs.slot_within.Goals as goal
 
 pub ticked-next-requires : goal.ticked-next-requires

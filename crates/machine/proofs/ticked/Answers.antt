@@ -1,5 +1,4 @@
 -- `ticked` meets its contract: the tests of the window pick the case of the definition.
-use borrow.Author.Rules.{rules}
 use Rattle.machine.proofs.Steps.{tick_none, tick_opens, tick_stays}
 use Rattle.machine.proofs.ticked.Goals as goal
 

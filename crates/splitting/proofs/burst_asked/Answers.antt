@@ -1,4 +1,5 @@
 -- `burst_asked` meets its contract: the first word is an address and both others are numbers, or one of the three is neither.
+use borrow.Author.Rules.{rules}
 use Rattle.splitting.proofs.Words.{no_address, no_beats, no_size, all_said}
 use Rattle.splitting.proofs.burst_asked.Goals as goal
 
@@ -7,15 +8,22 @@ returns-in_default c = no_address _ _ _ _ c.address_asked-a.ensures c.in_default
 
 pub returns-in_default-b : goal.returns-in_default-b
 returns-in_default-b c =
-    no_beats _ _ _ _ c.address_asked-a.ensures _ c.in-Number.is _ _ c.number_asked-b.ensures
-    c.number_asked-c.ensures c.in_default-b.is
+    let named = c in
+    let said = named in
+    no_beats _ _ _ _ said.address_asked-a.ensures _ named.in-Number.is _ _ said.number_asked-b.ensures
+    said.number_asked-c.ensures c.in_default-b.is
 
 pub returns-in_default-c : goal.returns-in_default-c
 returns-in_default-c c =
-    no_size _ _ _ _ c.address_asked-a.ensures _ c.in-Number.is _ _ c.number_asked-b.ensures
-    c.number_asked-c.ensures c.in_default-c.is
+    let named = c in
+    let said = named in
+    no_size _ _ _ _ said.address_asked-a.ensures _ named.in-Number.is _ _ said.number_asked-b.ensures
+    said.number_asked-c.ensures c.in_default-c.is
 
 pub returns : goal.returns
 returns c =
-    all_said _ _ _ _ c.address_asked-a.ensures _ c.in-Number.is _ _ c.number_asked-b.ensures
-    c.number_asked-c.ensures _ c.in-Number-b.is _ c.in-Number-c.is
+    let counted = c in
+    let named = counted in
+    let said = named in
+    all_said _ _ _ _ said.address_asked-a.ensures _ named.in-Number.is _ _ said.number_asked-b.ensures
+    said.number_asked-c.ensures _ counted.in-Number-b.is _ c.in-Number-c.is

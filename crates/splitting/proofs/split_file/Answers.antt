@@ -1,28 +1,36 @@
 -- `split_file` meets its contract: in each arm answer and arrays are those of the reading which the arm names.
 use mathlib.Core.Path.{refl}
+use borrow.Author.Rules.{rules}
 use Rattle.splitting.proofs.Replies.{replied, started, counted}
 use Rattle.splitting.proofs.split_file.Goals as goal
 
 pub returns-in-Accepted : goal.returns-in-Accepted
 returns-in-Accepted c =
-    record {
-      answer = replied c.read_tree-x.ensures c.in-Accepted.is c.args.b _ c.reply_in.ensures.answer;
-      starts = started c.read_tree-x.ensures c.in-Accepted.is c.args.b _ _ c.reply_in.ensures.starts;
-      beats = counted c.read_tree-x.ensures c.in-Accepted.is c.args.b _ _ c.reply_in.ensures.beats;
+    let read = c.read_tree-x.ensures in
+    let told = c.in-Accepted.is in
+    let b = c.args.b in
+    let cut = c.reply_in.ensures in record {
+      answer = replied read told b _ cut.answer;
+      starts = started read told b _ _ cut.starts;
+      beats = counted read told b _ _ cut.beats;
     }
 
 pub returns-in-Refused : goal.returns-in-Refused
 returns-in-Refused c =
-    record {
-      answer = replied c.read_tree-x.ensures c.in-Refused.is c.args.b _ c.tree_denied.ensures;
-      starts = started c.read_tree-x.ensures c.in-Refused.is c.args.b _ _ refl;
-      beats = counted c.read_tree-x.ensures c.in-Refused.is c.args.b _ _ refl;
+    let read = c.read_tree-x.ensures in
+    let told = c.in-Refused.is in
+    let b = c.args.b in record {
+      answer = replied read told b _ c.tree_denied.ensures;
+      starts = started read told b _ _ refl;
+      beats = counted read told b _ _ refl;
     }
 
 pub returns-in-Broken : goal.returns-in-Broken
 returns-in-Broken c =
-    record {
-      answer = replied c.read_tree-x.ensures c.in-Broken.is c.args.b _ c.tree_denied-in-Broken.ensures;
-      starts = started c.read_tree-x.ensures c.in-Broken.is c.args.b _ _ refl;
-      beats = counted c.read_tree-x.ensures c.in-Broken.is c.args.b _ _ refl;
+    let read = c.read_tree-x.ensures in
+    let told = c.in-Broken.is in
+    let b = c.args.b in record {
+      answer = replied read told b _ c.tree_denied-in-Broken.ensures;
+      starts = started read told b _ _ refl;
+      beats = counted read told b _ _ refl;
     }

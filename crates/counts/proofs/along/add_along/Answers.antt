@@ -2,12 +2,8 @@
 -- whole path makes of those at the start.
 use mathlib.Core.Path.{refl, sym, ◌∙◌}
 use Prim.Native.Nat.{◌/◌}
-use lib.ListN.{take}
 use lib.Seq.{get_or-drop}
-use borrow.Author.Rules.{rules}
-use Rattle.counts.specs.Table.{parent_ports}
-use Rattle.counts.specs.Counts.{lives, up, raised, opened}
-use Rattle.counts.proofs.Steps.{up_none, up_out, up_root, up_next, Raises, raises_none, raises_port}
+use Rattle.counts.proofs.Steps.{up_none, up_out, up_root, up_next, raises_none, raises_port}
 use Rattle.counts.proofs.along.add_along.Goals as goal
 
 pub loop-left-preserved : goal.loop-left-preserved

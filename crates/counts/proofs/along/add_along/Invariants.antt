@@ -1,13 +1,9 @@
 -- `add_along` meets its contract: from where the loop stands, the rest of the path makes of the counts and sets what the
 -- whole path makes of those at the start.
-use mathlib.Core.Path.{refl, sym, ◌∙◌}
-use Prim.Native.Nat.{◌/◌}
 use lib.ListN.{take}
-use lib.Seq.{get_or-drop}
-use borrow.Author.Rules.{rules}
 use Rattle.counts.specs.Table.{parent_ports}
 use Rattle.counts.specs.Counts.{lives, up, raised, opened}
-use Rattle.counts.proofs.Steps.{up_none, up_out, up_root, up_next, Raises, raises_none, raises_port}
+use Rattle.counts.proofs.Steps.{Raises}
 use Rattle.counts.proofs.along.add_along.Given as goal
 
 abbrev pub invariant-loop-left : goal.invariant-loop-left

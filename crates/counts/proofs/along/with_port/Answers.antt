@@ -1,6 +1,5 @@
 -- `with_port` meets its contract: the bit is put in as computed at each set and port.
 use native.Mathlib.Omega.{arith}
-use borrow.Author.Rules.{rules}
 use Rattle.counts.proofs.Steps.{set_bit}
 use Rattle.counts.proofs.along.with_port.Goals as goal
 

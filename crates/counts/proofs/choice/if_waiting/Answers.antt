@@ -2,9 +2,8 @@
 -- set and port.
 use mathlib.Core.Path.{sym, ◌∙◌}
 use native.Mathlib.Omega.{arith}
-use borrow.Author.Rules.{rules}
-use borrow.Author.Tests.{eq-eqb, ne_eqb}
-use Rattle.folds.proofs.Folds.{picked, passed}
+use borrow.Author.Tests.{eq-eqb}
+use Rattle.folds.proofs.Folds.{picked}
 use Rattle.counts.proofs.Steps.{clear_bit}
 use Rattle.counts.proofs.choice.if_waiting.Goals as goal
 

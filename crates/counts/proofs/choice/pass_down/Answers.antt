@@ -1,5 +1,4 @@
 -- `pass_down` meets its contract: the four stores are those of the definition.
-use borrow.Author.Rules.{rules}
 use Rattle.counts.proofs.Steps.{stored_pass}
 use Rattle.counts.proofs.choice.pass_down.Goals as goal
 

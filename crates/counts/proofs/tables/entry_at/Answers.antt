@@ -1,6 +1,5 @@
 -- `entry_at` meets its contract: each test picks the part of the table.
 use mathlib.Core.Path.{sym, ◌∙◌, ap}
-use borrow.Author.Rules.{rules}
 use Rattle.model.specs.declared.Interconnect.{Interconnect}
 use Rattle.model.specs.declared.Accelerator.{Accelerator}
 use Rattle.counts.specs.Table.{port_number, carried_number}

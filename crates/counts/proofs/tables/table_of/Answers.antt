@@ -1,11 +1,7 @@
 -- `table_of` meets its contract: the loop has filled the table below the next place.
-use Prim.Native.Nat.{◌-◌}
 use mathlib.Core.Path.{refl}
 use lib.ListN.{replicate}
-use native.Mathlib.Omega.{arith}
-use borrow.Author.Rules.{rules}
-use Rattle.folds.proofs.Entries.{Filled, filled_none, filled_more, filled_all}
-use Rattle.counts.specs.Table.{entry_of}
+use Rattle.folds.proofs.Entries.{filled_none, filled_more}
 use Rattle.counts.proofs.tables.table_of.Goals as goal
 
 pub loop-n-init : goal.loop-n-init

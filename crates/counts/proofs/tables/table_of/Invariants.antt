@@ -1,10 +1,6 @@
 -- `table_of` meets its contract: the loop has filled the table below the next place.
 use Prim.Native.Nat.{◌-◌}
-use mathlib.Core.Path.{refl}
-use lib.ListN.{replicate}
-use native.Mathlib.Omega.{arith}
-use borrow.Author.Rules.{rules}
-use Rattle.folds.proofs.Entries.{Filled, filled_none, filled_more, filled_all}
+use Rattle.folds.proofs.Entries.{Filled}
 use Rattle.counts.specs.Table.{entry_of}
 use Rattle.counts.proofs.tables.table_of.Given as goal
 

@@ -1,3 +1,4 @@
+-- `put_digits` stays in its text and ends: its place falls from 20.
 use Rattle.std.proofs.Common.{◌≤◌}
 use Rattle.generator.proofs.generate.put_digits.Given as goal
 
