@@ -1,10 +1,6 @@
 -- `report_text` meets its contract: the test of the rules picks the report, for which the page has room, or nothing.
 use mathlib.Core.Path.{sym, ◌∙◌}
 use native.Mathlib.Omega.{arith}
-<<<<<<< HEAD
-=======
-use borrow.Author.Tests.{not-true, not-false}
->>>>>>> c8e1cfd4beccc48b1fd02183354e1ed0528230d5
 use borrow.Author.Rules.{rules}
 use Rattle.put.proofs.Puts.{put_laid, written_none}
 use Rattle.listing.proofs.Rows.{report_broken}
@@ -14,8 +10,4 @@ pub returns-then-not-tree_keeps : goal.returns-then-not-tree_keeps
 returns-then-not-tree_keeps c = written_none (report_broken _ (sym c.tree_keeps.ensures ∙ c.if-not-tree_keeps.true))
 
 pub returns : goal.returns
-<<<<<<< HEAD
 returns c = put_laid c.put_report.ensures (omega arith) (search rules)
-=======
-returns c = put_laid c.put_report.ensures (omega arith) c.put_report-arg-1.given.0.1
->>>>>>> c8e1cfd4beccc48b1fd02183354e1ed0528230d5
