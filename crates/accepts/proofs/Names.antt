@@ -2,10 +2,10 @@
 -- text is such a file of the same tree.
 use Prim.Native.Nat.{ℕ}
 use mathlib.Core.List.{List, ◌∷◌, ◌++◌, append_assoc}
-use mathlib.Core.Path.{◌≡◌, refl, sym, ◌∙◌, ap, subst}
+use mathlib.Core.Path.{◌≡◌, refl, sym, ◌∙◌, ap}
 use lib.Dec.{lit<}
 use lib.ListN.{drop}
-use borrow.Author.Tests.{eq-eqb, ne_eqb}
+use borrow.Author.Tests.{ne_eqb}
 use Rattle.text.specs.Text.{part_length}
 use Rattle.text.specs.Write.{numbers, fields_text, line_text, file_text}
 use Rattle.text.proofs.Written.{Clean, clean_none, clean_more}

@@ -3,7 +3,7 @@
 -- are what the rules say; at the end both are equal. By the laws of what a line stores, and by induction on what is left.
 use Prim.Native.Nat.{ℕ, ◌+◌, ◌≤◌, ◌<◌}
 use mathlib.Core.Bool.{Bool, true, false, ◌&&◌}
-use mathlib.Core.List.{List, [], ◌∷◌, ◌++◌}
+use mathlib.Core.List.{List, [], ◌∷◌}
 use mathlib.Core.Path.{◌≡◌, refl, sym, ◌∙◌, ap, subst}
 use native.Mathlib.Decide.{dec_lt}
 use native.Mathlib.Omega.{arith}
@@ -22,7 +22,7 @@ use Rattle.folds.specs.Fold.{pick, all, within}
 use Rattle.model.specs.Tree.{empty_cell, no_interconnect, no_accelerator, interconnect_of, granularity_of, parent_of, parent_port_of, level_of}
 use Rattle.model.specs.Tree.{accelerator_of, port_of, home_of, home_port_of, phi_of, budget_of}
 use Rattle.rules.specs.Rules.{is_empty, bus_keeps, root_placed, interconnect_keeps, used_interconnect, unused_interconnect, tree_keeps}
-use Rattle.rules.specs.Rules.{accelerator_keeps, unused_accelerator}
+use Rattle.rules.specs.Rules.{unused_accelerator}
 use Rattle.folds.proofs.Folds.{picked, passed, tests, joined, clash}
 use Rattle.rules.proofs.Sound.{Sound, sound, level_step}
 use Rattle.lines.specs.declared.Kind.TheVariants.{BusLine, IntLine, AccLine}

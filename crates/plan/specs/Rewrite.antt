@@ -7,7 +7,6 @@
 --                      answers of its tree
 -- rewrite_buffer q d    the buffer d then
 use Rattle.std.specs.Prelude.{ℕ, List}
-use Rattle.model.specs.declared.Tree.{Tree}
 use Rattle.lines.specs.declared.FileAnswer.{FileAnswer}
 use Rattle.lines.specs.declared.FileAnswer.TheVariants.{Accepted, Refused, Broken}
 use Rattle.lines.specs.Answer.{answer_number, answer_line}
