@@ -1,8 +1,8 @@
 -- The run on a channel is computed once, and what waits before its first slot; all that is answered follows from its bytes, as every wait begins in slot 0.
 use Prim.Native.Nat.{ℕ, zero, suc, ◌+◌, ◌≤◌, ◌<◌}
 use mathlib.Core.Bool.{Bool, true, ◌||◌}
-use mathlib.Core.List.{List, [], ◌∷◌, ◌++◌}
-use mathlib.Core.Path.{◌≡◌, refl, sym, ◌∙◌, ap, ap₂, subst}
+use mathlib.Core.List.{List, [], ◌∷◌}
+use mathlib.Core.Path.{◌≡◌, refl, sym, ◌∙◌, ap, ap₂}
 use native.Mathlib.Decide.{dec_lt}
 use native.Mathlib.Nat.{zero-add}
 use native.Mathlib.Omega.{arith}
@@ -28,7 +28,7 @@ use Rattle.runner.specs.Slots.{standing, bytes_before}
 use Rattle.runner.proofs.Laws.{ran, bytes_length}
 use Rattle.meeting.specs.Meeting.{crosses, meeting}
 use Rattle.runner.specs.Wait.{count_in, first, used_by, taken_by, admission_slot, service_slot}
-use Rattle.waits.specs.Why.{Why, entries, denied, waited, fewer, list_of, why_from}
+use Rattle.waits.specs.Why.{entries, denied, waited, fewer, list_of, why_from}
 use Rattle.runs.specs.Figures.{asked, Figures}
 
 first_here : (n : ℕ) (f : ℕ → Bool) → f 0 ≡ true → first (suc n) f ≡ 0

@@ -10,13 +10,13 @@ use native.Mathlib.Omega.{arith}
 use lib.Dec.{eqb, leb, ltb}
 use lib.ListN.{length, take, drop, length-append}
 use lib.Seq.{take_at, drop_at}
-use borrow.Author.Tests.{eq-eqb, ne_eqb, eqb-true, leb-true, leb-false, le-leb, lt-ltb, le-ltb}
+use borrow.Author.Tests.{eq-eqb, ne_eqb, leb-true, leb-false, lt-ltb, le-ltb}
 use Rattle.model.specs.declared.Tree.{Tree}
 use Rattle.model.specs.declared.State.{State}
 use Rattle.model.specs.declared.Channel.{Channel}
 use Rattle.folds.specs.Fold.{pick}
 use Rattle.model.specs.Tree.{waiting_of}
-use Rattle.rules.specs.Rules.{tree_keeps, keeps}
+use Rattle.rules.specs.Rules.{tree_keeps}
 use Rattle.folds.proofs.Folds.{picked, passed}
 use Rattle.rules.proofs.Sound.{sound}
 use Rattle.trace.specs.declared.Request.{Request}
@@ -24,10 +24,10 @@ use Rattle.machine.specs.Machine.{Answer, admitted, served, idle, refused, last_
 use Rattle.machine.specs.Calls.{Call, offer, slot, state_after}
 use Rattle.machine.proofs.Keeps.{zeros}
 use Rattle.machine.proofs.Laws.{fresh_keeps}
-use Rattle.guarantee.specs.Guarantee.{Event, event, events_of, admitted_by, queue_after, slots_in, admits_one, up_to, Guarantee}
+use Rattle.guarantee.specs.Guarantee.{Event, event, events_of, slots_in, admits_one, up_to}
 use Rattle.guarantee.proofs.Leads.{Leads, calls_lead}
 use Rattle.guarantee.proofs.Theorem.{guarantee}
-use Rattle.runner.specs.Run.{Run, with_due, before_slot, byte_of, last_byte, next, start}
+use Rattle.runner.specs.Run.{Run, with_due, before_slot, byte_of, last_byte, start}
 use Rattle.runner.specs.Slots.{standing, bytes_before}
 use Rattle.runner.proofs.Laws.{bytes_length}
 use Rattle.meeting.proofs.Deepest.{meeting_deepest}
@@ -35,13 +35,13 @@ use Rattle.runner.proofs.Telling.{count_append, count_one}
 use Rattle.runner.specs.Wait.{count_in, first, taken_by, admission_slot, service_slot}
 use Rattle.waits.specs.Why.{entries, wait_bytes}
 use Rattle.guarantee.specs.Windows.{admissions_by}
-use Rattle.runs.specs.Calls.{offers_each, slot_calls, calls_before, byte_in, bytes_in}
+use Rattle.runs.specs.Calls.{offers_each, calls_before, byte_in, bytes_in}
 use Rattle.runs.specs.Waits.{serves_one, services_of, Waited}
 use Rattle.guarantee.proofs.Events.{state_append, events_append, slots_append}
 use Rattle.runs.proofs.Events.{bytes_append, admissions_append}
 use Rattle.runs.proofs.Offers.{makes_each}
 use Rattle.runs.proofs.Theorem.{called}
-use Rattle.runs.proofs.Tickets.{services_append, balance, at_found, stands_at, in_time, never_idle, served_known}
+use Rattle.runs.proofs.Tickets.{balance, at_found, stands_at, in_time, never_idle, served_known}
 
 -- the least number
 by : {A : Type 0} (b : Bool) → (b ≡ true → A) → (b ≡ false → A) → A

@@ -1,8 +1,8 @@
 -- What `why` answers is so: by the tests of its definition, and by the law of the wait.
-use Prim.Native.Nat.{ℕ, ◌+◌, ◌*◌, ◌≤◌, ◌<◌}
+use Prim.Native.Nat.{ℕ, ◌*◌, ◌<◌}
 use mathlib.Core.Bool.{Bool, true, false, not, ◌||◌}
-use mathlib.Core.List.{List, [], ◌∷◌, ◌++◌}
-use mathlib.Core.Logic.{◌⊎◌, inl, inr}
+use mathlib.Core.List.{List}
+use mathlib.Core.Logic.{inl, inr}
 use mathlib.Core.Path.{◌≡◌, refl, sym, ◌∙◌, ap, subst}
 use native.Mathlib.Omega.{arith}
 use lib.Dec.{eqb, ltb, leb}
@@ -16,15 +16,14 @@ use Rattle.folds.proofs.Folds.{passed}
 use Rattle.text.specs.Text.{lines}
 use Rattle.lines.specs.declared.FileAnswer.{FileAnswer}
 use Rattle.lines.specs.declared.FileAnswer.TheVariants.{Accepted, Refused, Broken}
-use Rattle.trace.specs.declared.Request.{Request}
 use Rattle.trace.specs.TraceFile.{read_trace, requests}
-use Rattle.machine.specs.Machine.{fresh_state, last_slot}
+use Rattle.machine.specs.Machine.{fresh_state}
 use Rattle.runner.specs.Run.{start, run_for, end_of, answered, ran_of}
 use Rattle.runner.specs.Run.{done, stopped, Trail}
 use Rattle.runner.specs.Run as run
 use Rattle.runner.proofs.Laws.{ran}
-use Rattle.runner.specs.Wait.{admission_slot, used_by}
-use Rattle.waits.specs.Why.{entries, list_of, list_over, Why, refused_at, denied, waited, fewer, why_from, buffer_from, why_read, buffer_read, why_of, why_buffer}
+use Rattle.runner.specs.Wait.{used_by}
+use Rattle.waits.specs.Why.{entries, list_of, Why, refused_at, denied, waited, fewer, why_from, buffer_from, why_read, buffer_read, why_of, why_buffer}
 use Rattle.waits.proofs.Pairs.{entries_length}
 use Rattle.runs.specs.Calls.{Reports, events_of_run, bytes_in}
 use Rattle.runs.specs.Waits.{Waited, WhyIsTrue}

@@ -1,5 +1,4 @@
 -- `put_all` meets its contract: the parts of the line are stored one after the other.
-use borrow.Author.Rules.{rules}
 use Rattle.listing.specs.Listing.{all_line}
 use Rattle.put.proofs.Puts.{put_then}
 use Rattle.listing.proofs.put_all.Goals as goal

@@ -1,5 +1,4 @@
 -- `put_refusal` meets its contract: the parts of the line are stored one after the other.
-use borrow.Author.Rules.{rules}
 use Rattle.listing.specs.Listing.{refusal_text}
 use Rattle.put.proofs.Puts.{put_then}
 use Rattle.listing.proofs.put_refusal.Goals as goal
@@ -7,6 +6,4 @@ use Rattle.listing.proofs.put_refusal.Goals as goal
 pub returns : goal.returns
 unfolding refusal_text
 returns c =
-    let at-put-field = c in
-    let at-put-bytes = at-put-field in
-    put_then at-put-bytes.put_bytes-next.ensures (put_then at-put-field.put_field-next.ensures c.put_field.ensures)
+    put_then c.put_bytes-next.ensures (put_then c.put_field-next.ensures c.put_field.ensures)

@@ -6,4 +6,4 @@ use Rattle.listing.proofs.refusal_text.Goals as goal
 
 pub returns : goal.returns
 returns c =
-    put_laid c.put_refusal.ensures (omega arith) c.put_refusal-arg-1.given.0.1
+    put_laid c.put_refusal.ensures (omega arith) (search rules)
