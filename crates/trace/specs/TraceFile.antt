@@ -14,7 +14,7 @@
 --                          least 1") and of more than 32 there is no such configuration: 11
 -- requests ls              the requests of an accepted trace's lines, in order
 -- rising s rs              "Slots do not fall": from slot s on
--- inRange a r              request r is in its limits, of an accelerator of the tree
+-- in_range a r             request r is in its limits, of an accelerator of the tree
 -- all_in_range a rs        all of them are
 -- total_for a rs           what accelerator a's counts total
 -- is_offer l               line l is an o line of shape and limits, of an accelerator that a tree can have
