@@ -1,6 +1,6 @@
 -- Where the code stands in a trace, for the contracts of the inner functions.
 --
--- left_at s at           the requests of trace s from a place of its bytes on
+-- left_at s at          the requests of trace s from a place of its bytes on
 -- Accepts s at          the trace s is accepted from the place `at` on, so that its lines can be walked from there
 use Rattle.std.specs.Prelude.{ℕ, ◌≤◌, List, ◌≡◌, length, drop}
 use Rattle.text.specs.Text.{lines, unended}
