@@ -1,8 +1,8 @@
 -- The offers before a slot, on the arrays that a run keeps (document 01, "Turns", last paragraph: "accelerators in rising
 -- number offer held transactions until one is refused or none is left").
 --
--- Arrays                 what is outstanding, what is admitted and what is held for each accelerator, what waits under each port, the
---                        live ports, the last ports and the allowances; arrays w m h c v l o: these seven
+-- Arrays                what is outstanding, what is admitted and what is held for each accelerator, what waits under each port, the
+--                       live ports, the last ports and the allowances; arrays w m h c v l o: these seven
 -- outstandings b, admitteds b, helds b   the counts of each accelerator in the array b of these, thirty-two each
 -- arrays_of b c r        the seven in b, c and r, as a run holds them
 -- answer_on w a d        what an offer of accelerator a answers, by the limits and budgets in the table w: 8, 9, or admitted

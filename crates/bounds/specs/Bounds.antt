@@ -2,7 +2,7 @@
 -- the crate `shares`), and the wait for a new window (document 02, item 8). A count of interfering transactions is in slots, and so
 -- is the wait for a new window; every time is in clock cycles, and `cycles_of` is the only step from the one to the other.
 --
--- interference n share        "Interference of N transactions is N × (share - 1)", in slots
+-- interference n share       "Interference of N transactions is N × (share - 1)", in slots
 -- held_slots n b p            "a channel with N transactions and budget b adds ceil(N / b) × P", in slots; "with N 0 it adds 0"
 -- alone_read b l              "alone, read: tA + L × dA + pR + L × dD + B × tD"
 -- alone_write b l             "alone, write: tA + L × max(dA, dD) + B × tD + pW + tB + L × dB"
@@ -10,19 +10,19 @@
 -- slot_write b                "write tA + B × tD + pW + tB"
 -- cycles_of y s               "a count becomes cycles only through the slot time"
 -- channel_time n alone y h s  "N × alone .. + Y × slot", and the wait h for a new window "× slot time of that channel": what a channel adds
---                             to the response
+--                            to the response
 -- read_time b x l share       what reads add to the response of accelerator x at level l: Nr × alone read + Yr × slot read, and
---                             ceil(Nr / b) × P × slot read
+--                            ceil(Nr / b) × P × slot read
 -- write_time b x l share      "the same for writes"
 -- response_of b x l sr sw     "The response is C + Nr × alone read + Yr × slot read, plus the same for writes", with the shares of both
---                             channels, and for each the wait for a new window
+--                            channels, and for each the wait for a new window
 -- is_met x r                  "An accelerator meets its period if the response is at most T"
--- Contention                  what a job's transactions meet on a channel: share and interference; contention n share: that of n of them
--- Analysis                    what is known of an accelerator: level, what its reads and its writes meet, response, period, verdict
+-- Contention                 what a job's transactions meet on a channel: share and interference; contention n share: that of n of them
+-- Analysis                   what is known of an accelerator: level, what its reads and its writes meet, response, period, verdict
 -- analysis_from b x l sr sw   that of accelerator x at level l with these shares of its reads and its writes
 -- analysis_of t a             that of accelerator a, "With L the level"
--- BoundResult                 what a call of `bound` answers: refused by a number, or the analysis
--- on_channel_means f          what the figures of a channel of the code stand for; figures_mean f: those of an accelerator
+-- BoundResult                what a call of `bound` answers: refused by a number, or the analysis
+-- on_channel_means f           what the figures of a channel of the code stand for; figures_mean f: those of an accelerator
 -- meaning_of r                the answer that the enum of the code stands for
 -- bound_of t a                "a bound 11, 7", else the analysis
 use Rattle.std.specs.Prelude.{ℕ, ◌+◌, ◌*◌, ◌-◌, max, Bool, not, leb}

@@ -2,16 +2,16 @@
 --
 -- Ports                 what a run keeps of the ports: what waits under each, the live ones of each interconnect, the last ones and the
 --                       allowances; ports c v l o: these four; ports_in c r: those in c and in the array r of turns
--- count_at u j p        what waits under port p of interconnect j, by the counts u; nothing under a port past the eighth
--- port_on v l o         the port whose turn it is, of live ports v, last port l and allowance o
--- turn_on u j g v l o   the turn of interconnect j of granularity g, live ports v, last port l and allowance o, its port
+-- count_at u j p         what waits under port p of interconnect j, by the counts u; nothing under a port past the eighth
+-- port_on v l o          the port whose turn it is, of live ports v, last port l and allowance o
+-- turn_on u j g v l o    the turn of interconnect j of granularity g, live ports v, last port l and allowance o, its port
 --                       and its allowance
--- turn_at w d j         the same, by the table w and what is kept, d
+-- turn_at w d j          the same, by the table w and what is kept, d
 -- pass j x d            one transaction passes interconnect j in its turn x: it waits no longer under the turn's port, and "One is
 --                       taken off the allowance"
 -- Choice                who is served, 255 for nobody, and what is kept then; choice a d: these two
--- below_on f x d        what a port leads to that carries x: an accelerator, by f an interconnect; an empty one leads nowhere
--- choose_on m w j d     the choice from interconnect j over at most m levels, on any arrays: one transaction passes, "and the choice
+-- below_on f x d         what a port leads to that carries x: an accelerator, by f an interconnect; an empty one leads nowhere
+-- choose_on m w j d      the choice from interconnect j over at most m levels, on any arrays: one transaction passes, "and the choice
 --                       goes on downward"; it ends where there is no such interconnect, and where the turn has no port
 use Rattle.std.specs.Prelude.{ℕ, zero, suc, ◌-◌, min, List, ltb, get_or, set}
 use Rattle.folds.specs.Fold.{pick}

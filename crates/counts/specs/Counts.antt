@@ -5,12 +5,12 @@
 --                       these, fifteen each
 -- up n u c              the ports from port number c on up to the root, at most n of them, where u has the parent's
 --                       port of each interconnect
--- path_ports w a        the ports of the path of accelerator a, from its own up to the root, by the table w
--- with_port v p         the set v with port p in it; without_port v p: the set v without port p
+-- path_ports w a         the ports of the path of accelerator a, from its own up to the root, by the table w
+-- with_port v p          the set v with port p in it; without_port v p: the set v without port p
 -- raise c u             the counts u with one more at port c, at most 65,535; raised l u: at each port of l
--- open_port c v         the sets v with port c in its interconnect's set; opened l v: with each port of l
+-- open_port c v          the sets v with port c in its interconnect's set; opened l v: with each port of l
 -- lower c u             the counts u with one less at port c
--- close_port c n v      the sets v without port c where n is 0
+-- close_port c n v       the sets v without port c where n is 0
 use Rattle.std.specs.Prelude.{ℕ, zero, suc, ◌+◌, ◌-◌, ◌/◌, ◌%◌, ◌^◌, min, List, [], ◌∷◌, get_or, set, take, drop, ltb, eqb}
 use Rattle.folds.specs.Fold.{pick}
 use Rattle.turns.specs.Turns.{has_port}

@@ -1,13 +1,13 @@
 -- What a run of a channel reads of a configuration in each slot, as plain numbers, so that no configuration is copied there.
 --
--- port_number j p       port p of interconnect j among the 120 ports of fifteen interconnects
+-- port_number j p        port p of interconnect j among the 120 ports of fifteen interconnects
 -- interconnects, empty  where in the numbers of what a port carries those of the interconnects begin, and which says: nothing
--- carried_number x      "A port is empty, or carries one accelerator, or one lower interconnect": accelerator a as a,
+-- carried_number x       "A port is empty, or carries one accelerator, or one lower interconnect": accelerator a as a,
 --                       interconnect k as `interconnects` + k, nothing as `empty`
--- entry_of t c n        entry n of the table of t for channel c: what each port carries; the granularity of each interconnect, and the port
+-- entry_of t c n         entry n of the table of t for channel c: what each port carries; the granularity of each interconnect, and the port
 --                       of its parent that carries it; the port that carries each accelerator, its outstanding limit on the channel
 --                       and its budget
--- table_of t c          the table of t for channel c
+-- table_of t c           the table of t for channel c
 -- granularities w, parent_ports w, own_ports w, limits w, budgets w   the parts of the table w after what the ports carry
 use Rattle.std.specs.Prelude.{ℕ, ◌+◌, ◌-◌, ◌*◌, ◌/◌, ◌%◌, List, drop, ltb}
 use Rattle.folds.specs.Fold.{pick, entries}

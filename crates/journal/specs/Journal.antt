@@ -1,14 +1,14 @@
 -- The text of a run: its slots and its end (document 01, "Turns", last paragraph).
 --
--- served_text b        what a slot's byte says: "the accelerator's number or 255 for idle"
--- slot_text n b        the line of slot n, which the byte b tells
--- page_slots           how many lines are put on a page, which has room for that many whatever they say
--- slots_due n first    the lines of the page from slot `first` on, where n slots were used
--- slots_text bs first  that page: the lines of these slots, whose bytes are bs
--- end_text b n         the last line of a simulation: `done` or `stopped`, and "the number of slots used"
--- run_text bs b        the text of a run whose slots' bytes are bs, done if b: a line for each slot, and the last line
+-- served_text b         what a slot's byte says: "the accelerator's number or 255 for idle"
+-- slot_text n b         the line of slot n, which the byte b tells
+-- page_slots            how many lines are put on a page, which has room for that many whatever they say
+-- slots_due n first     the lines of the page from slot `first` on, where n slots were used
+-- slots_text bs first   that page: the lines of these slots, whose bytes are bs
+-- end_text b n          the last line of a simulation: `done` or `stopped`, and "the number of slots used"
+-- run_text bs b         the text of a run whose slots' bytes are bs, done if b: a line for each slot, and the last line
 -- pages n              how many pages the run of n slots has
--- page_text bs i b     page i of it, from 0: the lines of its slots, and on the last page the last line
+-- page_text bs i b      page i of it, from 0: the lines of its slots, and on the last page the last line
 use Rattle.std.specs.Prelude.{ℕ, ◌+◌, ◌-◌, ◌*◌, ◌/◌, min, Bool, List, [], ◌++◌, eqb, length, get_or}
 use Rattle.folds.specs.Fold.{pick}
 use Rattle.text.specs.Write.{decimal_text}

@@ -1,7 +1,7 @@
 -- What a reader answers, in the terms of document 01's table "What is refused".
 --
--- answer_number a      the refusal's number; 0 where the file is accepted
--- answer_line a        "number, line from 1"; 0 for the size of a file, and where no line is returned: the file is accepted,
+-- answer_number a       the refusal's number; 0 where the file is accepted
+-- answer_line a         "number, line from 1"; 0 for the size of a file, and where no line is returned: the file is accepted,
 --                      or the configuration breaks its rules (11)
 use Rattle.std.specs.Prelude.{ℕ}
 use Rattle.model.specs.Answer.{number_of}

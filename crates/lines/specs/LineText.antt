@@ -1,7 +1,7 @@
 -- A line as it is written: test 1 said by writing and not by reading (document 01, "line of wrong shape: record name, field count,
 -- malformed number").
 --
--- may_stand d f        a field: a number of "1 to 10 digits"; "-" only where d allows it ("in any other field "-" is 1"); a malformed
+-- may_stand d f         a field: a number of "1 to 10 digits"; "-" only where d allows it ("in any other field "-" is 1"); a malformed
 --                      field never
 -- WritesLine s k fs    "the bytes s write a line of record k with the fields fs": its name, and as many fields as the record may
 --                      have, each after a tab, numbers in plain decimal

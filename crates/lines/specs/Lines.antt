@@ -1,29 +1,29 @@
 -- A line of a file: its record name, its fields, and the tests 1 and 2 of document 01 ("The tree on paper").
 --
--- name_of k              "A line begins with one of the record names bus, int or acc"; in a trace it is o; "bus3 is a record name beside bus"
---                        (document 02, item 7)
--- kind_of name           the record of that name
--- bus_kind a             the record of a bus, bus3 where a is true: "bus3 .. means AXI3"
--- named k                a line of record k before its fields
--- push l f               line l with one field more; past the eleventh, fields are only counted
--- pushed l fs            line l with the fields fs
--- line_with k fs         the line of record k with the fields fs
--- line_from ps           the line of the parts ps, the record name first
--- line_of s              the line that the bytes s write
--- value_at l i           the number in field i of line l, counted from 0; 0 where the field is no number
--- dash_at l i            field i of line l is "-"
--- form_of k              the fields of record k: how many at least and at most, which may be "-" ("in any other field "-" is 1"),
---                        and their limits, in the order of the paper; "The bus line gains an optional last field"
--- no_dashes              no field may be "-"
--- plain_form m n x y     the form of a record that has no "-": m to n fields, with the limits x to y
--- bus_form n             the form of a bus line where B is at most n: 256 on a bus line; bus3 is a record "with its fields and its place",
---                        "there B is at most 16"
--- dash_kept f d i        field i is "-" only where it may be; dashes_kept k d: so are all fields of record k
--- is_record k            k is a record
--- shaped l               test 1: a record's name, as many fields as the record may have, none malformed, "-" only where it may stand
--- limit_kept f v i       field i is in its limits
--- limits_kept k v        test 2: the numbers v are in the limits of record k; a "-" and an absent field, held as 0, are in the
---                        limits of the fields where they may stand
+-- name_of k             "A line begins with one of the record names bus, int or acc"; in a trace it is o; "bus3 is a record name beside bus"
+--                      (document 02, item 7)
+-- kind_of name          the record of that name
+-- bus_kind a            the record of a bus, bus3 where a is true: "bus3 .. means AXI3"
+-- named k              a line of record k before its fields
+-- push l f             line l with one field more; past the eleventh, fields are only counted
+-- pushed l fs          line l with the fields fs
+-- line_with k fs        the line of record k with the fields fs
+-- line_from ps          the line of the parts ps, the record name first
+-- line_of s             the line that the bytes s write
+-- value_at l i          the number in field i of line l, counted from 0; 0 where the field is no number
+-- dash_at l i           field i of line l is "-"
+-- form_of k             the fields of record k: how many at least and at most, which may be "-" ("in any other field "-" is 1"),
+--                      and their limits, in the order of the paper; "The bus line gains an optional last field"
+-- no_dashes             no field may be "-"
+-- plain_form m n x y    the form of a record that has no "-": m to n fields, with the limits x to y
+-- bus_form n            the form of a bus line where B is at most n: 256 on a bus line; bus3 is a record "with its fields and its place",
+--                      "there B is at most 16"
+-- dash_kept f d i       field i is "-" only where it may be; dashes_kept k d: so are all fields of record k
+-- is_record k           k is a record
+-- shaped l             test 1: a record's name, as many fields as the record may have, none malformed, "-" only where it may stand
+-- limit_kept f v i      field i is in its limits
+-- limits_kept k v       test 2: the numbers v are in the limits of record k; a "-" and an absent field, held as 0, are in the
+--                      limits of the fields where they may stand
 -- in_tree k, in_trace k  record k may stand in a tree file, in a trace file
 use Rattle.std.specs.Prelude.{ℕ, ◌+◌, Bool, true, false, ◌&&◌, ◌||◌, not, List, [], ◌∷◌, map, get_or, set, replicate}
 use Rattle.text.specs.declared.Field.{Field}

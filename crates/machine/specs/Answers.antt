@@ -1,9 +1,9 @@
 -- What the answers of the calls mean, by document 01's numbers.
 --
--- fresh_means a        the answer of `fresh`
--- offer_means a        the answer of `offer`
--- slot_means a         the answer of `slot`
--- fresh_outcome r      answer and state of a reply, as the definitions have them; offer_outcome and slot_outcome alike
+-- fresh_means a         the answer of `fresh`
+-- offer_means a         the answer of `offer`
+-- slot_means a          the answer of `slot`
+-- fresh_outcome r       answer and state of a reply, as the definitions have them; offer_outcome and slot_outcome alike
 use Rattle.model.specs.Answer.{number_of}
 use Rattle.machine.specs.declared.FreshAnswer.{FreshAnswer}
 use Rattle.machine.specs.declared.FreshAnswer.TheVariants as fresh

@@ -2,8 +2,8 @@
 --
 -- Call                 an offer of accelerator a, or a slot
 -- step t s c           what the call c answers and returns from state s
--- answers_of t s cs    the answers of the calls cs, the first handed s
--- state_after t s cs   the state that the last of the calls cs returns
+-- answers_of t s cs     the answers of the calls cs, the first handed s
+-- state_after t s cs    the state that the last of the calls cs returns
 use Rattle.std.specs.Prelude.{ℕ, List, [], ◌∷◌}
 use Rattle.model.specs.declared.Tree.{Tree}
 use Rattle.model.specs.declared.State.{State}

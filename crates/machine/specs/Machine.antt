@@ -1,37 +1,37 @@
 -- Fresh state, offer and slot of one channel (document 01, "What is refused" and "Turns"; document 02, items 2 and 5). Reads and writes
 -- share nothing: each channel has a state of its own, which says of which it is.
 --
--- Answer                what an offer or a slot answers: an offer is admitted, a slot serves an accelerator or is idle, and
---                       either is refused by a number of document 01's table
--- Outcome               a call's answer and the state that it returns; outcome a s: the answer a with the state s
+-- Answer               what an offer or a slot answers: an offer is admitted, a slot serves an accelerator or is idle, and
+--                      either is refused by a number of document 01's table
+-- Outcome              a call's answer and the state that it returns; outcome a s: the answer a with the state s
 -- fresh_state t c       of channel c: "At the start nothing waits, all admitted counts and the slot are 0, every allowance is 0 and the
---                       last port of every interconnect in the tree is 7"
--- Start                 what the start answers: started, or refused by a number
--- Beginning             the start's answer and the state that it returns; beginning a s: the answer a with the state s
--- freshened t c         the starting state of channel c, or 11, and then no state but zeros
--- admit s a             "waiting and admitted rise by one"
+--                      last port of every interconnect in the tree is 7"
+-- Start                what the start answers: started, or refused by a number
+-- Beginning            the start's answer and the state that it returns; beginning a s: the answer a with the state s
+-- freshened t c        the starting state of channel c, or 11, and then no state but zeros
+-- admit s a            "waiting and admitted rise by one"
 -- limits_answer l o b n what an offer answers to an accelerator with outstanding limit l and budget b, of which o are
---                       outstanding and n were admitted in this window: 8, 9, or admitted
+--                      outstanding and n were admitted in this window: 8, 9, or admitted
 -- verdict_of t s a      what the offer of one transaction answers once configuration and state have passed: 7, 14, 8, 9, or admitted
---                       (document 02, item 5: "14 for an offer on a channel where the accelerator has 0 transactions, after 7 and
---                       before 8")
+--                      (document 02, item 5: "14 for an offer on a channel where the accelerator has 0 transactions, after 7 and
+--                      before 8")
 -- on_admitted v x y     x where the answer v is admitted, else y
 -- offered_within t s a  that answer, and the state: "An offer admits one transaction unless refused above", and a refusal
---                       leaves the state as it was
--- offered t s a         the offer of one transaction: 11, 7, 14, 8, 9 in this order, or admitted
+--                      leaves the state as it was
+-- offered t s a        the offer of one transaction: 11, 7, 14, 8, 9 in this order, or admitted
 -- none_waits s          nothing waits
--- opens t n             slot n + 1 is in another window than slot n
+-- opens t n            slot n + 1 is in another window than slot n
 -- last_slot             the slot count at which a slot is refused
--- older r x             the returns x one slot later, each bit one place higher; what then was served r + 1 slots ago is home (document
---                       02, item 2: "A transaction served in slot s stops being outstanding at the start of slot s + 1 + r")
--- tick t s              "Then the slot count rises by one; where that opens a new window, all admitted counts become 0"; each
---                       return is one slot older
--- chosen t s            the accelerator to serve: "The choice begins at the root"
+-- older r x            the returns x one slot later, each bit one place higher; what then was served r + 1 slots ago is home (document
+--                      02, item 2: "A transaction served in slot s stops being outstanding at the start of slot s + 1 + r")
+-- tick t s             "Then the slot count rises by one; where that opens a new window, all admitted counts become 0"; each
+--                      return is one slot older
+-- chosen t s           the accelerator to serve: "The choice begins at the root"
 -- take_one s a          one transaction of accelerator a less waits, and one was served 0 slots ago: bit 0 of its returns, which is 0
---                       before
--- serve t s             the state once the chosen accelerator's oldest transaction is served, before the slot count rises
+--                      before
+-- serve t s            the state once the chosen accelerator's oldest transaction is served, before the slot count rises
 -- slotted_within t s    one slot once configuration and state have passed: 10, or idle, or the accelerator served
--- slotted t s           one slot: 11, 10 in this order, or idle, or the accelerator served
+-- slotted t s          one slot: 11, 10 in this order, or idle, or the accelerator served
 use Rattle.std.specs.Prelude.{ℕ, ◌+◌, ◌-◌, ◌*◌, ◌%◌, ◌^◌, Bool, not, ◌++◌, map, set, replicate, leb, eqb}
 use Rattle.model.specs.declared.Tree.{Tree}
 use Rattle.model.specs.declared.State.{State}

@@ -2,7 +2,7 @@
 --
 -- crosses i xs        interconnect i is one of the crossings xs
 -- meeting xs ys       the first of the crossings xs, nearest first, whose interconnect ys cross too
--- meet_of t a b       where the path of accelerator a, from its own interconnect up, first crosses that of b: the interconnect,
+-- meet_of t a b        where the path of accelerator a, from its own interconnect up, first crosses that of b: the interconnect,
 --                     and the port of it by which a comes in
 -- Deepest t a b i     both paths cross interconnect i, and none that both cross is deeper
 use Rattle.std.specs.Prelude.{ℕ, ◌≤◌, Bool, true, false, ◌||◌, List, [], ◌∷◌, ◌≡◌, eqb}

@@ -2,11 +2,11 @@
 -- what waits for the weight it is "the number waiting under that port"; with the outstanding limit it is the capacity
 -- ("the sum over everything beneath it, down to the accelerators").
 --
--- weight_in ws a         the weight of accelerator a in the array ws, 0 past its end
+-- weight_in ws a          the weight of accelerator a in the array ws, 0 past its end
 -- under w v p            the sum beneath a port that carries p, where v is the sum within an interconnect
 -- inside n t w j         the sum within interconnect j, over n levels of interconnects, j's own the first
--- weight_under t w j p   the sum beneath port p of interconnect j: at most three levels lie below the first
--- waits_under t s j p    what waits under port p of interconnect j
+-- weight_under t w j p    the sum beneath port p of interconnect j: at most three levels lie below the first
+-- waits_under t s j p     what waits under port p of interconnect j
 use Rattle.std.specs.Prelude.{ℕ, zero, suc, List, get_or}
 use Rattle.model.specs.declared.Tree.{Tree}
 use Rattle.model.specs.declared.State.{State}

@@ -3,17 +3,17 @@
 --
 -- state_with c w x m l o n  the state of channel c with the waiting counts w, the returns x, the admitted counts m, the last ports l, the
 --                        allowances o and the slot count n
--- zero_state c           the state of channel c with nothing in it
--- with_counts s w m      state s with the waiting counts w and the admitted counts m
--- with_service s w x     state s with the waiting counts w and the returns x
--- with_turns s l o       state s with the last ports l and the allowances o
--- at_slot s x m n        state s with the returns x, the admitted counts m and the slot count n
--- with_bus t b           configuration t with the bus b
+-- zero_state c            the state of channel c with nothing in it
+-- with_counts s w m       state s with the waiting counts w and the admitted counts m
+-- with_service s w x      state s with the waiting counts w and the returns x
+-- with_turns s l o        state s with the last ports l and the allowances o
+-- at_slot s x m n         state s with the returns x, the admitted counts m and the slot count n
+-- with_bus t b            configuration t with the bus b
 -- speaking a b           the bus b on a board that speaks AXI3 where a is true, else AXI4
 -- with_interconnects t n l  configuration t with n interconnects, those of the list l
 -- with_accelerators t n l   configuration t with n accelerators, those of the list l
 -- carrying c p x         interconnect c with port p carrying x
--- with_job r w c T x     accelerator x with r reads, w writes, computing c and period T
+-- with_job r w c T x      accelerator x with r reads, w writes, computing c and period T
 use Rattle.std.specs.Prelude.{ℕ, Bool, List, set, replicate}
 use Rattle.model.specs.declared.Tree.{Tree}
 use Rattle.model.specs.declared.State.{State}

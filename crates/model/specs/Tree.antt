@@ -1,39 +1,39 @@
 -- A configuration and a state, read by document 01's terms. Each accessor answers zero, or an empty port, past the end
 -- of its array.
 --
--- empty_cell            a port that carries nothing; no_interconnect, no_accelerator: an unused entry
--- interconnect_of t j   interconnect j; accelerator_of t a: accelerator a
--- port_of t j p         what port p of interconnect j carries ("A port is empty, or carries one accelerator, or one
+-- empty_cell             a port that carries nothing; no_interconnect, no_accelerator: an unused entry
+-- interconnect_of t j    interconnect j; accelerator_of t a: accelerator a
+-- port_of t j p          what port p of interconnect j carries ("A port is empty, or carries one accelerator, or one
 --                       lower interconnect")
--- granularity_of t j    g of interconnect j
--- parent_of t j         the parent of interconnect j
--- parent_port_of t j    the port on the parent that carries interconnect j
--- home_of t a           the interconnect that accelerator a is on
--- home_port_of t a      the port there that carries accelerator a
--- phi_of t a            the outstanding limit phi of accelerator a
--- job_of t c a          the transactions that a job of accelerator a has on channel c: Nr or Nw
--- limit_of t c a        how many transactions of accelerator a may be outstanding on channel c: phi, but "On a channel where a job
+-- granularity_of t j     g of interconnect j
+-- parent_of t j          the parent of interconnect j
+-- parent_port_of t j      the port on the parent that carries interconnect j
+-- home_of t a            the interconnect that accelerator a is on
+-- home_port_of t a        the port there that carries accelerator a
+-- phi_of t a             the outstanding limit phi of accelerator a
+-- job_of t c a           the transactions that a job of accelerator a has on channel c: Nr or Nw
+-- limit_of t c a         how many transactions of accelerator a may be outstanding on channel c: phi, but "On a channel where a job
 --                       has 0 transactions, the capacity of that accelerator now counts 0" (document 02, item 5)
--- budget_of t a         the budget of accelerator a, in transactions a window
--- window_of t n         the window of slot n ("slot s is in window floor(s / P), slots counted from 0")
+-- budget_of t a          the budget of accelerator a, in transactions a window
+-- window_of t n          the window of slot n ("slot s is in window floor(s / P), slots counted from 0")
 -- Crossing              an interconnect on a path, and the port of it by which the path comes in
 -- above n t j           the crossings above interconnect j, nearest first: parent and port, at most n of them
 -- path t a              the crossings of accelerator a, from its own interconnect up to the root
--- level_of t j          the level of interconnect j ("A level is the count of interconnects from the root to here, the
+-- level_of t j           the level of interconnect j ("A level is the count of interconnects from the root to here, the
 --                       root 1")
--- beat_limit b          the most beats of a burst on the bus b: "AMBA AXI3 allows bursts of at most 16 beats, AXI4 incrementing bursts of
+-- beat_limit b           the most beats of a burst on the bus b: "AMBA AXI3 allows bursts of at most 16 beats, AXI4 incrementing bursts of
 --                       up to 256"; "bus3 .. means AXI3", "A record named bus keeps today's meaning" (document 02, item 7)
--- delay_of t            the return delay r, in slots (document 02, item 2: "the return delay r, 0 to 15 slots")
--- waiting_of s a        the transactions of accelerator a that wait
+-- delay_of t             the return delay r, in slots (document 02, item 2: "the return delay r, 0 to 15 slots")
+-- waiting_of s a         the transactions of accelerator a that wait
 -- bit d x               bit d of the number x
--- returns_of s a        the returning transactions of accelerator a, as the bits of a number: bit d is 1 where one was served d slots
+-- returns_of s a         the returning transactions of accelerator a, as the bits of a number: bit d is 1 where one was served d slots
 --                       ago. "A transaction served in slot s stops being outstanding at the start of slot s + 1 + r", so that one is due
 --                       r + 1 - d slots ahead
--- returning_of s a      how many transactions of accelerator a are returning
--- outstanding_of s a    the transactions of accelerator a that are outstanding: "its returning transactions beside the waiting ones"
--- admitted_of s a       the transactions of accelerator a admitted in this window
--- last_of s j           the last port of interconnect j
--- allowance_of s j      the allowance of interconnect j
+-- returning_of s a       how many transactions of accelerator a are returning
+-- outstanding_of s a     the transactions of accelerator a that are outstanding: "its returning transactions beside the waiting ones"
+-- admitted_of s a        the transactions of accelerator a admitted in this window
+-- last_of s j            the last port of interconnect j
+-- allowance_of s j       the allowance of interconnect j
 use Rattle.std.specs.Prelude.{ℕ, zero, suc, ◌+◌, ◌/◌, ◌%◌, ◌^◌, List, [], ◌∷◌, get_or, length, replicate, eqb}
 use Rattle.std.specs.Int.Count.{ones}
 use Rattle.model.specs.declared.Tree.{Tree}

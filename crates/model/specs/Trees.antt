@@ -4,19 +4,19 @@
 -- ports x y            a port table with x at port 0, y at port 1 and the rest empty
 -- interconnect j p g c interconnect on port p of interconnect j, with granularity g and the port table c
 -- block j p phi b      accelerator on port p of interconnect j, with outstanding limit phi and budget b
--- greatest_bus         the bus line with each number at its greatest
+-- greatest_bus          the bus line with each number at its greatest
 -- busiest j p          accelerator on port p of interconnect j, with each of its other numbers at its greatest
--- tree_with P r xs ys  the configuration with window P, return delay r, interconnects xs and accelerators ys
+-- tree_with P r xs ys   the configuration with window P, return delay r, interconnects xs and accelerators ys
 -- tree P xs ys         the same with return delay 0
--- chain_with b x       three interconnects, each at port 1 of the one above, with x for accelerator 1 and budget b for the
+-- chain_with b x        three interconnects, each at port 1 of the one above, with x for accelerator 1 and budget b for the
 --                      others
--- chain_of b           the tree of case 1, each budget b; chain: with budget 8, as there
+-- chain_of b            the tree of case 1, each budget b; chain: with budget 8, as there
 -- timed T              the tree of case 9: accelerator 1 of case 1's tree is at level 2 and has share 4
 -- pair g P f h b       one interconnect of granularity g with two accelerators, of phi f and h, at ports 0 and 1, each of
 --                      budget b
--- returning_pair r f h one interconnect of granularity 1, window 16 and return delay r with two accelerators, of phi f and h, at ports 0
+-- returning_pair r f h  one interconnect of granularity 1, window 16 and return delay r with two accelerators, of phi f and h, at ports 0
 --                      and 1, each of budget 8
--- map_tree r f h       one interconnect of granularity 1, window 16 and return delay r: accelerator 0 with phi f, one read and one write;
+-- map_tree r f h        one interconnect of granularity 1, window 16 and return delay r: accelerator 0 with phi f, one read and one write;
 --                      accelerator 1, at the other port, with phi h, no read and one write (document 02, item 5: "Our map block never
 --                      reads"); each of budget 8
 -- worked               the tree of the report's worked listing

@@ -1,21 +1,21 @@
 -- A line of a tree file, placed in what is read so far (document 01, "The tree on paper" and "What is refused"). What its
 -- fields make of the tree is in `Records` of `records`.
 --
--- refused_at r n       refused by r at line n; the tree given beside it is the empty one
+-- refused_at r n        refused by r at line n; the tree given beside it is the empty one
 -- given t              accepted, with tree t
--- bus_line n t a v     a bus line, a bus3 line where a is true: "One bus line comes first"; "bus3 is a record name beside bus, with its fields
+-- bus_line n t a v      a bus line, a bus3 line where a is true: "One bus line comes first"; "bus3 is a record name beside bus, with its fields
 --                      and its place" (document 02, item 7)
--- int_in_order t l     an int line comes after the bus line and before any acc line ("then int lines 0, 1, 2 and on
+-- int_in_order t l       an int line comes after the bus line and before any acc line ("then int lines 0, 1, 2 and on
 --                      without a gap, a parent smaller than its child, then acc lines")
--- root_rule l          "Interconnect 0 is the root, and its parent and port are both "-""; "On another int line "-" there
+-- root_rule l           "Interconnect 0 is the root, and its parent and port are both "-""; "On another int line "-" there
 --                      is 3, as is a number there on interconnect 0"
--- int_line n t l       an int line; child_line n t v: one of another interconnect than the root
--- acc_line n t v       an acc line: "acc lines in any order, numbers 0 to n - 1 each once"
+-- int_line n t l        an int line; child_line n t v: one of another interconnect than the root
+-- acc_line n t v        an acc line: "acc lines in any order, numbers 0 to n - 1 each once"
 -- complete t           nothing is missing at the end of the file: bus, an int, an acc, each number below the highest
 -- finish n t           "A record missing at the end of the file, an accelerator number in a gap too, is 3 with the line
 --                      after the last"
--- record_line k n t l  a line of record k, by its name
--- tree_line n t l      "Within a tree line: 1, then 2 field by field, 3, 4, 5"
+-- record_line k n t l   a line of record k, by its name
+-- tree_line n t l       "Within a tree line: 1, then 2 field by field, 3, 4, 5"
 use Rattle.std.specs.Prelude.{ℕ, Bool, true, false, ◌&&◌, not, List, get_or, leb, ltb, eqb}
 use Rattle.model.specs.declared.Tree.{Tree}
 use Rattle.model.specs.declared.Refusal.{Refusal}

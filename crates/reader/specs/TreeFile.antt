@@ -1,8 +1,8 @@
 -- A tree file (document 01, "The tree on paper" and "What is refused"). Its lines are placed by `tree_line` of `placing`.
 --
 -- onward x r next      what a line's answer x lets the reading do: it ends with r, or goes on with next
--- read_lines n t ls u  the lines ls from line n on, and u after the last LF ("missing last LF" is 1)
--- read_tree s          "File size comes first, then lines in order"
+-- read_lines n t ls u   the lines ls from line n on, and u after the last LF ("missing last LF" is 1)
+-- read_tree s           "File size comes first, then lines in order"
 use Rattle.std.specs.Prelude.{ℕ, ◌+◌, List, [], ◌∷◌, length, ltb, eqb}
 use Rattle.model.specs.declared.Tree.{Tree}
 use Rattle.model.specs.declared.Refusal.TheVariants.{Shape, Limit}

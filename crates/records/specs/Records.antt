@@ -1,20 +1,20 @@
 -- What the fields of a record make of a tree (document 01, "The tree on paper"). Whether its line may stand in the file is no
 -- matter here: `tree_line` of `placing` says that.
 --
--- no_bus               no bus line yet
--- empty_tree           the tree before the first line: no window, no interconnect, no accelerator. While a file is read,
+-- no_bus                no bus line yet
+-- empty_tree            the tree before the first line: no window, no interconnect, no accelerator. While a file is read,
 --                      what is read so far is held as a tree: a window of 0 says that no bus line was read, a phi of 0
 --                      that the accelerator's line was not read
--- bus_of a v           the bus that the fields v of a bus line write, of a bus3 line where a is true; acc_of v: the accelerator
--- with_port t j p x    tree t with port p of interconnect j carrying x
--- with_interconnect    tree t with one interconnect more, number j, its eight ports empty
--- with_root t g        tree t with the root; with_child t j p q g: with interconnect j on port q of interconnect p
--- with_acc t v         tree t with the accelerator that the fields v write
--- bus_stored t a v     tree t with the bus that the fields v so write, and t itself where a field is outside its limits
--- has_room t v         the fields v of an int line are in their limits, and tree t has an entry left for an interconnect
--- root_stored t v      tree t with the root that the fields v write, and t itself where it has no room; child_stored t v: with
+-- bus_of a v            the bus that the fields v of a bus line write, of a bus3 line where a is true; acc_of v: the accelerator
+-- with_port t j p x     tree t with port p of interconnect j carrying x
+-- with_interconnect     tree t with one interconnect more, number j, its eight ports empty
+-- with_root t g         tree t with the root; with_child t j p q g: with interconnect j on port q of interconnect p
+-- with_acc t v          tree t with the accelerator that the fields v write
+-- bus_stored t a v      tree t with the bus that the fields v so write, and t itself where a field is outside its limits
+-- has_room t v          the fields v of an int line are in their limits, and tree t has an entry left for an interconnect
+-- root_stored t v       tree t with the root that the fields v write, and t itself where it has no room; child_stored t v: with
 --                      another interconnect
--- acc_stored t v       tree t with the accelerator that the fields v write, and t itself where a field is outside its limits
+-- acc_stored t v        tree t with the accelerator that the fields v write, and t itself where a field is outside its limits
 use Rattle.std.specs.Prelude.{ℕ, ◌+◌, max, Bool, false, ◌&&◌, List, get_or, set, replicate, ltb}
 use Rattle.model.specs.declared.Tree.{Tree}
 use Rattle.model.specs.declared.Bus.{Bus}

@@ -2,9 +2,9 @@
 -- refused").
 --
 -- bus_keeps b             the bus line's limits; those of a bus3 line where it is one: "there B is at most 16" (document 02, item 7)
--- carries t j p x         port p of interconnect j may carry x: what it names is in the tree and names this place
+-- carries t j p x        port p of interconnect j may carry x: what it names is in the tree and names this place
 -- is_empty x              the port x carries nothing
--- is_acc a x, is_int j x  the port x carries accelerator a, interconnect j
+-- is_acc a x, is_int j x   the port x carries accelerator a, interconnect j
 -- is_placed t j           interconnect j has its place: the root none, any other a port of a smaller one, which carries it
 -- root_placed t           the root has no parent: both its fields are 0
 -- child_placed t j        "a parent smaller than its child", and the parent's port carries interconnect j
@@ -14,17 +14,17 @@
 -- accelerator_keeps t a   the rules of accelerator a, in the tree or unused
 -- sized_tree t            the configuration's arrays have the lengths of their type, as every value of a program has
 -- tree_keeps t            "A configuration keeps them if a tree file could have given it"
--- sized s                 the state's arrays have the lengths of their type, as every value of a program has
--- on_the_way r x          each return of x is due 1 to r slots ahead (document 02, item 2: "a return due now, earlier or more than r
---                         slots ahead, breaks its rules"). Bit d is due r + 1 - d slots ahead: bit r + 1 now, one above it earlier, bit 0
---                         more than r ahead. So x is even, and below 2 to the power r + 1
+-- sized s                the state's arrays have the lengths of their type, as every value of a program has
+-- on_the_way r x           each return of x is due 1 to r slots ahead (document 02, item 2: "a return due now, earlier or more than r
+--                        slots ahead, breaks its rules"). Bit d is due r + 1 - d slots ahead: bit r + 1 now, one above it earlier, bit 0
+--                        more than r ahead. So x is even, and below 2 to the power r + 1
 -- record_keeps t s a      at most phi outstanding ("each waiting count is at most phi", "their sum is at most phi"), and none on a channel
---                         where a job has 0 transactions (document 02, item 5: "A state where it has waiting or returning ones breaks
---                         its rules"); its returns on the way, "each admitted count at most the budget", "unused records are zero"
+--                        where a job has 0 transactions (document 02, item 5: "A state where it has waiting or returning ones breaks
+--                        its rules"); its returns on the way, "each admitted count at most the budget", "unused records are zero"
 -- turn_keeps t s j        "each last port is 0 to 7, each allowance is at most the smaller of g and what waits under the
---                         last port", "unused records are zero"
+--                        last port", "unused records are zero"
 -- state_keeps t s         "A state keeps its rules if .."
--- keeps t s               both keep their rules: else the refusal is 11
+-- keeps t s              both keep their rules: else the refusal is 11
 use Rattle.std.specs.Prelude.{ℕ, ◌+◌, ◌%◌, ◌^◌, min, Bool, true, false, ◌&&◌, length, leb, ltb, eqb}
 use Rattle.model.specs.declared.Tree.{Tree}
 use Rattle.model.specs.declared.Bus.{Bus}

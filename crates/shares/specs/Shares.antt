@@ -2,14 +2,14 @@
 -- (document 02, item 5). φ a is how many transactions of accelerator a may be outstanding: on channel c it is `limit_of t c a`, which is 0
 -- where "a job has 0 transactions".
 --
--- capacity_of t φ j p        the capacity of port p of interconnect j: "0 if empty, phi for an accelerator, for an
+-- capacity_of t φ j p         the capacity of port p of interconnect j: "0 if empty, phi for an accelerator, for an
 --                            interconnect the sum over everything beneath it, down to the accelerators"
 -- counted t φ j p q          what port q of interconnect j counts for in D at port p: nothing if it is port p itself,
 --                            else "the smaller of g and the capacity"
--- others_at t φ j p          "D at an interconnect on an accelerator's path is the sum, over its other ports, .."
--- share_along t φ xs         "the product of (1 + D) along" the crossings xs
--- share_of t c a             on channel c: "The share is the product of (1 + D) along the path"
--- share_within n t c a       the same product along the first crossing of the path and at most n above it: with n = 3 the
+-- others_at t φ j p           "D at an interconnect on an accelerator's path is the sum, over its other ports, .."
+-- share_along t φ xs          "the product of (1 + D) along" the crossings xs
+-- share_of t c a              on channel c: "The share is the product of (1 + D) along the path"
+-- share_within n t c a        the same product along the first crossing of the path and at most n above it: with n = 3 the
 --                            share, if the configuration keeps its rules (`share_within_lem`), and 64 bits hold it on any other
 use Rattle.std.specs.Prelude.{ℕ, ◌+◌, ◌*◌, min, List, [], ◌∷◌, eqb}
 use Rattle.model.specs.declared.Tree.{Tree}

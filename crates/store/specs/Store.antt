@@ -1,7 +1,7 @@
 -- The store: one block of 16,384 numbers of 64 bits, in parts that begin at fixed places.
 --
--- place_of p i        where number i of the part that begins at p stands; a place past the end goes round
--- number_at d p i     the number there
+-- place_of p i         where number i of the part that begins at p stands; a place past the end goes round
+-- number_at d p i      the number there
 -- stored d p i x      the store with x there, and every other number as it was
 -- added d p i x       the store with x added there; a sum goes round at 2 to the 64th power
 -- cleared d p n       the store with the numbers 0 to n - 1 of the part set to 0

@@ -2,20 +2,20 @@
 --
 -- behind b ps         the parts ps with b in front of the first one
 -- parts sep s         the parts of s between separators: always one part more than there are separators
--- part_length sep s   how many bytes stand before the first separator of s; all of s where it has none
--- field_length s      how many bytes stand before the first tab or LF of s; all of s where it has neither
--- but_last ps         the parts but the last; final ps: the last part
+-- part_length sep s    how many bytes stand before the first separator of s; all of s where it has none
+-- field_length s       how many bytes stand before the first tab or LF of s; all of s where it has neither
+-- but_last ps          the parts but the last; final ps: the last part
 -- lines s             "each line ends in LF": the lines of s, without their LF
 -- unended s           what stands after the last LF: nothing, unless the last LF is missing
 -- fields l            "fields are parted by one tab, and each field is read as the part of the line between two tabs"
--- line_at s at        what stands in s from a place to the next LF
+-- line_at s at         what stands in s from a place to the next LF
 -- same a b            the byte strings a and b are equal
--- is_digit b          the byte b is a decimal digit
--- all_digits s        every byte of s is a decimal digit
+-- is_digit b           the byte b is a decimal digit
+-- all_digits s         every byte of s is a decimal digit
 -- decimal s           the number that the digits s write
--- leading_zero s      s begins with 0 and is not 0 itself
--- digits_of s         the number that s writes, where it is digits alone
--- field_of s          what a field says: "-", or a number ("Numbers are decimal, 1 to 10 digits, no sign, no leading zero
+-- leading_zero s       s begins with 0 and is not 0 itself
+-- digits_of s          the number that s writes, where it is digits alone
+-- field_of s           what a field says: "-", or a number ("Numbers are decimal, 1 to 10 digits, no sign, no leading zero
 --                     except 0 itself"), or it is malformed
 use Rattle.std.specs.Prelude.{ℕ, suc, ◌+◌, ◌-◌, ◌*◌, ◌^◌, Bool, true, false, ◌&&◌, not, List, [], ◌∷◌, length, get_or, take, drop, leb, ltb, eqb}
 use Rattle.folds.specs.Fold.{pick}

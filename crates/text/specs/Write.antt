@@ -2,15 +2,15 @@
 --
 -- digits small k n    the digits of n, the most significant first, at most k of them: one if `small` says that n is below
 --                     10, else those of n / 10 and then that of n % 10
--- decimal_text n      "Numbers are decimal, .. no sign, no leading zero except 0 itself": the digits of n as bytes, byte 48
+-- decimal_text n       "Numbers are decimal, .. no sign, no leading zero except 0 itself": the digits of n as bytes, byte 48
 --                     is 0
 -- dash                the field "-"
--- field_text f        a field as it is written; no text is malformed, so nothing stands for that
+-- field_text f         a field as it is written; no text is malformed, so nothing stands for that
 -- numbers xs          the fields of the numbers xs
 -- rows n k f          f k, f (k + 1) and on, n of them: fields or lines by number
--- fields_text fs      "fields are parted by one tab": the fields, each after a tab
--- line_text name fs   a line: its record name and its fields, each after a tab
--- file_text ls        "each line ends in LF": the lines, each with its LF
+-- fields_text fs       "fields are parted by one tab": the fields, each after a tab
+-- line_text name fs    a line: its record name and its fields, each after a tab
+-- file_text ls         "each line ends in LF": the lines, each with its LF
 use Rattle.std.specs.Prelude.{ℕ, zero, suc, ◌+◌, ◌/◌, ◌%◌, Bool, true, false, List, [], ◌∷◌, ◌++◌, ltb}
 use Rattle.text.specs.declared.Field.{Field}
 use Rattle.text.specs.declared.Field.TheVariants.{Malformed, Dash, Number}

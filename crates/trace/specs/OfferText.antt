@@ -1,11 +1,11 @@
 -- A line of a trace as the code reads it: field by field in the bytes of the file.
 --
--- number_in f next     a field f that says a number, and the place after it
--- number_at s at sep   the number in the field that begins at a place of the bytes and that the byte `sep` ends, and the place
+-- number_in f next      a field f that says a number, and the place after it
+-- number_at s at sep    the number in the field that begins at a place of the bytes and that the byte `sep` ends, and the place
 --                      after that byte
--- shaped_text l next   the numbers of line l, where it is an o line that passes test 1, and the place after its LF
--- offer_text s at      the same of the line that begins at a place, where it has its LF
--- offer_of x y z       the o line of slot x, accelerator y and count z
+-- shaped_text l next    the numbers of line l, where it is an o line that passes test 1, and the place after its LF
+-- offer_text s at       the same of the line that begins at a place, where it has its LF
+-- offer_of x y z        the o line of slot x, accelerator y and count z
 use Rattle.std.specs.Prelude.{ℕ, ◌+◌, false, ◌&&◌, List, [], ◌∷◌, length, get_or, take, drop, leb, eqb}
 use Rattle.text.specs.declared.Field.{Field}
 use Rattle.text.specs.declared.Field.TheVariants.{Malformed, Dash, Number}

@@ -2,20 +2,20 @@
 --
 -- request_of v             the request that the fields v write: slot, accelerator, count
 -- total_of totals a        the total of accelerator a so far; no_totals: none yet
--- added totals r           the totals of the accelerators with request r added
+-- added totals r          the totals of the accelerators with request r added
 -- offer_line a s totals l  a line of a trace on a tree of a accelerators, after lines up to slot s: "Within a trace line: 1,
---                          2 by field, 7, 6, 2 by total"
+--                         2 by field, 7, 6, 2 by total"
 -- after_offer n x next     what a line's answer x lets the reading do: it ends at line n, or goes on with the request
 -- read_offers n a s totals ls u
---                          the lines ls from line n on, and u after the last LF ("missing last LF" is 1)
+--                         the lines ls from line n on, and u after the last LF ("missing last LF" is 1)
 -- read_trace t s           11 first, which has no line; "File size comes first, then lines in order"; "An empty trace is
---                          accepted"
+--                         accepted"
 -- read_requests a s        trace s read for a configuration of a accelerators whose rules were checked before; of none ("n at
---                          least 1") and of more than 32 there is no such configuration: 11
--- requests ls              the requests of an accepted trace's lines, in order
--- rising s rs              "Slots do not fall": from slot s on
--- in_range a r             request r is in its limits, of an accelerator of the tree
--- all_in_range a rs        all of them are
+--                         least 1") and of more than 32 there is no such configuration: 11
+-- requests ls             the requests of an accepted trace's lines, in order
+-- rising s rs             "Slots do not fall": from slot s on
+-- inRange a r             request r is in its limits, of an accelerator of the tree
+-- all_in_range a rs         all of them are
 -- total_for a rs           what accelerator a's counts total
 -- is_offer l               line l is an o line of shape and limits, of an accelerator that a tree can have
 -- request_on l end         the request on line l, and the place after its LF at `end`

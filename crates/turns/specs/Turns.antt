@@ -3,22 +3,22 @@
 -- bits_below n f        the set of the ports below n of which f holds: bit p stands for port p
 -- has_port set p        port p is in the set
 -- live_set t s j        "The live ports of an interconnect form a set of eight bits": those "with something waiting under"
--- seek n set k          the first of the ports k, k + 1, .., n of them, 7 followed by 0, that is in the set; 8 if none is
+-- seek n set k         the first of the ports k, k + 1, .., n of them, 7 followed by 0, that is in the set; 8 if none is
 -- next_port set last    "the first live port .. after the last one, circling 7 to 0 and ending with the last one itself",
---                       8 for the empty set
+--                      8 for the empty set
 -- goes_on s j           "if its allowance is above 0, the last port goes on"
 -- turn_port t s j       the port whose turn it is at interconnect j in this slot
 -- turn_allowance t s j  the allowance of that turn before this slot takes one off: what it was if the last port goes on,
---                       else "the smaller of g and the number waiting under that port now"
--- reached v x           the accelerator that the choice comes to from a port that carries x, where v says it for an
---                       interconnect; nobody if the port is empty
--- who n t s j           the accelerator that the choice comes to from interconnect j, over at most n levels of
---                       interconnects ("the choice goes on downward to an accelerator")
+--                      else "the smaller of g and the number waiting under that port now"
+-- reached v x          the accelerator that the choice comes to from a port that carries x, where v says it for an
+--                      interconnect; nobody if the port is empty
+-- who n t s j          the accelerator that the choice comes to from interconnect j, over at most n levels of
+--                      interconnects ("the choice goes on downward to an accelerator")
 -- with_turn s j p o     the state s with last port p and allowance o at interconnect j
--- turned s v x          the state once the choice has gone down from a port that carries x, where v says it for an
---                       interconnect
--- after n t s j         the state once each interconnect on the way down from j has the port and the allowance, less one,
---                       of its turn ("One is taken off the allowance", "Interconnects off the path do not change")
+-- turned s v x         the state once the choice has gone down from a port that carries x, where v says it for an
+--                      interconnect
+-- after n t s j        the state once each interconnect on the way down from j has the port and the allowance, less one,
+--                      of its turn ("One is taken off the allowance", "Interconnects off the path do not change")
 use Rattle.std.specs.Prelude.{ℕ, zero, suc, ◌+◌, ◌-◌, ◌/◌, ◌%◌, ◌^◌, min, Bool, set, ltb, eqb}
 use Rattle.model.specs.declared.Tree.{Tree}
 use Rattle.model.specs.declared.State.{State}

@@ -1,11 +1,11 @@
 -- Figures of items 4 and 7: what is written of three trees, byte for byte.
 --
--- worked_text          the lines of document 01's worked listing, with tabs for its spaces
+-- worked_text           the lines of document 01's worked listing, with tabs for its spaces
 -- older                the tree of the worked listing on a board that speaks AXI3 (document 02, item 7); older_text: its lines, the first of
 --                      which is named bus3
 -- against              a tree with return delay 3 whose accelerators are numbered against the order of their ports: 0 is on port 7 and 2 on
 --                      port 0 of the root, 1 on port 0 of interconnect 1, which is on port 1 of the root
--- against_text         its text: the acc lines are those of accelerators 2, 0, 1
+-- against_text          its text: the acc lines are those of accelerators 2, 0, 1
 use Rattle.std.specs.Prelude.{ℕ, true, List, [], ◌∷◌, ◌++◌, replicate}
 use Rattle.model.specs.declared.Tree.{Tree}
 use Rattle.model.specs.declared.Port.TheVariants.{Empty, Acc, Int}

@@ -1,17 +1,17 @@
 -- The lines of a tree file, as they are written (document 01, "The tree on paper").
 --
--- bus_front b            the numbers of the bus line before its "optional last field, the return delay r"
--- bus_values b           all numbers of the bus line; acc_values a x: of an acc line
--- bus_name b             the record name of the bus b: "The writer keeps the record name" (document 02, item 7)
--- bus_whole b            a bus line: P, tA, dA, dD, dB, pR, pW, tD, tB, B, r
--- bus_short b            the same without r
--- bus_as name b          a bus line under the record name `name`: "It leaves out a return delay of 0" (document 02, item 4)
--- root_written g         the int line of interconnect 0: "its parent and port are both "-""
--- child_written j i p g  the int line of another one: number, parent, port on the parent, granularity
--- acc_written a x        an acc line: number, interconnect, port, phi, budget, Nr, Nw, C, T
--- bus_written b          the bus line of b, under its record name
+-- bus_front b           the numbers of the bus line before its "optional last field, the return delay r"
+-- bus_values b          all numbers of the bus line; acc_values a x: of an acc line
+-- bus_name b            the record name of the bus b: "The writer keeps the record name" (document 02, item 7)
+-- bus_whole b           a bus line: P, tA, dA, dD, dB, pR, pW, tD, tB, B, r
+-- bus_short b           the same without r
+-- bus_as name b         a bus line under the record name `name`: "It leaves out a return delay of 0" (document 02, item 4)
+-- root_written g        the int line of interconnect 0: "its parent and port are both "-""
+-- child_written j i p g the int line of another one: number, parent, port on the parent, granularity
+-- acc_written a x       an acc line: number, interconnect, port, phi, budget, Nr, Nw, C, T
+-- bus_written b         the bus line of b, under its record name
 -- bus_text t, int_text t j, acc_text t a
---                        the bus line of t, the int line of its interconnect j, the acc line of its accelerator a
+--                      the bus line of t, the int line of its interconnect j, the acc line of its accelerator a
 use Rattle.std.specs.Prelude.{ℕ, List, [], ◌∷◌, ◌++◌, eqb}
 use Rattle.model.specs.declared.Tree.{Tree}
 use Rattle.model.specs.declared.Bus.{Bus}

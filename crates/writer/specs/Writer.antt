@@ -1,15 +1,15 @@
 -- "Write the tree back" (document 02, item 4).
 --
--- carried_by x           the accelerator that port x carries, if it carries one
--- carried_in t j         the accelerators on interconnect j of t, by port; port_order t: those of t, "by interconnect, then by port, both
+-- carried_by x            the accelerator that port x carries, if it carries one
+-- carried_in t j          the accelerators on interconnect j of t, by port; port_order t: those of t, "by interconnect, then by port, both
 --                        rising"
--- written_text t         "the text": the bus line, which "leaves out a return delay of 0", the int lines by number and the acc lines
+-- written_text t          "the text": the bus line, which "leaves out a return delay of 0", the int lines by number and the acc lines
 --                        in that order, each ended by LF
 -- times a as             how often the number a stands in as
 -- Wrote                  refused with a line, refused without one, or the number of bytes of the text
--- write_of t n           the answer for a buffer of n bytes: "13 if the buffer is shorter than the text, after 11 and 2"; 2 is that of an
+-- write_of t n            the answer for a buffer of n bytes: "13 if the buffer is shorter than the text, after 11 and 2"; 2 is that of an
 --                        "output buffer over 65,536 bytes (line 0)"
--- write_buffer t d       the buffer d then: the text from its start on, "Bytes after the text keep their contents", and a refusal
+-- write_buffer t d        the buffer d then: the text from its start on, "Bytes after the text keep their contents", and a refusal
 --                        leaves all
 -- Stored xs d at e n     of a function that puts a text: xs was stored from `at` on as far as the buffer d goes, which became e, and n
 --                        is where the next byte goes
