@@ -1,3 +1,4 @@
+-- `read_full` meets its contract: what was read so far lies within the buffer.
 use Rattle.std.proofs.Common.{length, ◌-◌, ◌≤◌}
 use Rattle.crosscheck.proofs.read_full.Given as goal
 

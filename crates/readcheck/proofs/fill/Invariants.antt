@@ -1,4 +1,4 @@
--- `fill` stays in its buffers: the rest of a division is below the length.
+-- `fill` ends: its place rises to the end of the buffer.
 use Rattle.std.proofs.Common.{◌-◌, length}
 use Rattle.readcheck.proofs.fill.Given as goal
 

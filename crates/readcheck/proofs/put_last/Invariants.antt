@@ -1,4 +1,4 @@
--- `put_last` stays in its buffers: both lengths were compared.
+-- `put_last` ends: its place rises to the end of the lines.
 use Rattle.std.proofs.Common.{◌-◌}
 use Rattle.readcheck.proofs.put_last.Given as goal
 

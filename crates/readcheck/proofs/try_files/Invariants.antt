@@ -1,3 +1,4 @@
+-- `try_files` ends: 1000 turns.
 use Rattle.std.proofs.Common.{◌-◌}
 use Rattle.readcheck.proofs.try_files.Given as goal
 

@@ -1,3 +1,4 @@
+-- `walk` ends: 8193 turns.
 use Rattle.std.proofs.Common.{◌-◌}
 use Rattle.readcheck.proofs.walk.Given as goal
 

@@ -1,3 +1,4 @@
+-- `show_line` stays in its labels and ends: its place rises to their end.
 use Rattle.std.proofs.Common.{length, ◌-◌, ◌≤◌}
 use Rattle.crosscheck.proofs.results.show_line.Given as goal
 
