@@ -1,7 +1,7 @@
 -- The record name of the bus line (document 02, item 7): "bus3 is a record name beside bus .. and means AXI3"; "The writer keeps the record
 -- name".
 --
--- record_name s         the record name that the bytes s begin with: what stands before the first tab
+-- record_name s        the record name that the bytes s begin with: what stands before the first tab
 -- NameKept s           of an accepted file s: its record name says of which kind its tree's bus is; written back it has the same name; and
 --                      every accepted file of the same tree has it, so that a tree of bus3 is another tree than one of bus
 use Rattle.std.specs.Prelude.{ℕ, List, ◌≡◌, take}

@@ -1,7 +1,7 @@
 -- "Write the tree back" (document 02, item 4): which of a tree's texts is the written one, and what writing a file back gives.
 --
 -- before t a b         accelerator a comes before b: "by interconnect, then by port, both rising"
--- by_place t l          the accelerators of the list l stand in this order
+-- by_place t l         the accelerators of the list l stand in this order
 -- WritesOnly s t       the bytes s write t, "acc lines .. by interconnect, then by port, both rising", and "It leaves out a return delay of 0"
 -- rewritten s          the written text of the tree that s is read as
 use Rattle.std.specs.Prelude.{ℕ, Bool, true, ◌&&◌, ◌||◌, List, [], ◌∷◌, ◌≡◌, eqb, ltb}

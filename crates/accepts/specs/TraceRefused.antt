@@ -1,9 +1,9 @@
 -- Which refusal a trace file gets: "File size comes first, then lines in order. .. Within a trace line: 1, 2 by field, 7, 6, 2 by
 -- total" (document 01, "What is refused"). The lines before it, and what the line itself says, are said by writing.
 --
--- last_slot s rs        the slot of the last of the requests rs; s where there is none
--- ten_digits r          "Numbers are decimal, 1 to 10 digits": so are those of request r
--- offer_rules a s f r   the rules after 1 for request r, in their order, on a tree of a accelerators after requests up to slot s with
+-- last_slot s rs       the slot of the last of the requests rs; s where there is none
+-- ten_digits r         "Numbers are decimal, 1 to 10 digits": so are those of request r
+-- offer_rules a s f r  the rules after 1 for request r, in their order, on a tree of a accelerators after requests up to slot s with
 --                      totals f
 -- OfferBreaks a s f n ls e r
 --                      there, line n is the first of the lines ls and breaks rule r first; where no line is left, e stands after the

@@ -1,7 +1,7 @@
 -- The text of a trace, and what a file writes, said by writing and not by reading (document 01, "The tree on paper").
 --
--- request_text r        the o line of request r: slot, accelerator, count
--- trace_text rs         the file of the requests rs, one line each, in order
+-- request_text r       the o line of request r: slot, accelerator, count
+-- trace_text rs        the file of the requests rs, one line each, in order
 -- TraceKeeps a rs      the requests rs are in their limits for a tree of a accelerators, "Slots do not fall", "One accelerator's
 --                      counts total at most 65,535"
 -- WritesTrace a s rs   "a file as exactly the .. trace that it writes": the bytes s, "at most 65,536", write the requests rs, which keep

@@ -3,8 +3,8 @@
 --
 -- Stands u l w         line l may stand after what u holds, and makes it w
 -- Leads u ls w         the lines ls, one after the other, lead from u to w
--- in_order, free, low   the rules 3, 4, 5 of a line, by its record
--- line_rules u l        the rules after 1 of line l, in their order
+-- in_order, free, low  the rules 3, 4, 5 of a line, by its record
+-- line_rules u l       the rules after 1 of line l, in their order
 -- LineBreaks u n ls e r
 --                      after what u holds, line n is the first of the lines ls and breaks rule r first; where no line is left, e stands
 --                      after the last LF: "missing last LF" is 1, and "A record missing at the end of the file .. is 3 with the line

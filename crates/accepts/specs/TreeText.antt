@@ -2,8 +2,8 @@
 -- configuration keeps them if a tree file could have given it"). The lines are those of `Lines` of `writer`.
 --
 -- WritesBus b l        line l writes bus b: with r, and where r is 0 also without it ("absent means 0")
--- lines_after bus t     the line `bus`, then the int lines and the acc lines of t, by number
--- tree_text t           the file of t
+-- lines_after bus t    the line `bus`, then the int lines and the acc lines of t, by number
+-- tree_text t          the file of t
 -- Writes s t           "a file as exactly the tree .. that it writes": the bytes s are a bus line of t, its int lines by number and its
 --                      acc lines "in any order, numbers 0 to n - 1 each once", each ended by LF
 use Rattle.std.specs.Prelude.{ℕ, List, ◌∷◌, ◌++◌, map, ◌≡◌, ltb}

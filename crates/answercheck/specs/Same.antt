@@ -1,29 +1,29 @@
 -- When what the library answers is the same as what `second` says: each field by itself, every byte of two buffers.
 --
--- same_flag x y           both true or both false
--- same_said x s           a reader's answer: number and line
--- same_end x y            two ends of a run: number, line, slots, done
--- same_figures f r        the figures of an accelerator: all eight
--- same_slices a b         two lists: as long, and the same at each place
--- same_bytes o n          in an array of two buffers, the first n bytes from 0 and from 65,537 on; not if n is above 65,537
--- same_reading x f s      an exported reading: number, line, and the file f is named if s refuses it
--- kind_of e               an exported run's kind on an accepted tree: 0 done, 1 stopped, 3 refused
--- same_outcome x k e      an exported run: kind k, number, line, slots
--- kind_told w             the kind of an exported wait on an accepted tree: 0 told, 4 refused without a line and not by 2, 3 refused else
--- same_wait x k w         an exported wait: kind k, number, line, count, slot
--- same_row x s r          an exported bound: the refusal s, or number and line 0, and all eight figures
--- same_page x n s         an exported report or writing: n bytes, number and line
--- same_count x n s        an exported number of accelerators: n, number and line
--- same_cut x n s          an exported split: n pieces, number and line
--- join_number c           the number of the joiner's answer c, in which 0 is taken and 255 done: 0 for both
--- same_joined x y         an exported answer of the joiner: that number, done exactly at 255, the pieces and how many are answered
--- same_request x s a n    a request: slot s, accelerator a, count n
--- told_by n l c s         of a wait: refused by number n at line l, or 0; c slots waited, s the slot of admission
--- told_of x               what the library answers on a wait, as these; a refusal without a line has line 0
--- same_told x y           two answers on a wait: number, line, count, slot
--- written_by n l b        of a writing: refused by number n at line l, or 0; b bytes written
--- written_of x            what the library answers on a writing, as these; a refusal has line 0
--- same_written x y        two answers on a writing: number, line, bytes
+-- same_flag x y          both true or both false
+-- same_said x s          a reader's answer: number and line
+-- same_end x y           two ends of a run: number, line, slots, done
+-- same_figures f r       the figures of an accelerator: all eight
+-- same_slices a b        two lists: as long, and the same at each place
+-- same_bytes o n         in an array of two buffers, the first n bytes from 0 and from 65,537 on; not if n is above 65,537
+-- same_reading x f s     an exported reading: number, line, and the file f is named if s refuses it
+-- kind_of e              an exported run's kind on an accepted tree: 0 done, 1 stopped, 3 refused
+-- same_outcome x k e     an exported run: kind k, number, line, slots
+-- kind_told w            the kind of an exported wait on an accepted tree: 0 told, 4 refused without a line and not by 2, 3 refused else
+-- same_wait x k w        an exported wait: kind k, number, line, count, slot
+-- same_row x s r         an exported bound: the refusal s, or number and line 0, and all eight figures
+-- same_page x n s        an exported report or writing: n bytes, number and line
+-- same_count x n s       an exported number of accelerators: n, number and line
+-- same_cut x n s         an exported split: n pieces, number and line
+-- join_number c          the number of the joiner's answer c, in which 0 is taken and 255 done: 0 for both
+-- same_joined x y        an exported answer of the joiner: that number, done exactly at 255, the pieces and how many are answered
+-- same_request x s a n   a request: slot s, accelerator a, count n
+-- told_by n l c s        of a wait: refused by number n at line l, or 0; c slots waited, s the slot of admission
+-- told_of x              what the library answers on a wait, as these; a refusal without a line has line 0
+-- same_told x y          two answers on a wait: number, line, count, slot
+-- written_by n l b       of a writing: refused by number n at line l, or 0; b bytes written
+-- written_of x           what the library answers on a writing, as these; a refusal has line 0
+-- same_written x y       two answers on a writing: number, line, bytes
 use Rattle.std.specs.Prelude.{ℕ, Bool, true, false, ◌&&◌, not, List, leb, eqb, length, take, drop, get_or}
 use Rattle.folds.specs.Fold.{pick, all}
 use Rattle.lines.specs.declared.FileAnswer.{FileAnswer}

@@ -1,24 +1,24 @@
 -- What a reader, a run, a wait, a bound, the splitter and the joiner answer, as numbers, from the definitions of documents 01 and 02 that the libraries
 -- below cite.
 --
--- channel_number c       the number of channel c: 0 reads, 1 writes; channel_of n: the channel of number n, writes for any but 0
--- is_accepted x          a reader's answer x is "accepted"
--- file_refused f x       0 if so, else f, the file that is refused
--- reading_of f x         a reader's answer x as numbers, with f for the file that is refused: 1 the tree, 2 the trace
--- accepted_count x n     n accelerators where the tree's reading answers "accepted", else 0
--- count_of x n           the number of accelerators n of the tree whose reading answers x, as numbers
--- refused_by k n l       an outcome of kind k, refused by number n at line l
--- outcome_of x           how a run ended, as numbers: kind 0 done, 1 stopped, 3 refused
--- tree_refused x         the outcome where the tree's reading answers the refusal x: kind 2
--- no_wait k n l          no wait is told: kind k, refused by number n at line l
--- wait_of x              how a transaction waited, as numbers: kind 0 told, with the count of all slots and the slot of admission; 3
+-- channel_number c      the number of channel c: 0 reads, 1 writes; channel_of n: the channel of number n, writes for any but 0
+-- is_accepted x         a reader's answer x is "accepted"
+-- file_refused f x      0 if so, else f, the file that is refused
+-- reading_of f x        a reader's answer x as numbers, with f for the file that is refused: 1 the tree, 2 the trace
+-- accepted_count x n    n accelerators where the tree's reading answers "accepted", else 0
+-- count_of x n          the number of accelerators n of the tree whose reading answers x, as numbers
+-- refused_by k n l      an outcome of kind k, refused by number n at line l
+-- outcome_of x          how a run ended, as numbers: kind 0 done, 1 stopped, 3 refused
+-- tree_refused x        the outcome where the tree's reading answers the refusal x: kind 2
+-- no_wait k n l         no wait is told: kind k, refused by number n at line l
+-- wait_of x             how a transaction waited, as numbers: kind 0 told, with the count of all slots and the slot of admission; 3
 --                       refused with a line, or 0 for a size; 4 refused without one
 -- unbounded n l         no bounds, refused by number n at line l
--- row_of x               what a bound answers, as numbers; sr and sw are the shares of its reads and of its writes, yr and yw their interference; 7 and 11
+-- row_of x              what a bound answers, as numbers; sr and sw are the shares of its reads and of its writes, yr and yw their interference; 7 and 11
 --                       have no line
--- cut_of x               what a tree file and a burst are answered, as numbers
--- join_number x          the number of what the joiner answers, 0 where it refuses nothing; is_done x: it says done
--- joined_of x            what the joiner answers, with the joiner that comes back, as numbers
+-- cut_of x              what a tree file and a burst are answered, as numbers
+-- join_number x         the number of what the joiner answers, 0 where it refuses nothing; is_done x: it says done
+-- joined_of x           what the joiner answers, with the joiner that comes back, as numbers
 use Rattle.std.specs.Prelude.{ℕ, eqb, Bool, true, false}
 use Rattle.folds.specs.Fold.{pick}
 use Rattle.model.specs.declared.Channel.{Channel}

@@ -1,8 +1,8 @@
 -- What the answers of splitter, joiner and offered burst mean, by the papers' numbers.
 --
--- split_means a          the answer of `split`
--- join_means a           the answer of `join`
--- join_outcome r         answer and joiner of a reply, as the definitions have them; burst_outcome r: what came of an offered burst
+-- split_means a         the answer of `split`
+-- join_means a          the answer of `join`
+-- join_outcome r        answer and joiner of a reply, as the definitions have them; burst_outcome r: what came of an offered burst
 use Rattle.model.specs.Answer.{number_of}
 use Rattle.machine.specs.Answers.{offer_means}
 use Rattle.burst.specs.declared.SplitAnswer.{SplitAnswer}

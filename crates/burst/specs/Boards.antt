@@ -2,8 +2,8 @@
 -- to 256. We rent out boards of both kinds"; "What is shown of the splitter is shown for a limit as parameter").
 --
 -- OnBoard t b          what the splitter answers for the burst b on the tree t, by the record name of its bus line
--- of_beats m            a burst of m beats of 4 bytes from address 0 on
--- limit_on a            the limit of a board that speaks AXI3 (a true) or AXI4
+-- of_beats m           a burst of m beats of 4 bytes from address 0 on
+-- limit_on a           the limit of a board that speaks AXI3 (a true) or AXI4
 -- BoardFigures         figures, with pieces of 16 beats
 use Rattle.std.specs.Prelude.{ℕ, ◌≤◌, ◌<◌, Bool, true, false, ◌≡◌}
 use Rattle.model.specs.declared.Tree.{Tree}

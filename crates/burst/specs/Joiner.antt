@@ -1,13 +1,13 @@
 -- The joiner (document 02, item 6): "it takes the pieces' answers, numbered from 1, in order and says done at the last and only there".
 --
 -- Joiner                how many pieces a burst has, and how many of them are answered
--- joiner_for k           the joiner of a burst of k pieces, none of them answered
--- joiner_keeps j         the rules of a joiner: a burst has 1 to 256 pieces, and no more are answered than there are
+-- joiner_for k          the joiner of a burst of k pieces, none of them answered
+-- joiner_keeps j        the rules of a joiner: a burst has 1 to 256 pieces, and no more are answered than there are
 -- Joining               what the joiner answers to the answer of a piece: taken, done, or refused by a number
 -- Joined                that, with the joiner that comes back; joined x j: the answer x with the joiner j
--- in_turn j m            the answer of number m is the next one: neither "out of turn" nor "after the last"
+-- in_turn j m           the answer of number m is the next one: neither "out of turn" nor "after the last"
 -- onward j m            the joiner once the answer of number m is taken
--- join_of j m            the answer of number m: 11 for a joiner that breaks its rules and for one "out of turn, or after the last", which
+-- join_of j m           the answer of number m: 11 for a joiner that breaks its rules and for one "out of turn, or after the last", which
 --                       leave the joiner as it was; done for the last; else taken
 use Rattle.std.specs.Prelude.{ℕ, ◌+◌, Bool, ◌&&◌, not, leb, eqb}
 use Rattle.folds.specs.Fold.{pick, within}

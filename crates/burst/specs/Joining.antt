@@ -1,12 +1,12 @@
 -- The joiner over every list of answers (document 02, item 6: "it takes the pieces' answers, numbered from 1, in order and says done at
 -- the last and only there; one out of turn, or after the last, is refused 11").
 --
--- joiner_after j ms      the joiner that comes back after the numbers ms, handed in one after another: the first to j, each later one to the
+-- joiner_after j ms     the joiner that comes back after the numbers ms, handed in one after another: the first to j, each later one to the
 --                       joiner that the one before it returned
--- answer_after j ms m    what number m, handed in after them, is answered
--- with_taken x m ms      the numbers ms, with m before them unless the answer x is a refusal
--- taken_of j ms          those of the numbers ms that are not refused, in the order in which they came
--- answered_after j ms    how many pieces are answered after the numbers ms: as many as j says, and one for each that was not refused
+-- answer_after j ms m   what number m, handed in after them, is answered
+-- with_taken x m ms     the numbers ms, with m before them unless the answer x is a refusal
+-- taken_of j ms         those of the numbers ms that are not refused, in the order in which they came
+-- answered_after j ms   how many pieces are answered after the numbers ms: as many as j says, and one for each that was not refused
 -- OutOfTurn j ms m      "one out of turn, or after the last": after the numbers ms the next is not m, or the last was answered
 -- InOrder j             what the sentence says of the joiner j, whatever is handed in; of `joiner_for k` it is about the burst's own answers
 -- RefusesAll j          the joiner j refuses every number by 11, and comes back as it was

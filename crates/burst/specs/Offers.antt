@@ -1,8 +1,8 @@
 -- A burst offered to the machine (document 02, item 6: "Each piece is one transaction for phi and for the budget").
 --
 -- Offering              what comes of it: the answer, how many pieces were admitted, and the state; offering x k s puts them together
--- one_more o             the offering o with one piece more admitted before it
--- offer_pieces k t s a   k pieces of accelerator a, offered one after another, each as one transaction, until one is refused: the answer is
+-- one_more o            the offering o with one piece more admitted before it
+-- offer_pieces k t s a  k pieces of accelerator a, offered one after another, each as one transaction, until one is refused: the answer is
 --                       that refusal, or admitted where there is none
 -- by_split x t s a from   the same for what the splitter answered: its pieces from piece `from` on, counted from 0; a refusal moves nothing
 -- burst_offer t s a b from   the pieces of the burst b, from piece `from` on, counted from 0, offered so: 11 first, as for an offer, then what

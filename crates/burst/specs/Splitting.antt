@@ -1,8 +1,8 @@
 -- What is shown of the splitter (document 02, item 6), for every burst that it splits and every limit on its beats.
 --
--- beat_first b j         the first byte of beat j of the burst b, beats counted from 0: the first beat begins at the start address, each
+-- beat_first b j        the first byte of beat j of the burst b, beats counted from 0: the first beat begins at the start address, each
 --                       later one at a multiple of the beat size
--- beat_last b j          its last byte
+-- beat_last b j         its last byte
 -- Falls n b j           "Each beat falls in exactly one piece": beat j of the burst b is beat `beat` of piece `piece`, read as a burst of
 --                       its own, byte for byte, and no other beat of a piece begins where it does
 -- Splitting limit n b k what is shown of the k pieces of n beats

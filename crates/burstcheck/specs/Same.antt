@@ -1,12 +1,12 @@
 -- When what the library answers on a burst is the same as what `second` says: each field by itself, every entry of both arrays.
 --
--- split_number x          the number of a split's refusal, 0 where it is not refused; piece_count x: how many pieces there are then
--- same_split x y          the splitter's answer: that number, and the count of pieces, none where it is refused
--- same_entries a p d      the 256 entries of an array and those of the part p of the store
--- join_code x             the joiner's answer: 0 taken, 255 done, or the number of the refusal
--- same_join x y           that, and the joiner: its pieces and how many are answered
--- offer_number x          the number of an offer's refusal, 0 where it is admitted
--- same_offered x y r d    an offered burst: number, pieces admitted, and the state, on a tree with return delay r
+-- split_number x         the number of a split's refusal, 0 where it is not refused; piece_count x: how many pieces there are then
+-- same_split x y         the splitter's answer: that number, and the count of pieces, none where it is refused
+-- same_entries a p d     the 256 entries of an array and those of the part p of the store
+-- join_code x            the joiner's answer: 0 taken, 255 done, or the number of the refusal
+-- same_join x y          that, and the joiner: its pieces and how many are answered
+-- offer_number x         the number of an offer's refusal, 0 where it is admitted
+-- same_offered x y r d   an offered burst: number, pieces admitted, and the state, on a tree with return delay r
 use Rattle.std.specs.Prelude.{ℕ, Bool, ◌&&◌, List, ◌==◌, nat_eq, slice_index}
 use Rattle.folds.specs.Fold.{all}
 use Rattle.model.specs.Answer.{number_of}

@@ -2,7 +2,7 @@
 --
 -- bit_is x k            bit k of x is 1: a transaction was served k slots ago
 -- due_slot n r k        the slot in which one comes home that was served k slots before slot n, with return delay r: n + r + 1 - k, going
---                      round at 2 to the 64th power
+--                       round at 2 to the 64th power
 -- same_return x k a m d one was served k slots ago exactly if one of accelerator a comes home in slot m
 -- same_bits x a n r d   so it is with all thirty-two bits, as seen from slot n
 -- same_returns s a r d  the returns of accelerator a: as many, and each due in the same slot
@@ -10,7 +10,7 @@
 -- same_turn s j d       the turn of interconnect j: its last port and its allowance
 -- same_channel c d      the channel: reads stand as 0, writes as 1
 -- same_state s r d      on a tree with return delay r the slot count, the records of all thirty-two accelerators, the turns of all fifteen interconnects,
---                      and the channel
+--                       and the channel
 use Rattle.std.specs.Prelude.{ℕ, ◌+◌, ◌-◌, ◌%◌, ◌^◌, Bool, not, ◌&&◌, List, ◌==◌}
 use Rattle.folds.specs.Fold.{pick, all}
 use Rattle.model.specs.declared.State.{State}

@@ -2,15 +2,15 @@
 -- the tree is tested at the start, the fresh state keeps its rules, and so does every state after it.
 --
 -- quick_held, quick_each  offer_held and offer_each without these tests
--- quick_trail            trail without these tests, with the offers and the slot of each step computed once
--- answers_within         answers_of without these tests
--- quick_answers t s cs   answers_of, with the rules of the tree t and the state s tested once
--- ones_of d n            ones n, its d lowest digits one by one, where `ones` takes n steps
+-- quick_trail             trail without these tests, with the offers and the slot of each step computed once
+-- answers_within          answers_of without these tests
+-- quick_answers t s cs    answers_of, with the rules of the tree t and the state s tested once
+-- ones_of d n             ones n, its d lowest digits one by one, where `ones` takes n steps
 -- quick_record, quick_keeps  record_keeps and keeps with returns counted so
--- Left, left e bs       how a run ends and the bytes that it leaves
--- quick_ran t c s n      those of a run of trace s on channel c over n bytes of 7
--- quickly f             what the figure f claims, by these
--- every_quickly fs       that of each of the figures fs
+-- Left, left e bs         how a run ends and the bytes that it leaves
+-- quick_ran t c s n       those of a run of trace s on channel c over n bytes of 7
+-- quickly f               what the figure f claims, by these
+-- every_quickly fs        that of each of the figures fs
 use Prim.Native.Nat.{ℕ, zero, suc, ◌+◌, ◌-◌, ◌/◌, ◌%◌}
 use mathlib.Core.Bool.{Bool, true, false, not, ◌&&◌}
 use mathlib.Core.List.{List, [], ◌∷◌, ◌++◌}

@@ -1,24 +1,24 @@
 -- Figures for the clauses of document 01 that no starred case tells apart, with the wait for a new window (document 02, item 8). Each
 -- number is worked out by hand from the paper's words; the sum stands beside it where it is not plain. Channels as in `Figures.antt`.
 --
--- unequal x y          a bus whose delays all differ, with dA x and dD y
+-- unequal x y           a bus whose delays all differ, with dA x and dD y
 -- unequal_tree T        case 9's tree on the bus with dA 5 and dD 11
--- acc a, int j         a port that carries accelerator a, interconnect j
+-- acc a, int j          a port that carries accelerator a, interconnect j
 -- accs_from n a         n ports that carry the accelerators a, a + 1 and on
 -- ints_from n j         n ports that carry the interconnects j, j + 1 and on
--- unconnected n        n ports that carry nothing
+-- unconnected n         n ports that carry nothing
 -- blocks_on j p n       n accelerators on the ports p, p + 1 and on of interconnect j, each of phi 4 and budget 2
--- four                 four levels, each of another granularity
--- branched             two branches of four levels, seven interconnects of seven granularities
--- wide                 15 interconnects and 32 accelerators, P 4: accelerator 31 at port 7 of interconnect 14, which is at port
---                      7 of interconnect 7, which is at port 7 of the root
--- jobs T U             the tree of the worked listing with the periods T and U
--- broken               a configuration that breaks its rules: granularity 0
+-- four                  four levels, each of another granularity
+-- branched              two branches of four levels, seven interconnects of seven granularities
+-- wide                  15 interconnects and 32 accelerators, P 4: accelerator 31 at port 7 of interconnect 14, which is at port
+--                       7 of interconnect 7, which is at port 7 of the root
+-- jobs T U              the tree of the worked listing with the periods T and U
+-- broken                a configuration that breaks its rules: granularity 0
 -- state_of c w a l o n  the state of channel c with waiting counts w, admitted counts a, last ports l, allowances o, 0 for all others, and slot
---                      count n
+--                       count n
 -- shares_from t c a n   the shares on channel c of the n accelerators a, a + 1 and on
 -- on_channel c          the figures on channel c, each headed by what it is for; others: those that name no channel
--- clauses              the figures on both channels, and the others
+-- clauses               the figures on both channels, and the others
 -- The claim, every clauses, is proved in `proofs/Clauses.antt`.
 use Rattle.std.specs.Prelude.{ℕ, zero, suc, ◌-◌, true, false, List, [], ◌∷◌, ◌++◌, length, replicate}
 use Rattle.model.specs.declared.Tree.{Tree}

@@ -18,10 +18,10 @@
 -- responded T b        the bounds of case 9, where the period is T and b says whether it is met
 -- printed t ls         the report of the tree t has the lines ls
 -- told xs ls           the text xs has the lines ls
--- lines_of ls           the text of the lines ls, each ended by LF
+-- lines_of ls          the text of the lines ls, each ended by LF
 -- holds f              what the figure f claims
 -- every fs             each of the figures fs holds
--- on_channel c          the figures on channel c, each headed by its case; reports: those that name no channel
+-- on_channel c         the figures on channel c, each headed by its case; reports: those that name no channel
 -- table                the figures on both channels, and the others
 -- The claim, every table, is proved in `proofs/Figures.antt`.
 use Rattle.std.specs.Prelude.{ℕ, zero, suc, ◌+◌, ◌-◌, Bool, true, false, List, [], ◌∷◌, ◌++◌, ◌≡◌, length, replicate}

@@ -1,12 +1,12 @@
 -- Figures for the return delay (document 02, item 2), each worked out by hand from its words: "A transaction served in slot s stops
 -- being outstanding at the start of slot s + 1 + r, before that slot's offers". All on both channels.
 --
--- on_return t c w x n   the fresh state of the tree t on channel c with the waiting counts w, the returns x and the slot count n; bit d of a return: one
+-- on_return t c w x n  the fresh state of the tree t on channel c with the waiting counts w, the returns x and the slot count n; bit d of a return: one
 --                      was served d slots ago, so it is due r + 1 - d slots ahead
 -- rules c r f w x b    b says whether such a state of two accelerators, of phi f and 4, keeps its rules with return delay r
 -- calls c r f w x n cs xs  from such a state the calls cs get the answers xs
--- slots_offered n       n slots, each with an offer of accelerator 0 before it
--- on_channel c          the figures on channel c, each headed by what it is for
+-- slots_offered n      n slots, each with an offer of accelerator 0 before it
+-- on_channel c         the figures on channel c, each headed by what it is for
 -- returns              those of both channels
 -- The claim, every returns, is proved in `proofs/Returns.antt`.
 use Rattle.std.specs.Prelude.{ℕ, zero, suc, Bool, true, false, List, [], ◌∷◌, ◌++◌, replicate}

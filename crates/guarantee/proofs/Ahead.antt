@@ -1,8 +1,8 @@
 -- One interconnect. Before port p comes on, its other ports are served at most what their turns allow, D in all; a turn of
 -- another port takes one off, and a turn of p leaves at most D before its next.
 --
--- ahead_in c l n p       what may be served before port p comes on, with last port l, n left of its turn and the costs c
--- ahead_of t φ s i p     the same at interconnect i in state s, where a port costs what it counts for in D with limits φ
+-- ahead_in c l n p      what may be served before port p comes on, with last port l, n left of its turn and the costs c
+-- ahead_of t φ s i p    the same at interconnect i in state s, where a port costs what it counts for in D with limits φ
 -- WaitsWithin t φ s     in state s no accelerator has more waiting than φ allows it
 -- layer x d w           the slots until the w-th service beneath a port, x served ahead of it and d between two of them
 use Prim.Native.Nat.{ℕ, zero, suc, ◌+◌, ◌-◌, ◌*◌, ◌≤◌, ◌<◌, min}

@@ -3,9 +3,9 @@
 -- it nothing changes.
 --
 -- layer_of t φ s i p w   the slots until the w-th service beneath port p of interconnect i, counted in turns of i, with
---                       outstanding limits φ
+--                        outstanding limits φ
 -- wait_along t φ s xs w  the slots until the w-th service beneath the first of the crossings xs, as their turns stand in
---                       state s: the wait at each crossing is what is counted at the crossing above it
+--                        state s: the wait at each crossing is what is counted at the crossing above it
 -- wait_of t φ s a m      the slots until the m-th of the transactions of accelerator a is served, at most
 use Prim.Native.Nat.{ℕ, suc, ◌+◌, ◌*◌, ◌≤◌, ◌<◌}
 use mathlib.Core.List.{List, [], ◌∷◌}

@@ -9,20 +9,20 @@
 -- state_keeps_at_once φ t s   "A state keeps its rules if .."
 -- keeps_at_once φ t s      configuration and state keep their rules: else the refusal is 11
 -- verdict_at_once φ t s a  what an offer answers once both have passed: 7, 14 where none may be outstanding, 8, 9, or admitted. 8: "phi
---                        transactions already outstanding", which is that many waiting
+--                          transactions already outstanding", which is that many waiting
 -- offered_at_once φ t s a  the offer of one transaction: 11, 7, 14, 8, 9 in this order, or admitted
 -- tick_at_once t s         "Then the slot count rises by one; where that opens a new window, all admitted counts become 0"
--- take_one_at_once s a      one transaction of accelerator a less waits, and it is outstanding no more
+-- take_one_at_once s a     one transaction of accelerator a less waits, and it is outstanding no more
 -- serve_at_once t s        the state once the chosen accelerator's oldest transaction is served, before the slot count rises
 -- slotted_at_once φ t s    one slot: 11, 10 in this order, or idle, or the accelerator served
 -- step_at_once φ t s c     what the call c answers and returns from state s
 -- answers_at_once φ t s cs the answers of the calls cs, the first handed s
 -- events_at_once φ t s cs  the calls cs with these answers
 -- state_at_once φ t s cs   the state that the last of the calls cs returns
--- AtOnce φ t s cs        from state s the calls cs do what this machine does with φ
--- EachHasJob t c         every accelerator of the tree has a job on channel c
--- DocumentOne t s cs     where that is so of the channel of state s, the calls cs do there what document 01's own machine does
--- Never14 t              document 01's own machine does not answer 14
+-- AtOnce φ t s cs          from state s the calls cs do what this machine does with φ
+-- EachHasJob t c           every accelerator of the tree has a job on channel c
+-- DocumentOne t s cs       where that is so of the channel of state s, the calls cs do there what document 01's own machine does
+-- Never14 t                document 01's own machine does not answer 14
 use Rattle.std.specs.Prelude.{ℕ, ◌+◌, ◌-◌, ◌<◌, Bool, not, ◌&&◌, List, [], ◌∷◌, ◌≡◌, length, set, replicate, leb, ltb, eqb}
 use Rattle.model.specs.declared.Tree.{Tree}
 use Rattle.model.specs.declared.State.{State}

@@ -3,33 +3,33 @@
 -- which plain calls that is, is said here without it.
 --
 -- BoardCall             a call of a board: a plain call, or a burst of an accelerator offered from one of its pieces on, counted from 0
--- board_state t s c      the state that the board call c returns from state s
--- board_after t s bs     the state that the last of the board calls bs returns, the first handed s, each later one the state that the one
+-- board_state t s c     the state that the board call c returns from state s
+-- board_after t s bs    the state that the last of the board calls bs returns, the first handed s, each later one the state that the one
 --                       before it returned
--- split_for t s b        what the splitter answers for the burst b, 11 where configuration or state break their rules
+-- split_for t s b       what the splitter answers for the burst b, 11 where configuration or state break their rules
 -- pieces_left t s b from   its pieces from piece `from` on; none where the splitter refuses it
--- room_of t s a          how many transactions of accelerator a there is room for in state s: the lesser of what its outstanding limit on
+-- room_of t s a         how many transactions of accelerator a there is room for in state s: the lesser of what its outstanding limit on
 --                       the channel and what its budget leave, none of an accelerator that the tree has not
 -- admissible t s a b from   how many of the pieces left are admitted: as many as there is room for
--- refusal_of t s a       what refuses the next one where there is no room: 7, 14, 8, 9 in this order
--- offers_of a n m        the offers of m pieces of accelerator a of which the first n are admitted: one each for these, and one more where a
+-- refusal_of t s a      what refuses the next one where there is no room: 7, 14, 8, 9 in this order
+-- offers_of a n m       the offers of m pieces of accelerator a of which the first n are admitted: one each for these, and one more where a
 --                       piece is left
--- calls_of t s c         the plain calls of the board call c on state s
--- calls_in t s bs        those of the board calls bs, each on the state that the one before it returned
--- admissions_of a n      n offers of accelerator a that are admitted
+-- calls_of t s c        the plain calls of the board call c on state s
+-- calls_in t s bs       those of the board calls bs, each on the state that the one before it returned
+-- admissions_of a n     n offers of accelerator a that are admitted
 -- BurstIn bs            a burst offered among the board calls bs: what comes before and after, accelerator, burst, first piece
--- state_before t s p     the state on which it is offered
+-- state_before t s p    the state on which it is offered
 -- reply t s p           what comes of it: answer, count of the pieces admitted, state
 -- left t s p            its pieces left, admitted or not
--- events_before t s p    the events of the plain calls before it; events_after t s p: of those after it
--- last_event t s p       where a piece is left that was not admitted: its offer, with the answer of the burst
--- before_piece t s p i   the events before the admission of piece i of those admitted, counted from 0
--- after_piece t s p i    the events after that
--- in_queue t s p i       how many of its own accelerator's wait before piece i: those before the burst, and i pieces
+-- events_before t s p   the events of the plain calls before it; events_after t s p: of those after it
+-- last_event t s p      where a piece is left that was not admitted: its offer, with the answer of the burst
+-- before_piece t s p i  the events before the admission of piece i of those admitted, counted from 0
+-- after_piece t s p i   the events after that
+-- in_queue t s p i      how many of its own accelerator's wait before piece i: those before the burst, and i pieces
 -- PieceGuarantee t s bs demand 3 for the pieces of the bursts in the list bs from state s
 -- words x n             a burst of n beats of 4 bytes from address x on
--- board_full             four bursts of four pieces, and four rounds: the list `kept_full` of Instances.antt
--- goes_on                a burst of six pieces, and after each of two slots what is left of it
+-- board_full            four bursts of four pieces, and four rounds: the list `kept_full` of Instances.antt
+-- goes_on               a burst of six pieces, and after each of two slots what is left of it
 -- PieceInstances        lists that show that this is neither empty nor slack
 use Rattle.std.specs.Prelude.{ℕ, suc, ◌+◌, ◌-◌, ◌*◌, ◌≤◌, ◌<◌, min, List, [], ◌∷◌, ◌++◌, map, ◌≡◌, replicate, leb, ltb, eqb}
 use Rattle.model.specs.declared.Tree.{Tree}

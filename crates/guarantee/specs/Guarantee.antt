@@ -3,29 +3,29 @@
 -- "Capacity, D and share are thus given for each channel").
 --
 -- Event                 a call and its answer
--- events_of t s cs       the calls cs with their answers, "The first gets any state that keeps its rules .., each later one
+-- events_of t s cs      the calls cs with their answers, "The first gets any state that keeps its rules .., each later one
 --                       what the call before it returned"
 -- Ticket                one transaction: the i-th that waited at the start, or the one that the call at place n admitted,
 --                       places counted from 0
--- without_first q        the queue q without its first transaction
+-- without_first q       the queue q without its first transaction
 -- offer_moves, slot_moves, call_moves   what an offer, a slot, a call does to accelerator a's queue, by its answer
 -- moved a n q e         accelerator a's queue q after the event e at place n: "an admitting offer puts its transaction last
 --                       there, a slot that answers the accelerator serves the first .., and an idle slot or a refused call
 --                       moves none"
--- queue_from a n q es    accelerator a's queue after the events es, the first of them at place n
--- starting_queue n       the n transactions that wait at the start, in order
--- queue_after s a es     accelerator a's queue after the events es from the start: "each accelerator has a queue, at first as
+-- queue_from a n q es   accelerator a's queue after the events es, the first of them at place n
+-- starting_queue n      the n transactions that wait at the start, in order
+-- queue_after s a es    accelerator a's queue after the events es from the start: "each accelerator has a queue, at first as
 --                       long as its waiting count in the starting state"
 -- unrefused x           1 unless the answer x is a refusal; slot_counts x c: 1 if the call c is a slot that is not refused
--- slots_in es            the slots among the events es that are not refused
--- serves_other a x       1 if the answer x is the service of another accelerator than a
--- others_in a es         the slots among the events es that serve another accelerator than a
--- admits_one a x c       1 if the call c is an offer of accelerator a and the answer x an admission
+-- slots_in es           the slots among the events es that are not refused
+-- serves_other a x      1 if the answer x is the service of another accelerator than a
+-- others_in a es        the slots among the events es that serve another accelerator than a
+-- admits_one a x c      1 if the call c is an offer of accelerator a and the answer x an admission
 -- admissions_from t a w n es   the admissions of accelerator a in window w among the events es, the first of them in slot n:
 --                       "An offer's slot is the starting slot count plus the unrefused slots before it, and its window that
 --                       slot's"
 -- admissions_in t s a w es  the same from the start: "in the first window the starting admitted count is added"
--- up_to a front mid      the events front, an admission of accelerator a, and the events mid
+-- up_to a front mid     the events front, an admission of accelerator a, and the events mid
 -- ServedWithin s a front back n   after the events front comes an admission of accelerator a and then the events back; its
 --                       very transaction is served within the first n slots of back that are not refused
 -- Holds x q             the transaction x is in the queue q

@@ -1,11 +1,11 @@
 -- How many of each accelerator are outstanding after any part of a list of calls: from calls, answers and the starting state
 -- alone (document 02, item 2); and by which number an offer is refused for that (item 5).
 --
--- serves_own a x         1 if the answer x is the service of accelerator a, which only a slot answers
--- recent_in r a es       the services of accelerator a among the events es whose answer is not home at their end: fewer than r
+-- serves_own a x        1 if the answer x is the service of accelerator a, which only a slot answers
+-- recent_in r a es      the services of accelerator a among the events es whose answer is not home at their end: fewer than r
 --                       slots that are not refused follow them. "A transaction served in slot s stops being outstanding at the
 --                       start of slot s + 1 + r, before that slot's offers"
--- not_home r n x         how many of the returns x at the start are not home n unrefused slots later: those served d slots before the
+-- not_home r n x        how many of the returns x at the start are not home n unrefused slots later: those served d slots before the
 --                       start, with d + n at most r. The same sentence, of a service before the list
 -- outstanding_after t s a es   how many of accelerator a are outstanding after the events es: its queue, and its "returning
 --                       transactions beside the waiting ones"

@@ -4,33 +4,33 @@
 -- MetExactly t s cs a k n   in the list cs from state s a transaction of accelerator a is admitted with k of its own
 --                       waiting before it and served in the n-th slot from there, the very last that demand 3 grants it;
 --                       up to then as many transactions of others are served as demand 3 allows
--- back_of m              what follows the admission in such an instance m
+-- back_of m             what follows the admission in such an instance m
 -- Tight m               of such an instance m demand 3 itself says what was computed, and no less: served within n slots,
 --                       and not within n - 1; at most as many others served
 -- SpentIn t s cs a w    in the list cs from state s accelerator a is admitted in window w exactly its budget, and the next
 --                       offer is refused by 9
 -- several n cs          the calls cs, n times
--- case_two               the calls of case 2: "4, 2, 1, 1 offered at slot 0", and eight slots
+-- case_two              the calls of case 2: "4, 2, 1, 1 offered at slot 0", and eight slots
 -- round                 eight slots, each but the last followed by an offer of the accelerator that it serves
--- kept_full              four offers of each accelerator, then four rounds: accelerators 0, 1 and 2 are full before each slot
--- wide_turn              on the tree `nested`: accelerator 0 is served; then two offers of accelerator 1, one of accelerator 0, and three slots
--- two_windows            two offers of accelerator 0 in each of two windows of four slots
+-- kept_full             four offers of each accelerator, then four rounds: accelerators 0, 1 and 2 are full before each slot
+-- wide_turn             on the tree `nested`: accelerator 0 is served; then two offers of accelerator 1, one of accelerator 0, and three slots
+-- two_windows           two offers of accelerator 0 in each of two windows of four slots
 -- unreached             a state of `chain`: accelerators 0, 1 and 2 full and one of 3 waiting, none of them admitted, no slot
 --                       passed, and a turn of port 0 running at each interconnect
--- from_unreached         an offer of accelerator 3, then two rounds
+-- from_unreached        an offer of accelerator 3, then two rounds
 -- late                  a state of `chain` nine slots before the last: of accelerator 0 three wait and its admitted count is
 --                       one less than its budget
--- until_last             case 2's slots from there, with offers that are refused before and between them, up to the last
+-- until_last            case 2's slots from there, with offers that are refused before and between them, up to the last
 --                       slot and beyond it
--- while_returning        on `returning_pair 2 1 4`: accelerator 0 is served and offered again while its answer is on the way, then once more
+-- while_returning       on `returning_pair 2 1 4`: accelerator 0 is served and offered again while its answer is on the way, then once more
 --                       when it is home, and accelerator 1 has to wait for it
--- on_their_way            a state of `returning_pair 2 4 4`: one of accelerator 0 waits, and two were served one and two slots ago
--- slots_later n          how many of accelerator 0 are outstanding n slots after that state
+-- on_their_way          a state of `returning_pair 2 4 4`: one of accelerator 0 waits, and two were served one and two slots ago
+-- slots_later n         how many of accelerator 0 are outstanding n slots after that state
 -- delayed               a tree of return delay 1
 -- BoundFails t s es a k n   of the events es from state s the waiting bound does not hold: a transaction of accelerator a is admitted with k
 --                       of its own waiting before it, (k + 1) times its share are n slots, n slots follow, and it is not served within them
 -- mapped                a tree of two accelerators, the second of which only writes: `map_tree 0 4 4`
--- map_calls              accelerator 0 is served; then an offer of accelerator 1, one of accelerator 0, and two slots
+-- map_calls             accelerator 0 is served; then an offer of accelerator 1, one of accelerator 0, and two slots
 -- Sharp                 the instances
 -- AllTight h            demand 3 is tight at each of them
 use Rattle.std.specs.Prelude.{ℕ, zero, suc, ◌+◌, ◌-◌, ◌*◌, ◌≤◌, true, List, [], ◌∷◌, ◌++◌, map, ◌≡◌, length, replicate}

@@ -1,14 +1,14 @@
 -- In how many windows an accelerator's offers are refused by 9, "budget of this window used" (document 02, item 8: "until the last is
 -- admitted refusal 9 meets them in at most ceil(N / b) windows"), of every list of calls from any state that keeps its rules.
 --
--- by_budget a x c            the call c is an offer of accelerator a and the answer x refusal 9
--- refused_in t a w n es      some event of es, the first of them in slot n, is such a refusal in window w
--- refused_windows t a n es   in how many windows some event of es, the first of them in slot n, is such a refusal
--- admissions_by a es         the admissions of accelerator a among the events es
+-- by_budget a x c           the call c is an offer of accelerator a and the answer x refusal 9
+-- refused_in t a w n es     some event of es, the first of them in slot n, is such a refusal in window w
+-- refused_windows t a n es  in how many windows some event of es, the first of them in slot n, is such a refusal
+-- admissions_by a es        the admissions of accelerator a among the events es
 -- FewWindows t s cs         in any part of the list in which fewer than n of accelerator a are admitted, refusal 9 meets its offers in at
 --                           most ceil(n / b) windows
 -- RefusedExactly t s cs a n w   such a part in which it meets them in exactly w windows, the very number granted
--- spent_then_three            budget 2 and P 4: accelerator 0 uses the budget of window 0; of three more the first is offered in each slot
+-- spent_then_three          budget 2 and P 4: accelerator 0 uses the budget of window 0; of three more the first is offered in each slot
 --                           there, two are admitted in window 1, and the third is offered in each slot there and admitted in window 2
 use Rattle.std.specs.Prelude.{ℕ, suc, ◌+◌, ◌≤◌, ◌<◌, Bool, true, false, ◌&&◌, ◌||◌, List, [], ◌∷◌, ◌++◌, ◌≡◌, eqb}
 use Rattle.model.specs.declared.Tree.{Tree}

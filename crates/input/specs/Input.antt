@@ -1,7 +1,7 @@
 -- What a file that was read to its end gave, and what one read or write did.
 --
--- size_of x             how many bytes of the buffer are the file's: none where a read failed
--- answer_of z n         what a read or a write of n bytes answered by the number z: below 0 it failed, else it moved so many bytes,
+-- size_of x            how many bytes of the buffer are the file's: none where a read failed
+-- answer_of z n        what a read or a write of n bytes answered by the number z: below 0 it failed, else it moved so many bytes,
 --                      at most n; a read that moves none is at the end of the file
 use Rattle.std.specs.Prelude.{ℕ, min, ℤ, pos, negsuc}
 use Rattle.input.specs.declared.Input.{Input}

@@ -1,14 +1,14 @@
 -- What the program `why` does by its words, and what it answers for two files (document 02, items 1 and 5).
 --
--- most_acc, most_number  what stands for every accelerator, and every number, above it; no tree has the one and no run serves so many
+-- most_acc, most_number what stands for every accelerator, and every number, above it; no tree has the one and no run serves so many
 -- wait_asked k c d      the transaction that the words ACC and NUMBER, c and d, name on the channel that was read as k; usage where
---                      that is no channel, or one of the words no number
+--                       that is no channel, or one of the words no number
 -- why_asked n k a b c d what `why` does, started with n words, of which k, a, b, c and d are the first five: help, if asked; with
---                      five words, a and b two files, what the channel that k names and the last two ask; usage for any other words
+--                       five words, a and b two files, what the channel that k names and the last two ask; usage for any other words
 -- denied_part n         what a refusal by number n without a line of a file is of: 7 of ACC, 12 of NUMBER, and 11 of the tree
 -- reply_of w            what is answered of w, the answer of the library: a refusal with a line, or 0 for a size, is the trace's
 -- reply_from q c s a k  the answer for the reading q of a tree file, the trace s on channel c, accelerator a and number k, with a
---                      buffer of 65,536 bytes: the tree is read first. The buffer then is that of the static library, `list_from`
+--                       buffer of 65,536 bytes: the tree is read first. The buffer then is that of the static library, `list_from`
 use Rattle.std.specs.Prelude.{ℕ, min, ◌&&◌, ◌||◌, List, eqb}
 use Rattle.folds.specs.Fold.{pick}
 use Rattle.text.specs.Text.{decimal}

@@ -8,9 +8,9 @@
 -- count_text n          the last line: `waited`, and the count n of all slots
 -- wait_text from n ps   the text: the lines of the list ps, and the last line
 -- wait_page from n ps i page i of it, from 0: its lines, and on the last page the last line
--- listed n bs          the list of n slots, as far as the buffer bs holds it
+-- listed n bs           the list of n slots, as far as the buffer bs holds it
 -- reply_text r bs       what is printed of the reply r and the buffer bs; pages_of r bs: the pages it is given in; reply_page r bs i:
---                      page i of it, from 0
+--                       page i of it, from 0
 use Rattle.std.specs.Prelude.{ℕ, ◌+◌, ◌-◌, ◌*◌, ◌/◌, min, List, [], ◌++◌, eqb, length, get_or, take}
 use Rattle.folds.specs.Fold.{pick}
 use Rattle.text.specs.Write.{decimal_text}

@@ -1,13 +1,13 @@
 -- The report and the refusal of document 01 (the end of "Figures to check by").
 --
--- head_line             "acc level share yr yw resp period verdict", with sr and sw in the place of share
--- verdict_of b          `meets` or `late`
--- row_text a r          "The columns are accelerator, L, share, both interferences, response, T and verdict", where "the report's
+-- head_line            "acc level share yr yw resp period verdict", with sr and sw in the place of share
+-- verdict_of b         `meets` or `late`
+-- row_text a r         "The columns are accelerator, L, share, both interferences, response, T and verdict", where "the report's
 --                      share column becomes two, reads first, named sr and sw" (document 02, item 5)
--- all_line b            "the last line": `all` and the verdict
--- all_meet t            whether all accelerators meet their periods
--- refusal_text n l      "A refusal prints one line only: "refused", number and line, parted by tabs"
--- report_text t         the report: the head line, a row for each accelerator "rising by number", and "the last line says
+-- all_line b           "the last line": `all` and the verdict
+-- all_meet t           whether all accelerators meet their periods
+-- refusal_text n l     "A refusal prints one line only: "refused", number and line, parted by tabs"
+-- report_text t        the report: the head line, a row for each accelerator "rising by number", and "the last line says
 --                      meets if all do"; for a configuration that breaks its rules (11) nothing is put
 use Rattle.std.specs.Prelude.{ℕ, Bool, List, [], ◌++◌}
 use Rattle.model.specs.declared.Tree.{Tree}

@@ -1,11 +1,11 @@
 -- What writing a tree file back answers (document 02, item 4, and document 01, "What is refused").
 --
--- refused_by n l        refused by number n at line l; no byte is put
--- wrote_as x            what the writer answers, as numbers: 11 and 13 have no line, which is said as 0
--- answered_by x p       the answer p where the reading answers x by accepting, else its refusal; left_by x d e: the buffer e alike, else d
--- rewrite_of q n        the answer for the reading q of a tree file and a buffer of n bytes: the reading's refusal, or what the writer
+-- refused_by n l       refused by number n at line l; no byte is put
+-- wrote_as x           what the writer answers, as numbers: 11 and 13 have no line, which is said as 0
+-- answered_by x p      the answer p where the reading answers x by accepting, else its refusal; left_by x d e: the buffer e alike, else d
+-- rewrite_of q n       the answer for the reading q of a tree file and a buffer of n bytes: the reading's refusal, or what the writer
 --                      answers of its tree
--- rewrite_buffer q d    the buffer d then
+-- rewrite_buffer q d   the buffer d then
 use Rattle.std.specs.Prelude.{ℕ, List}
 use Rattle.lines.specs.declared.FileAnswer.{FileAnswer}
 use Rattle.lines.specs.declared.FileAnswer.TheVariants.{Accepted, Refused, Broken}

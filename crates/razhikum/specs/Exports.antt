@@ -1,6 +1,6 @@
 -- What the exported functions answer, as numbers, from the definitions of documents 01 and 02 that the libraries below cite.
 --
--- version               3.0.0 as one number: 10,000 for the first figure, 100 for the second, 1 for the third
+-- version                3.0.0 as one number: 10,000 for the first figure, 100 for the second, 1 for the third
 -- page_of x              what `plan` answers, as the static library says it
 -- tree_reading q         the reading q of a tree file as numbers
 -- trace_reading q s      the same for the trace s on that tree: a refused tree comes first
@@ -8,9 +8,9 @@
 -- outcome_from q c s d   the outcome of trace s on channel c of the tree of reading q over the buffer d
 -- buffer_from q c s d    the buffer d after it: a refused tree leaves it as it was
 -- outcome_on n q s d     the same for the channel of number n; one that is neither 0 nor 1 is refused by 2 (kind 4) before the files are
---                       read, and buffer_on n q s d, the buffer after it, is left as it was
+--                        read, and buffer_on n q s d, the buffer after it, is left as it was
 -- wait_from q c s a k d  how the k-th transaction of accelerator a waited, with trace s on channel c of the tree of reading q and the
---                       buffer d
+--                        buffer d
 -- list_from q c s a k d  the buffer d after it: a refused tree leaves it as it was
 -- wait_on n q s a k d, list_on n q s a k d   the same for the channel of number n, refused as for a run
 -- row_from q a           the bounds of accelerator a on the tree of reading q

@@ -2,27 +2,27 @@
 -- wrong shape, what is most likely wrong (the causes of "What is refused"). The limits are those of `form_of`, which the readers
 -- test by. Where the bytes do not show the cause, as with a number that does not fit them, it is told in general.
 --
--- has b l              the byte b stands in l
--- fits t k             record k may stand in a tree or, if t, in a trace
+-- has b l               the byte b stands in l
+-- fits t k              record k may stand in a tree or, if t, in a trace
 -- record_fault t r      which sentence tells a wrong shape of the line r, by its record and fields
 -- shape_row t n e l     which sentence tells a wrong shape of the bytes l of line n, in a tree or, if t, in a trace; e says that LF
---                      ends the line
+--                       ends the line
 -- first_failing i k f   the first number from i on, of k, of which the test f does not hold; i + k if it holds of all
 -- field_bytes b i       field i of the line whose bytes are b: the record name stands before field 0
--- readable f b i       field i of the line b is a number, or is "-" where the form f has it
--- unread k b           the first field of the line b of record k that is not readable; the count of its fields if each is
+-- readable f b i        field i of the line b is a number, or is "-" where the form f has it
+-- unread k b            the first field of the line b of record k that is not readable; the count of its fields if each is
 -- not_number f          which sentence tells that the field f may not stand
 -- unread_text k i x     field i of record k, whose bytes are x, may not stand
 -- malformed_text k b    the line b of record k has a field that may not stand
 -- count_text k c        the line of record k has c fields, which is not the count that it may have
 -- fault_text j k c b    sentence j of a wrong shape, of the line b, which has record k and c fields
--- outside k v          the first of the fields v of record k that is outside its limits; the count of its fields if none is
+-- outside k v           the first of the fields v of record k that is outside its limits; the count of its fields if none is
 -- range_text x low high x and the limits that it breaks
 -- limit_text k i x low high   field i of record k is x, outside its limits
 -- field_text k v i      field i of the fields v of record k is outside its limits
 -- total_text k v        a total over its limit; only an o line has one
 -- value_text k v        a refusal by 2 of the line with the fields v of record k: a field outside its limits, or else a total
--- on_port k, is_int k    record k takes a port; record k is an int line
+-- on_port k, is_int k   record k takes a port; record k is an int line
 -- order_row k           which sentence tells what is wanted of the order of record k
 -- number_row n          which sentence tells a refusal by number n in general: 1 to 12 stand at their numbers, 13 to 16 from 35 on
 -- line_says n q k v     a refusal by number n, from 2 on, of the line with the fields v of record k; q is the slot of the line before

@@ -2,17 +2,17 @@
 --
 -- from_part sep k s     the bytes s from part k on, where parts end at sep and are counted from 0
 -- part_at sep k s       part k of s: nothing past the last one
--- sentences            a sentence to a row, counted from 0; rows 1 to 12 tell the cause of that number in general, 35 to 38 that of 13 to 16
--- marked b x           the byte b of a sentence, or the number x where b is #
--- filled s x y         the sentence s with x in place of its first # and y in place of each later one
--- sentence j x y       row j of the sentences, with x and y in it
--- names                the field names of bus, int, acc and o in the order of the paper, and then the record names; bus3 has the fields of bus
+-- sentences             a sentence to a row, counted from 0; rows 1 to 12 tell the cause of that number in general, 35 to 38 that of 13 to 16
+-- marked b x            the byte b of a sentence, or the number x where b is #
+-- filled s x y          the sentence s with x in place of its first # and y in place of each later one
+-- sentence j x y        row j of the sentences, with x and y in it
+-- names                 the field names of bus, int, acc and o in the order of the paper, and then the record names; bus3 has the fields of bus
 -- record_row k          the row of a record's name; first_field k: the row of its first field's name
 -- field_row k i         the row of the name of field i of record k; past the eleventh field a row that is empty
 -- record_name k         the name of record k
 -- field_name k i        the names of record k and of its field i
--- printable b          the byte b, or ? where it is below 32 or above 126
--- quoted s             the first 20 bytes of s in quotes
+-- printable b           the byte b, or ? where it is below 32 or above 126
+-- quoted s              the first 20 bytes of s in quotes
 -- record_says k j x y   sentence j, said of record k
 -- field_says k i j x y  sentence j, said of field i of record k
 use Rattle.std.specs.Prelude.{ℕ, zero, suc, ◌+◌, List, [], ◌∷◌, ◌++◌, map, ltb, eqb, take}

@@ -14,7 +14,7 @@ use Rattle.model.specs.Tree.{waiting_of}
 use Rattle.rules.specs.Rules.{keeps}
 use Rattle.machine.specs.Machine.{admit, offered}
 use Rattle.machine.proofs.Laws.{offer_others}
-use Rattle.runner.specs.Offers.{Offering, held_of, release, offering, offer_held, offer_all, offer_each}
+use Rattle.runner.specs.Offers.{Offering, held_of, release, offering, offer_held, offer_each}
 use Rattle.runner.proofs.Held.{by_answer, either}
 use Rattle.runner.proofs.Settled.{Idles, each_none}
 use Rattle.runner.proofs.First.{admits_one_lem}

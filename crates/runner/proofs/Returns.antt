@@ -2,27 +2,25 @@
 -- home, is the byte of the slot r + 1 slots before the next one.
 use Prim.Native.Nat.{ℕ, zero, suc, ◌+◌, ◌-◌, ◌%◌, ◌^◌, ◌≤◌, ◌<◌}
 use mathlib.Core.Bool.{true}
-use mathlib.Core.List.{List, [], ◌∷◌, ◌++◌, map}
-use mathlib.Core.Path.{◌≡◌, refl, sym, ◌∙◌, ap, subst}
+use mathlib.Core.List.{List, [], ◌∷◌, ◌++◌}
+use mathlib.Core.Path.{◌≡◌, sym, ◌∙◌, ap, subst}
 use native.Mathlib.Decide.{dec_lt, ℕ_discrete}
 use native.Mathlib.Nat.{add-zero}
 use native.Mathlib.Omega.{arith}
 use lib.Count.{ones}
-use lib.Dec.{ltb}
 use lib.ListN.{get_or, length, length-append, get_or-append, get_or-eq_default}
 use lib.Seq.{get_or-append-add}
 use borrow.Author.Tests.{lt-ltb, le-ltb}
-use Rattle.folds.specs.Fold.{pick}
 use Rattle.folds.proofs.Folds.{picked, passed}
 use Rattle.model.specs.declared.Tree.{Tree}
 use Rattle.model.specs.declared.State.{State}
-use Rattle.model.specs.Tree.{delay_of, bit, waiting_of, returns_of, returning_of, outstanding_of}
+use Rattle.model.specs.Tree.{delay_of, bit, returns_of, returning_of, outstanding_of}
 use Rattle.rules.specs.Rules.{keeps}
-use Rattle.rules.proofs.Sound.{sound_of, way_of, OnWay}
+use Rattle.rules.proofs.Sound.{sound_of, way_of}
 use Rattle.rules.proofs.Returns.{double}
 use Rattle.rules.proofs.Beneath.{only, only_same, only_other}
 use Rattle.machine.specs.Machine.{older, tick}
-use Rattle.machine.proofs.Returns.{older_at, older_recent, one_more}
+use Rattle.machine.proofs.Returns.{older_at, one_more}
 use Rattle.machine.proofs.Home.{bit_older, bit_now, bit_past, home}
 use Rattle.runner.specs.Arrays.{ago_in, home_in}
 use Rattle.runner.proofs.Service.{served_from, byte_from, served_waiting, served_returns}

@@ -19,7 +19,7 @@ use Rattle.rules.proofs.Sound.{sound_of, kept_of}
 use Rattle.rules.proofs.Beneath.{only, only_other}
 use Rattle.turns.specs.Turns.{who, after}
 use Rattle.turns.proofs.Descent.{Choice, choice}
-use Rattle.machine.specs.Machine.{Answer, idle, served, outcome, none_waits, chosen, serve, opens, tick, last_slot, slotted_within}
+use Rattle.machine.specs.Machine.{Answer, idle, served, outcome, none_waits, chosen, serve, tick, last_slot, slotted_within}
 use Rattle.machine.proofs.Cases.{some_waits}
 use Rattle.machine.proofs.Keeps.{take_waiting, take_returns}
 use Rattle.machine.proofs.Steps.{idle_within, serves_within}

@@ -1,6 +1,6 @@
 -- Which accelerators would have a held transaction admitted. Each offers until one is refused, and an offer's answer depends
 -- on its own accelerator's record alone: so one that idles goes on idling while others offer, and offers nothing.
-use Prim.Native.Nat.{ℕ, zero, suc, ◌+◌, ◌-◌, ◌≤◌, ◌<◌}
+use Prim.Native.Nat.{ℕ, zero, suc, ◌+◌, ◌≤◌, ◌<◌}
 use mathlib.Core.Bool.{true}
 use mathlib.Core.List.{List}
 use mathlib.Core.Path.{◌≡◌, refl, sym, ◌∙◌, ap, ap₂, subst}

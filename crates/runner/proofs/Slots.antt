@@ -10,7 +10,7 @@ use lib.ListN.{length, take, drop, set, length-set, take-append-drop}
 use lib.Seq.{length-take-le, take-suc-set, drop-set-lt, drop-drop}
 use Rattle.model.specs.declared.Tree.{Tree}
 use Rattle.folds.proofs.Folds.{picked, passed}
-use Rattle.runner.specs.Run.{Run, last_byte, next, is_done, Trail, ended, written, trail, done, end_after, end_of, over}
+use Rattle.runner.specs.Run.{Run, last_byte, next, is_done, Trail, ended, written, trail, end_after, end_of, over}
 
 -- done is tested before each slot
 pub trail_done : (k : ℕ) (t : Tree) (r : Run) → is_done r ≡ true → trail k t r ≡ ended true

@@ -20,7 +20,7 @@ use Rattle.folds.proofs.Folds.{picked, passed, at_all, all_at}
 use Rattle.rules.proofs.Sound.{Sound, Kept, sound_of, kept_of, limit_none, limit_phi, limit_most}
 use Rattle.rules.proofs.Beneath.{root_zero}
 use Rattle.turns.specs.Turns.{who, after}
-use Rattle.machine.specs.Machine.{admitted, served, idle, refused, admit, limits_answer, offered, none_waits, serve}
+use Rattle.machine.specs.Machine.{admitted, refused, admit, limits_answer, offered, none_waits, serve}
 use Rattle.machine.proofs.Cases.{zero_all}
 use Rattle.machine.proofs.Laws.{offer_keeps, offer_verdict}
 use Rattle.machine.proofs.Steps.{limits_8, verdict_14, verdict_known}

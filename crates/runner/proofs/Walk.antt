@@ -66,7 +66,7 @@ no_bits d = ap (λ y. y % 2) (zero-div (2 ^ d))
 
 -- what waits of an accelerator is what waits under its own port
 own_waiting : (t : Tree) (w : List ℕ) → tree_keeps t ≡ true → TableOf t w → (s : State) (c v : List ℕ) → Counted t (waiting_of s) c v
-    → (a : ℕ) → a < t.accs → waiting_on w c a ≡ waiting_of s a
+    → (a : ℕ) → a < t.accs → get_or c (get_or (own_ports w) (a % 32) 0 % 120) 0 ≡ waiting_of s a
 own_waiting t w k T s c v C a l =
     let S = sound t k in
     let i : a % 32 ≡ a = omega (arith, S.most_accs) in
@@ -429,7 +429,7 @@ module _ (t : Tree) (c : Channel) (w : List ℕ) (k : ℕ) (s : List ℕ) (F : F
 
   -- after it what waits of an accelerator stands under its own port
   pub walk_waiting : (x₁ : NextLine) (e₂ : SlotEnd) (d₂ : Arrays) → Step x₁ e₂ d₂ → n < last_slot → (a : ℕ) → a < t.accs
-      → waiting_on w d₂.under a ≡ waiting_of (next t here).state a
+      → get_or d₂.under (get_or (own_ports w) (a % 32) 0 % 120) 0 ≡ waiting_of (next t here).state a
   walk_waiting x₁ e₂ d₂ S g a l =
       let W = walk_next x₁ e₂ d₂ S g _ refl (λ (r : Run). r ≡ next t here) (λ _. refl) in
       own_waiting t w F.rules F.table W.state d₂.under d₂.live W.shows.stored.counts a l ∙ ap (λ (r : Run). waiting_of r.state a) W.holds

@@ -1,7 +1,7 @@
 -- What the runner's answer means, by document 01's numbers.
 --
--- run_means a            how the run of answer a ended
--- wait_of w              the slots of admission and service, and the services, of w
+-- run_means a           how the run of answer a ended
+-- wait_of w             the slots of admission and service, and the services, of w
 use Rattle.model.specs.Answer.{number_of}
 use Rattle.runner.specs.declared.RunAnswer.{RunAnswer}
 use Rattle.runner.specs.declared.RunAnswer.TheVariants.{Refused, Broken, Done, Stopped}

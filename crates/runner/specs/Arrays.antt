@@ -1,26 +1,26 @@
 -- One slot of a run on the arrays that it holds in place of a state: what the inner functions come to on any arrays.
 --
 -- Slot                  a slot's byte and the arrays after it; slot_on b d: these two
--- chosen_on w d          the choice from the root, by the table w of the configuration
--- with_ports p d         the arrays d with what is kept of the ports, p
--- serve_on w d           the slot serves, or is idle; what it serves is outstanding as before
--- open_on b d            the arrays d where a window opens if b: the admitted counts return to 0
--- opens_on m             the next slot begins a window where m slots of this one are left, this slot counted
--- left_on p m            how many slots are left then after this slot, in windows of p slots
--- end_on x b m           how a slot ends: its byte x, whether a window opens then, and the slots m left of the window
--- slot_end_on w p m d     how a slot ends that is run on d, where m slots are left of a window of p, this slot counted
--- after_on w m d         that slot is run: service, and the end of the window
--- ago_in d bs            the byte of the slot d slots before the one that comes after the bytes bs; 255 where there is no such slot
--- home_in r bs           the accelerator whose transaction stops being outstanding at the start of the slot after the bytes bs, where r is
+-- chosen_on w d         the choice from the root, by the table w of the configuration
+-- with_ports p d        the arrays d with what is kept of the ports, p
+-- serve_on w d          the slot serves, or is idle; what it serves is outstanding as before
+-- open_on b d           the arrays d where a window opens if b: the admitted counts return to 0
+-- opens_on m            the next slot begins a window where m slots of this one are left, this slot counted
+-- left_on p m           how many slots are left then after this slot, in windows of p slots
+-- end_on x b m          how a slot ends: its byte x, whether a window opens then, and the slots m left of the window
+-- slot_end_on w p m d   how a slot ends that is run on d, where m slots are left of a window of p, this slot counted
+-- after_on w m d        that slot is run: service, and the end of the window
+-- ago_in d bs           the byte of the slot d slots before the one that comes after the bytes bs; 255 where there is no such slot
+-- home_in r bs          the accelerator whose transaction stops being outstanding at the start of the slot after the bytes bs, where r is
 --                       the return delay: the one served in the slot r + 1 slots before (document 02, item 2: "A transaction served in
 --                       slot s stops being outstanding at the start of slot s + 1 + r"); 255 for none
--- home_on h d            one transaction of accelerator h stops being outstanding
--- ready_on b k z a       accelerator a, one of the set k, may have a transaction admitted before a slot, which opens a window if b: then any
+-- home_on h d           one transaction of accelerator h stops being outstanding
+-- ready_on b k z a      accelerator a, one of the set k, may have a transaction admitted before a slot, which opens a window if b: then any
 --                       one may, else those of the set z, whose lines are due
--- with_held h d          the arrays d with the held counts h
+-- with_held h d         the arrays d with the held counts h
 -- before_on s n x b k h w d  what comes before slot n, which opens a window if b: a transaction of accelerator h stops being outstanding,
 --                       the lines due from the place of x in the trace s are held, and h offers, and then those of the set k that may
--- waiting_on w u a       how many transactions of accelerator a wait: what u, the counts of the ports, has for its own port
+-- waiting_on w u a      how many transactions of accelerator a wait: what u, the counts of the ports, has for its own port
 use Rattle.std.specs.Prelude.{ℕ, ◌+◌, ◌-◌, ◌%◌, Bool, ◌&&◌, ◌||◌, List, eqb, ltb, get_or, length, set, replicate}
 use Rattle.folds.specs.Fold.{pick}
 use Rattle.counts.specs.Table.{own_ports}

@@ -2,13 +2,13 @@
 -- accepted trace these are the lines of the definition (`held_with`, `left_after`).
 --
 -- line_at at n           the next line is the one at the place `at`, and not due before slot n
--- Taken                 the held counts, the set of the accelerators whose lines are due and the next line, once the lines due are
---                       added; taken h z x: these three
+-- Taken                  the held counts, the set of the accelerators whose lines are due and the next line, once the lines due are
+--                        added; taken h z x: these three
 -- hold_on h r            the held counts with request r added, each at most 4,294,967,295
 -- join_on z r            the set z with the accelerator of request r in it
 -- on_request q x f       x where no request is found, f of the request and the place after it where one is
 -- due_from k n s at h z  the lines of trace s that are due in slot n, at most k of them, from the place `at` on, added to h, and their
---                       accelerators put into z; the walk ends where no line of a request begins
+--                        accelerators put into z; the walk ends where no line of a request begins
 -- due_on n s x h         the same from the next line x, which is not looked at before it is due
 use Rattle.std.specs.Prelude.{ℕ, zero, suc, ◌+◌, ◌-◌, ◌^◌, min, List, ltb, length, set}
 use Rattle.std.specs.Int.Bits.{bit_or}

@@ -1,12 +1,12 @@
 -- The offers of a run before a slot (document 01, "Turns", last paragraph).
 --
--- held_of h a            the held transactions of accelerator a
+-- held_of h a           the held transactions of accelerator a
 -- release h a           the held counts with one transaction of accelerator a less
 -- Offering              the state and the held counts between two offers; offering s h: the state s and the held counts h
--- offer_held k t o a     accelerator a offers held transactions, at most k of them, "until one is refused or none is left, and
+-- offer_held k t o a    accelerator a offers held transactions, at most k of them, "until one is refused or none is left, and
 --                       an offer that is refused leaves the held request first in line"
--- offer_all t o a        the same with all that accelerator a holds
--- offer_each n t o       "then accelerators in rising number offer held transactions": those below n
+-- offer_all t o a       the same with all that accelerator a holds
+-- offer_each n t o      "then accelerators in rising number offer held transactions": those below n
 use Rattle.std.specs.Prelude.{ℕ, zero, suc, ◌-◌, List, get_or, set}
 use Rattle.model.specs.declared.Tree.{Tree}
 use Rattle.model.specs.declared.State.{State}

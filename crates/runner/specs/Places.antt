@@ -1,16 +1,12 @@
 -- Where the code stands in a trace, for the contracts of the inner functions.
 --
--- left_at s at           the requests of trace s from a place of its bytes on
+-- left_at s at          the requests of trace s from a place of its bytes on
 -- Accepts s at          the trace s is accepted from the place `at` on, so that its lines can be walked from there
-use Rattle.std.specs.Prelude.{ℕ, ◌*◌, ◌≤◌, List, [], ◌∷◌, ◌≡◌, length, drop}
+use Rattle.std.specs.Prelude.{ℕ, ◌≤◌, List, ◌≡◌, length, drop}
 use Rattle.text.specs.Text.{lines, unended}
 use Rattle.trace.specs.declared.Request.{Request}
 use Rattle.lines.specs.declared.FileAnswer.TheVariants.{Accepted}
 use Rattle.trace.specs.TraceFile.{read_offers, requests}
-use Rattle.machine.specs.Machine.{last_slot}
-use Rattle.runner.specs.declared.NextLine.{NextLine}
-use Rattle.runner.specs.Offers.{held_of}
-use Rattle.runner.specs.Run.{held_with, left_after}
 
 abbrev pub left_at : List ℕ → ℕ → List Request
 left_at s at = requests (lines (drop at s))

@@ -2,28 +2,28 @@
 --
 -- Run                   where a run stands before a slot: the state, the held counts, the lines left
 -- hold h r              "adds the lines due to the held counts": the held counts with request r added
--- is_due n r             line r is due in slot n
--- held_with n h rs       the held counts once the lines of rs that are due in slot n are added
--- left_after n rs        the lines of rs that are not due in slot n
--- with_due r             "Each slot it adds the lines due to the held counts": the state, and the held counts then
--- before_slot t r        the state and the held counts once the offers are made too
--- byte_of x              "one byte a slot, the accelerator's number or 255 for idle"
+-- is_due n r            line r is due in slot n
+-- held_with n h rs      the held counts once the lines of rs that are due in slot n are added
+-- left_after n rs       the lines of rs that are not due in slot n
+-- with_due r            "Each slot it adds the lines due to the held counts": the state, and the held counts then
+-- before_slot t r       the state and the held counts once the offers are made too
+-- byte_of x             "one byte a slot, the accelerator's number or 255 for idle"
 -- next t r              where the run stands after one more slot; last_byte t r: the byte it wrote
--- none_held h            none is held
--- is_done r              "no line left, none held, none waiting"
+-- none_held h           none is held
+-- is_done r             "no line left, none held, none waiting"
 -- Trail                 the bytes written, one a slot used, and whether the run ended done; ended d: no byte more; written b x:
 --                       the byte b, then x
 -- trail k t r           the run from r on, over at most k slots: "Done is tested before each slot"
 -- start t c rs          "The runner starts fresh", on channel c: nothing is held, and all lines rs are left
--- run_for t c rs n       the run from the start, over the lines rs and a buffer of n bytes
+-- run_for t c rs n      the run from the start, over the lines rs and a buffer of n bytes
 -- Ending                how a run ends: refused by a number and a line, or by 11, which has no line; or done, or stopped, "and
 --                       the number of slots used"
--- end_after d n          done if d, else stopped, after n slots
--- end_of x               done or stopped by the trail x: the slots used are its bytes
+-- end_after d n         done if d, else stopped, after n slots
+-- end_of x              done or stopped by the trail x: the slots used are its bytes
 -- answered y x          how a run of the trail x ends where the trace's reading answers y; overwritten y x d: the buffer d then
 -- over x d              the trail's bytes over those of d
--- ran_of t c s n         how a run of trace s on channel c over a buffer of n bytes ends: "the runner 11, buffer size, trace"
--- buffer_after t c s d   the buffer d after the run: "Bytes past the slots used keep their contents", and a refusal leaves all
+-- ran_of t c s n        how a run of trace s on channel c over a buffer of n bytes ends: "the runner 11, buffer size, trace"
+-- buffer_after t c s d  the buffer d after the run: "Bytes past the slots used keep their contents", and a refusal leaves all
 use Rattle.std.specs.Prelude.{ℕ, zero, suc, ◌+◌, Bool, true, ◌&&◌, not, List, [], ◌∷◌, ◌++◌, length, set, drop, replicate, leb, ltb, eqb}
 use Rattle.model.specs.declared.Tree.{Tree}
 use Rattle.model.specs.declared.Channel.{Channel}

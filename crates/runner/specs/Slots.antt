@@ -1,8 +1,8 @@
 -- A run slot by slot, for the laws of the runner and for the list of its calls.
 --
 -- standing n t r        where the run from r stands after n slots
--- bytes_before n t r     the bytes of these n slots
--- due_before n rs        the lines of rs before the first that is not due before slot n: in a trace, whose slots do not fall, all
+-- bytes_before n t r    the bytes of these n slots
+-- due_before n rs       the lines of rs before the first that is not due before slot n: in a trace, whose slots do not fall, all
 --                       that are due before it
 use Rattle.std.specs.Prelude.{ℕ, zero, suc, List, [], ◌∷◌, ◌++◌, ltb}
 use Rattle.model.specs.declared.Tree.{Tree}

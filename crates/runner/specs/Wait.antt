@@ -1,26 +1,26 @@
 -- The wait of one transaction of a run: the slot of its admission and that of its service (document 02, item 1).
 --
 -- count_in a bs          how many of the bytes bs are a
--- first n f             the least number below n of which f holds; n if there is none
+-- first n f              the least number below n of which f holds; n if there is none
 -- taken_by t r a n       how many transactions of accelerator a are admitted once slot n's offers are made: those served before
---                       slot n, and those that wait then
+--                        slot n, and those that wait then
 -- admission_slot t r m a k   the slot, among the first m of the run from r, in which the k-th transaction of accelerator a is admitted
 -- service_slot t r m a k     the one that serves it
--- Waits                 these two slots, and the services of accelerator a; waits i o c: these three; no_wait: nothing is told
+-- Waits                  these two slots, and the services of accelerator a; waits i o c: these three; no_wait: nothing is told
 -- waits_after t r m a k  those of the first m slots of the run from r; nothing of number 0, since numbers count from 1
 -- least_of i n b         the least number up to n of which something holds, by i, the least below n or n, and b, whether it holds of n
 -- served_in w a b        the services of accelerator a, once b is served, by what was told before, w
 -- tell_on w k a n m b    what is told of transaction k of accelerator a after slot n, by what was told before, w: b was served, and then
---                       m of it wait. Those and the ones served are all that were admitted
+--                        m of it wait. Those and the ones served are all that were admitted
 -- used_by t c rs n       the slots that the run on channel c over the lines rs and a buffer of n bytes uses
 -- asked_of t a k         the number asked of accelerator a: 0, none, where the tree has no such accelerator
 -- wait_for t c rs a k n  what the run on channel c over the lines rs and a buffer of n bytes tells of transaction k of accelerator a
 -- told_read y w          w where the trace's reading answers y by accepting; else nothing is told
 -- told_of t c s a k n    what is told by a run of trace s on channel c over a buffer of n bytes: nothing where it is refused
--- greatest n f          the greatest of f 0, f 1, .. f (n - 1); 0 if n is 0
+-- greatest n f           the greatest of f 0, f 1, .. f (n - 1); 0 if n is 0
 -- served_by t r m a      how many transactions of accelerator a the first m slots of the run from r serve
 -- wait_length t r m a i  the wait of the one of these that is served after i others: "in slots from admission to service with the serving
---                       slot counted" (document 02, item 9)
+--                        slot counted" (document 02, item 9)
 -- longest_wait t r m a   "the longest wait (0 if none was served)" of accelerator a; sum_of_waits t r m a: "the sum of waits"
 use Rattle.std.specs.Prelude.{ℕ, zero, suc, ◌+◌, ◌-◌, max, Bool, not, List, [], ◌∷◌, leb, ltb, eqb, length}
 use Rattle.model.specs.declared.Tree.{Tree}

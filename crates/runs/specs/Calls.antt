@@ -8,12 +8,12 @@
 -- calls_before n t r     the calls of the first n slots of the run from r
 -- trace_start t c s      where the run of trace s on channel c starts
 -- calls_of t c s n       the calls of the first n slots of the run of trace s on channel c
--- events_of_run t c s n   those calls with their answers
+-- events_of_run t c s n  those calls with their answers
 -- byte_in c x            the byte of a slot's answer; none for an offer
 -- bytes_in es            the answers of the slots among the events es, as bytes
 -- asked_before a m rs    what the lines of rs that are due before slot m ask for accelerator a
--- Reports e m           the ending e "reports done or stopped, and the number of slots used", m
--- RunIsCalls t c s d m  what is proved of a run of trace s on channel c over the buffer d that reports m slots
+-- Reports e m            the ending e "reports done or stopped, and the number of slots used", m
+-- RunIsCalls t c s d m   what is proved of a run of trace s on channel c over the buffer d that reports m slots
 use Rattle.std.specs.Prelude.{ℕ, zero, suc, ◌+◌, ◌≤◌, ◌<◌, List, [], ◌∷◌, ◌++◌, ◌≡◌, ◌⊎◌, length, take}
 use Rattle.model.specs.declared.Tree.{Tree}
 use Rattle.model.specs.declared.Channel.{Channel}

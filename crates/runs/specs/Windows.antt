@@ -7,14 +7,14 @@
 --
 -- NoneHeld t c rs a i     none of accelerator a is held when slot i of the run of the lines rs begins
 -- NoneWaits t c rs a i    none of it waits then
--- events_before t c rs n   the calls of the first n slots of that run, with their answers
--- last_of a i n rs         how many of accelerator a are admitted in all once the last of the job is: those asked for before slot i, and n
+-- events_before t c rs n  the calls of the first n slots of that run, with their answers
+-- last_of a i n rs        how many of accelerator a are admitted in all once the last of the job is: those asked for before slot i, and n
 -- JobAsked t c rs a i n   none of accelerator a is held when slot i begins, and n or more fall due in it
 -- OnlyBy9 t c rs a i j    whatever offer of accelerator a is refused in the slots i to j - 1 is refused by 9
 -- HeldByBudget t c rs m   what is proved of the first m slots of the run of the lines rs on channel c
--- slot_time t c            the slot time of channel c
--- time_of t c a            what the transactions of a job on channel c add to the response of accelerator a; response_in t a: its response
--- job_slots t c a          the slots of `served_within` for a whole job of accelerator a on channel c
+-- slot_time t c           the slot time of channel c
+-- time_of t c a           what the transactions of a job on channel c add to the response of accelerator a; response_in t a: its response
+-- job_slots t c a         the slots of `served_within` for a whole job of accelerator a on channel c
 -- InResponse t a          these slots, in cycles, are within what the response counts for the channel
 -- JobHeld t c rs a i n j mid   of the run of the lines rs: n of accelerator a fall due in slot i, and mid are the events of the slots i to
 --                         j - 1, after which the last of the n is not admitted

@@ -1,16 +1,16 @@
 -- The state that the second machine keeps in the store.
 --
--- queued_of d a         how many tickets are in the queue of accelerator a: the admitted without the served, which go round
+-- queued_of d a        how many tickets are in the queue of accelerator a: the admitted without the served, which go round
 --                      at 2 to the 64th power
--- returning_of d a      how many transactions of accelerator a are returning: the served without those home
--- due_of d a k          the slot in which one of them comes home, the one served first at k = 0: thirty-two places go round
--- due_below k d a n     one of the first k of them comes home in slot n
--- is_due d a n          one of them, at most thirty-two, comes home in slot n
--- used_of d a           what accelerator a has used of its budget in this window
--- last_port_of d i       the last port of interconnect i
--- left_of d i           the allowance of interconnect i
--- slot_of d             the slot count
--- channel_of d          the channel: 0 reads, 1 writes
+-- returning_of d a     how many transactions of accelerator a are returning: the served without those home
+-- due_of d a k         the slot in which one of them comes home, the one served first at k = 0: thirty-two places go round
+-- due_below k d a n    one of the first k of them comes home in slot n
+-- is_due d a n         one of them, at most thirty-two, comes home in slot n
+-- used_of d a          what accelerator a has used of its budget in this window
+-- last_port_of d i     the last port of interconnect i
+-- left_of d i          the allowance of interconnect i
+-- slot_of d            the slot count
+-- channel_of d         the channel: 0 reads, 1 writes
 use Rattle.std.specs.Prelude.{ℕ, zero, suc, ◌+◌, ◌-◌, ◌*◌, ◌%◌, ◌^◌, min, Bool, false, ◌||◌, List, ◌==◌}
 use Rattle.store.specs.Store.{number_at}
 

@@ -13,7 +13,7 @@ use Rattle.usage.specs.declared.ChannelWord.TheVariants.{NoChannel, Known}
 use Rattle.usage.specs.declared.NumberWord.{NumberWord}
 use Rattle.usage.specs.declared.NumberWord.TheVariants.{NoNumber, Number}
 use Rattle.usage.specs.Usage.{asks_help, help_asked, two_files, channel_asked, plain_number, number_asked}
-use Rattle.usage.proofs.Numbers.{number_in, said_plain, said_number}
+use Rattle.usage.proofs.Numbers.{said_plain, said_number}
 use Rattle.simulation.specs.declared.Asked.{Asked}
 use Rattle.simulation.specs.declared.Asked.TheVariants.{Usage, Help, Run}
 use Rattle.simulation.specs.Simulation.{slots_asked, run_asked, simulate_asked}

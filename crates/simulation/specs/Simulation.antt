@@ -3,15 +3,15 @@
 -- prints one line only").
 --
 -- slots_asked x w       the run of channel x over as many slots as the word SLOTS, w, asks for; 65,537, which a run refuses by 2,
---                      stands for every number above 65,536; usage where it is no number
+--                       stands for every number above 65,536; usage where it is no number
 -- run_asked n k c       the run of the channel that was read as k: over 65,536 slots with n = 3 words, else over what the fourth, c,
---                      asks; usage where it is no channel
+--                       asks; usage where it is no channel
 -- simulate_asked n k a b c   what `simulate` does, started with n words, of which k, a, b and c are the first four: help, if asked;
---                      with three or four words, a and b two files, the run of the channel that k names; usage for any other words
+--                       with three or four words, a and b two files, the run of the channel that k names; usage for any other words
 -- refused_part o n      what the outcome o of a run over n slots refuses: the tree, else SLOTS if above 65,536, else the trace; the
---                      channel's number is 0 or 1 here, and never refused
+--                       channel's number is 0 or 1 here, and never refused
 -- is_run o              the outcome o is that of a run, done or stopped, and no refusal
--- used o bs            the bytes of the slots used, of the buffer bs
+-- used o bs             the bytes of the slots used, of the buffer bs
 -- simulation_text o bs  what is printed of an outcome and the buffer: the slots and the end of a run, or a refusal's one line
 -- page_count o          the pages that text is given in; simulation_page o bs i: page i of it, from 0
 use Rattle.std.specs.Prelude.{ℕ, min, Bool, ◌&&◌, ◌||◌, List, ltb, eqb, length, take}

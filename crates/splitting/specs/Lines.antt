@@ -1,12 +1,12 @@
 -- The text of what `split` answers: a line for each piece, and the count of them; or a refusal's one line.
 --
--- piece_text x n        the line of a piece: its start address x and its beats n
--- pieces_text k ss bs   the lines of k pieces, as far as the arrays have them: ss the start addresses, bs the beats, 256 of each
--- count_text k          the last line: `pieces`, and their count k
--- list_text k ss bs     the text: the lines of the pieces, and the last line
--- reply_text r ss bs    what is printed of the reply r and the arrays ss and bs
--- cut_text r m b        what is printed of the reply r to the burst b where pieces have m beats, said without arrays
--- split_text q b        what is printed for the reading q of a tree file and the burst b, so said
+-- piece_text x n       the line of a piece: its start address x and its beats n
+-- pieces_text k ss bs  the lines of k pieces, as far as the arrays have them: ss the start addresses, bs the beats, 256 of each
+-- count_text k         the last line: `pieces`, and their count k
+-- list_text k ss bs    the text: the lines of the pieces, and the last line
+-- reply_text r ss bs   what is printed of the reply r and the arrays ss and bs
+-- cut_text r m b       what is printed of the reply r to the burst b where pieces have m beats, said without arrays
+-- split_text q b       what is printed for the reading q of a tree file and the burst b, so said
 use Rattle.std.specs.Prelude.{ℕ, min, List, ◌++◌, get_or}
 use Rattle.text.specs.Write.{decimal_text}
 use Rattle.put.specs.Page.{bytes, field, ended, joined}

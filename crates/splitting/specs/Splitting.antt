@@ -2,9 +2,9 @@
 --
 -- most_number           what stands for every number of beats, and every beat size, above it: no burst has either
 -- burst_asked x c d     the burst that the words BEATS and SIZE, c and d, name at the address that was read as x; usage where that is
---                      no address, or one of the words no number
+--                       no address, or one of the words no number
 -- split_asked n a b c d what `split` does, started with n words, of which a, b, c and d are the first four: help, if asked; with four
---                      words, a no option, the burst that b, c and d name; usage for any other words
+--                       words, a no option, the burst that b, c and d name; usage for any other words
 -- burst_part l b        what makes b no burst of at most l beats, 15: BEATS, "0 or over 256 beats" where l is 256, else SIZE, "a bad beat size"
 -- denied_part l b n     what a refusal of the burst b by number n is of: 15 of BEATS or of SIZE, 16 of ADDRESS, and 11 of the tree
 -- reply_of l b x        what is answered where the splitter answers x to the burst b; a refusal has no line, which is said as 0

@@ -1,18 +1,18 @@
 -- Which number of the store stands for which entry of the library's tree: the tree is the same if each entry is that number.
 --
--- same_numbers b d      the ten numbers that each bus line has: they are the first ten columns of row 0
--- same_name x d         the bus line's record name: bus3 exactly if x, that the tree is one of AXI3, is true
--- same_bus b d          the bus line: the ten numbers, the return delay in the eleventh column, and the record name
--- code_of x             what a port carries, as the rows say it: 255 nothing, an accelerator's number, 32 + an interconnect's
--- place_said d i c      column c of interconnect i's row, its parent or port: 0 at the root, and past the last interconnect
--- grain_said d i        its granularity: 0 past the last interconnect
--- same_int x i d        the record of interconnect i: parent, port and granularity
--- same_ports t i d      its eight ports: each carries what the rows put there
--- same_ints t d         as many interconnects, and the records and ports of all fifteen
--- entry_said d a c      column c of accelerator a's row: 0 past the last accelerator
--- same_acc x a d        the record of accelerator a: its eight entries
--- same_accs t d         as many accelerators, and the records of all thirty-two
--- same_tree t d         the whole tree
+-- same_numbers b d     the ten numbers that each bus line has: they are the first ten columns of row 0
+-- same_name x d        the bus line's record name: bus3 exactly if x, that the tree is one of AXI3, is true
+-- same_bus b d         the bus line: the ten numbers, the return delay in the eleventh column, and the record name
+-- code_of x            what a port carries, as the rows say it: 255 nothing, an accelerator's number, 32 + an interconnect's
+-- place_said d i c     column c of interconnect i's row, its parent or port: 0 at the root, and past the last interconnect
+-- grain_said d i       its granularity: 0 past the last interconnect
+-- same_int x i d       the record of interconnect i: parent, port and granularity
+-- same_ports t i d     its eight ports: each carries what the rows put there
+-- same_ints t d        as many interconnects, and the records and ports of all fifteen
+-- entry_said d a c     column c of accelerator a's row: 0 past the last accelerator
+-- same_acc x a d       the record of accelerator a: its eight entries
+-- same_accs t d        as many accelerators, and the records of all thirty-two
+-- same_tree t d        the whole tree
 use Rattle.std.specs.Prelude.{ℕ, ◌+◌, Bool, true, false, ◌&&◌, not, List, ltb, eqb}
 use Rattle.folds.specs.Fold.{pick, all}
 use Rattle.model.specs.declared.Accelerator.{Accelerator}

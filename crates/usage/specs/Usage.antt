@@ -9,8 +9,8 @@
 -- number_asked w m      the number that the word w says, m standing for every number above m
 -- address_asked w       the address that the word w says, "a start address of 32 bits" (document 02, item 6); a larger number is none
 -- file_asked n a b c t  what a program of one file does, started with n words, of which a, b and c are the first three: help, if
---                      asked; usage, for more than one word or an option; the file that its one word names, "-" too; without a
---                      word standard input, or usage where that is a terminal (t)
+--                       asked; usage, for more than one word or an option; the file that its one word names, "-" too; without a
+--                       word standard input, or usage where that is a terminal (t)
 -- report_usage, rewrite_usage, simulate_usage, why_usage, split_usage   what is said where the arguments are wrong
 -- report_help, rewrite_help, simulate_help, why_help, split_help       what is said where help is asked for
 use Rattle.std.specs.Prelude.{ℕ, min, Bool, ◌&&◌, ◌||◌, not, List, ◌++◌, eqb, ltb, leb, length, get_or}

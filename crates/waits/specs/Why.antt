@@ -1,9 +1,9 @@
 -- "Why did my burst wait" (document 02, item 1).
 --
--- entry t a b           "A slot takes two bytes": the accelerator b that was served, "then the interconnect or 255 for own"
--- entries t a bs        those of the bytes bs, in order
+-- entry t a b            "A slot takes two bytes": the accelerator b that was served, "then the interconnect or 255 for own"
+-- entries t a bs         those of the bytes bs, in order
 -- wait_bytes t r m a k   "each slot from that of its admission up to the one before its service, oldest first": their bytes
--- Why                   refused with a line, refused without one, or the count of all slots and the slot of admission
+-- Why                    refused with a line, refused without one, or the count of all slots and the slot of admission
 -- list_of t c rs a k     the list, of "The run .. that an output buffer of 65,536 bytes would give"
 -- why_from t c rs a k    the answer for the lines rs: 7, "then 12 if the number is 0 or the run serves fewer of that accelerator"
 -- list_over l d          the list l over the buffer d: "Where the buffer is short the oldest slots fill it, in whole pairs"

@@ -1,6 +1,5 @@
 -- `run_wait` meets its contract: each return is the ending that the tests before it pick, and what is told is told by a run alone.
-use mathlib.Core.Path.{◌≡◌, ap, sym, ◌∙◌}
-use borrow.Author.Rules.{rules}
+use mathlib.Core.Path.{ap, sym, ◌∙◌}
 use Rattle.machine.specs.Answers.{fresh_means}
 use Rattle.trace.proofs.Traces.{reads_kept}
 use Rattle.runner.specs.Run.{start}

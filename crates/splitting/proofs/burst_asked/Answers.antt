@@ -1,5 +1,4 @@
 -- `burst_asked` meets its contract: the first word is an address and both others are numbers, or one of the three is neither.
-use borrow.Author.Rules.{rules}
 use Rattle.splitting.proofs.Words.{no_address, no_beats, no_size, all_said}
 use Rattle.splitting.proofs.burst_asked.Goals as goal
 

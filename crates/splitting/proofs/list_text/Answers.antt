@@ -1,6 +1,5 @@
 -- `list_text` meets its contract: the text is stored from the start on, and the page has room for it.
 use native.Mathlib.Omega.{arith}
-use borrow.Author.Rules.{rules}
 use Rattle.put.proofs.Puts.{put_laid}
 use Rattle.splitting.proofs.list_text.Goals as goal
 

@@ -1,6 +1,5 @@
 -- `put_count` meets its contract: the parts of the line are stored one after the other.
 use native.Mathlib.Omega.{arith}
-use borrow.Author.Rules.{rules}
 use Rattle.put.proofs.Puts.{put_then, put_most}
 use Rattle.splitting.specs.Lines.{count_text}
 use Rattle.splitting.proofs.put_count.Goals as goal

@@ -1,6 +1,5 @@
 -- `put_list` meets its contract: the lines of the pieces, and then the last line.
 use native.Mathlib.Omega.{arith}
-use borrow.Author.Rules.{rules}
 use Rattle.put.proofs.Puts.{put_then, put_most}
 use Rattle.splitting.specs.Lines.{list_text}
 use Rattle.splitting.proofs.put_list.Goals as goal

@@ -1,6 +1,5 @@
 -- `put_piece` meets its contract: the two numbers are stored one after the other.
 use native.Mathlib.Omega.{arith}
-use borrow.Author.Rules.{rules}
 use Rattle.put.proofs.Puts.{put_then, put_most}
 use Rattle.splitting.specs.Lines.{piece_text}
 use Rattle.splitting.proofs.put_piece.Goals as goal

@@ -1,12 +1,11 @@
 -- `put_pieces` meets its contract: before each turn the first i lines are stored.
 use mathlib.Core.Path.{◌≡◌, refl, ap, ◌∙◌}
 use mathlib.Core.List.{[]}
-use Prim.Native.Nat.{ℕ, ◌≤◌, ◌-◌, ◌+◌, ◌*◌, min}
+use Prim.Native.Nat.{ℕ, min}
 use native.Mathlib.Omega.{arith}
-use lib.ListN.{length, get_or}
+use lib.ListN.{get_or}
 use borrow.Author.Rules.{rules}
 use Rattle.put.specs.Page.{joined}
-use Rattle.put.specs.Put.{Put}
 use Rattle.put.proofs.Puts.{put_none, put_as, put_most}
 use Rattle.put.proofs.Lines.{lines_none, lines_turn}
 use Rattle.splitting.specs.Lines.{piece_text, pieces_text}

@@ -1,15 +1,10 @@
 -- `put_pieces` meets its contract: before each turn the first i lines are stored.
-use mathlib.Core.Path.{◌≡◌, refl, ap, ◌∙◌}
-use mathlib.Core.List.{[]}
-use Prim.Native.Nat.{ℕ, ◌≤◌, ◌-◌, ◌+◌, ◌*◌, min}
-use native.Mathlib.Omega.{arith}
+use mathlib.Core.Path.{◌≡◌}
+use Prim.Native.Nat.{◌≤◌, ◌-◌, ◌+◌, ◌*◌}
 use lib.ListN.{length, get_or}
-use borrow.Author.Rules.{rules}
 use Rattle.put.specs.Page.{joined}
 use Rattle.put.specs.Put.{Put}
-use Rattle.put.proofs.Puts.{put_none, put_as, put_most}
-use Rattle.put.proofs.Lines.{lines_none, lines_turn}
-use Rattle.splitting.specs.Lines.{piece_text, pieces_text}
+use Rattle.splitting.specs.Lines.{piece_text}
 use Rattle.splitting.proofs.put_pieces.Given as goal
 
 abbrev pub invariant-loop-i : goal.invariant-loop-i

@@ -1,5 +1,4 @@
 -- `split_asked` meets its contract: it tests in the definition's order.
-use borrow.Author.Rules.{rules}
 use Rattle.splitting.proofs.Words.{by_help, by_words, by_burst}
 use Rattle.splitting.proofs.split_asked.Goals as goal
 

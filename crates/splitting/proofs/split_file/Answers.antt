@@ -1,6 +1,5 @@
 -- `split_file` meets its contract: in each arm answer and arrays are those of the reading which the arm names.
 use mathlib.Core.Path.{refl}
-use borrow.Author.Rules.{rules}
 use Rattle.splitting.proofs.Replies.{replied, started, counted}
 use Rattle.splitting.proofs.split_file.Goals as goal
 

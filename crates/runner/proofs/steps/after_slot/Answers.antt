@@ -1,7 +1,6 @@
 -- `after_slot` meets its contract: the service, and then the window, on what it leaves.
 use mathlib.Core.Path.{◌∙◌, ap, ap₂}
 use Prim.Native.Nat.{ℕ}
-use borrow.Author.Rules.{rules}
 use Rattle.runner.specs.Arrays.{opens_on, Slot, end_on, open_on}
 use Rattle.runner.proofs.Parts.{opened_arrays}
 use Rattle.runner.proofs.steps.after_slot.Goals as goal

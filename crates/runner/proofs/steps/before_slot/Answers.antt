@@ -2,7 +2,6 @@
 use mathlib.Core.List.{List}
 use mathlib.Core.Path.{◌∙◌, ap, ap₂}
 use Prim.Native.Nat.{ℕ}
-use borrow.Author.Rules.{rules}
 use Rattle.admit.specs.Admitting.{Arrays, is_in, offers_before}
 use Rattle.admit.proofs.Offers.{in_same}
 use Rattle.runner.specs.Due.{Taken, due_on}

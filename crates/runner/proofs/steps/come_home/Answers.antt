@@ -3,7 +3,6 @@ use mathlib.Core.Path.{refl, sym}
 use native.Mathlib.Omega.{arith}
 use lib.ListN.{take, length-take}
 use lib.Seq.{set_out}
-use borrow.Author.Rules.{rules}
 use Rattle.runner.proofs.Parts.{home_outstanding, home_rest}
 use Rattle.runner.proofs.steps.come_home.Goals as goal
 

@@ -1,5 +1,5 @@
 -- `ready` meets its contract: whether a window opens picks the case, accelerator by accelerator.
-use Rattle.runner.proofs.Ready.{ready_all, ready_some}
+use Rattle.runner.proofs.Ready.{ready_some}
 use Rattle.runner.proofs.steps.ready.Goals as goal
 
 pub returns : goal.returns

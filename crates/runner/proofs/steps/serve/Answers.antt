@@ -1,7 +1,6 @@
 -- `serve` meets its contract: its test picks the case of the definition, and the choice is the one from the root.
 use mathlib.Core.Path.{sym, ◌∙◌}
 use lib.Seq.{get_or-drop}
-use borrow.Author.Rules.{rules}
 use Rattle.admit.specs.Admitting.{arrays_of}
 use Rattle.runner.proofs.Stored.{serve_none, serve_some}
 use Rattle.runner.proofs.steps.serve.Goals as goal

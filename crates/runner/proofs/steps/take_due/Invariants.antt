@@ -1,18 +1,10 @@
 -- `take_due` meets its contract: what is left of the walk over the lines due, from the held counts and the set as they are, is what the
 -- whole walk comes to.
-use mathlib.Core.Path.{◌≡◌, refl, ap, ap₂, sym, ◌∙◌}
-use Prim.Native.Nat.{◌<◌, ◌-◌, ◌^◌}
-use native.Mathlib.Nat.{one-mul}
-use native.Mathlib.Omega.{arith}
-use lib.Bits.{bit_or}
-use lib.Dec.{lit<}
+use mathlib.Core.Path.{◌≡◌}
+use Prim.Native.Nat.{◌-◌}
 use lib.ListN.{length, take}
-use lib.Pow.{shl_exact}
-use borrow.Author.Rules.{rules}
 use Rattle.admit.specs.Admitting.{helds}
-use Rattle.trace.proofs.Requests.{walk_end}
-use Rattle.runner.proofs.Parts.{add_held, add_rest}
-use Rattle.runner.proofs.Due.{found, left, left_none, left_later, left_step, on_none, on_some}
+use Rattle.runner.proofs.Due.{left}
 use Rattle.runner.proofs.steps.take_due.Given as goal
 
 abbrev pub invariant-loop-place : goal.invariant-loop-place

@@ -1,11 +1,7 @@
 -- `turns_of` meets its contract: the last ports below the next one are stored, and the rest is 0.
-use mathlib.Core.Path.{◌≡◌, refl, sym, ◌∙◌, ap}
-use Prim.Native.Nat.{ℕ, ◌≤◌, ◌-◌}
-use native.Mathlib.Omega.{arith}
-use lib.ListN.{length, take, drop, replicate, length-set}
-use lib.Seq.{take_all, drop-drop}
-use borrow.Author.Rules.{rules}
-use Rattle.runner.proofs.Parts.{copied_more, copied_rest}
+use mathlib.Core.Path.{◌≡◌}
+use Prim.Native.Nat.{◌≤◌, ◌-◌}
+use lib.ListN.{length, take, drop, replicate}
 use Rattle.runner.proofs.steps.turns_of.Given as goal
 
 abbrev pub invariant-loop-j : goal.invariant-loop-j

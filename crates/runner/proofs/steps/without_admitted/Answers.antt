@@ -1,10 +1,7 @@
 -- `without_admitted` meets its contract: the counts admitted below the next one are 0, and the others are left.
-use mathlib.Core.Path.{◌≡◌, refl, sym, ◌∙◌, ap}
-use Prim.Native.Nat.{ℕ, ◌≤◌, ◌-◌}
+use mathlib.Core.Path.{◌∙◌}
 use native.Mathlib.Omega.{arith}
-use lib.ListN.{length, take, drop, replicate, length-set}
-use borrow.Author.Rules.{rules}
-use Rattle.admit.specs.Admitting.{outstandings, helds}
+use lib.ListN.{length-set}
 use Rattle.runner.proofs.Parts.{zeros_more, zero_outstanding, zero_held}
 use Rattle.runner.proofs.steps.without_admitted.Goals as goal
 

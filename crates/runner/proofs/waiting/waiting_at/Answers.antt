@@ -1,10 +1,8 @@
 -- `waiting_at` meets its contract: each index is below its array's length.
 use mathlib.Core.Path.{sym, ap}
 use Prim.Native.Nat.{ℕ, ◌%◌}
-use native.Mathlib.Omega.{arith}
 use lib.ListN.{get_or}
 use lib.Seq.{get_or-drop}
-use borrow.Author.Rules.{rules}
 use Rattle.runner.proofs.waiting.waiting_at.Goals as goal
 
 pub returns : goal.returns
