@@ -1,4 +1,6 @@
 // Tree and trace files, made at random from a fixed seed: most are sound, and some break a rule here and there.
+ghost use Rattle.std.specs.Prelude.{◌≤◌};
+
 use store::{clear, get, least, put};
 
 // The random number; where the text begins, and its length so far.
@@ -78,7 +80,9 @@ pub fn put_text(w: &mut [u8; 16384], d: &mut [usize; 16384], s: &[u8]) {
 }
 
 // Puts the decimal digits of n at the end of the text and answers where the first stands.
-fn put_digits(text: &mut [u8; 20], n: usize) -> usize {
+fn put_digits(text: &mut [u8; 20], n: usize) -> usize
+    ensures { result ≤ 20 }
+{
     let mut at = 20;
     let mut rest = n;
     while at > 0 {
@@ -95,9 +99,7 @@ fn put_digits(text: &mut [u8; 20], n: usize) -> usize {
 pub fn put_number(w: &mut [u8; 16384], d: &mut [usize; 16384], n: usize) {
     let mut text = [0u8; 20];
     let first = put_digits(&mut text, n);
-    if first < 20 {
-        put_text(w, d, &text[first..]);
-    }
+    put_text(w, d, &text[first..]);
 }
 
 // A tab and x.
