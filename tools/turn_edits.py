@@ -37,8 +37,9 @@ BY_HAND = {
     ("waits/past_the_list_cleared", 0): (PRELUDE + "ℕ", PRELUDE + "replicate, ℕ"),
     ("writer/text_before_13", 1): (PRELUDE + "ℕ", PRELUDE + "take, ℕ"),
     ("input/word_past_the_buffer", 0): ("    words.arg(i, buf).unwrap_or(0)", "    words.arg(i, buf).unwrap_or(0) + 1"),
-    # the test keeps its name, by which proof files cite it
+    # the tests keep their names, by which proof files cite them
     ("trace/slots_may_fall", 0): ("    if r.slot < last {", "    if r.slot < last & 0 {"),
+    ("runner/stopped_at_once", 0): ("    while used < out.len() && !is_done(", "    while used < out.len() && !!is_done("),
     ("machine/slot_changes_channel", 0): (
         "    at_slot s (map (older (delay_of t)) s.returning) (pick (opens t s.slot) (replicate 32 0) s.admitted) (s.slot + 1)",
         "    record { waiting = s.waiting; returning = map (older (delay_of t)) s.returning; admitted = pick (opens t s.slot) (replicate 32 0) s.admitted; last = s.last; allowance = s.allowance; slot = s.slot + 1; channel = Rattle.model.specs.declared.Channel.TheVariants.Write }"),

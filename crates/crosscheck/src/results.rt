@@ -672,9 +672,9 @@ fn show_line(out: &impl Print, labels: &[u8], from: usize, n: usize) -> usize {
 
 // Writes every count.
 pub fn show(out: &impl Print, d: &[usize; 16384]) {
-    let labels = LABELS;
+    let labels = &LABELS;
     let mut from = 0;
     for i in 0..209 {
-        from = show_line(out, &labels, from, get(d, PLACES[i], 0));
+        from = show_line(out, labels, from, get(d, PLACES[i], 0));
     }
 }
