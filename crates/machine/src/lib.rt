@@ -15,50 +15,22 @@ use model::{Channel, Port, Refusal, State, Tree};
 use rules::{both_keep, less_one, tree_keeps};
 use turns::choose;
 
-// What the start answers.
-#[derive(Clone, Copy)]
-pub enum FreshAnswer {
-    Started,
-    Refused(Refusal),
-}
-
-// The start's answer with the fresh state, or with zeros on a refusal.
-#[derive(Clone, Copy)]
-pub struct FreshReply {
-    pub answer: FreshAnswer,
-    pub state: State,
-}
-
-// What the offer of one transaction answers.
-#[derive(Clone, Copy)]
-pub enum OfferAnswer {
-    Admitted,
-    Refused(Refusal),
-}
-
-// An offer's answer with the next state.
+// An offer's answer, that it is admitted or why it is refused, with the next state.
 #[derive(Clone, Copy)]
 pub struct OfferReply {
-    pub answer: OfferAnswer,
+    pub answer: Result<(), Refusal>,
     pub state: State,
 }
 
-// What one slot did: nothing waited, or the accelerator of this number was served.
-#[derive(Clone, Copy)]
-pub enum SlotAnswer {
-    Idle,
-    Served(u8),
-    Refused(Refusal),
-}
-
-// A slot's answer with the next state.
+// A slot's answer, the accelerator that was served, None where nothing waited, or why it is refused, with the next state.
 #[derive(Clone, Copy)]
 pub struct SlotReply {
-    pub answer: SlotAnswer,
+    pub answer: Result<Option<u8>, Refusal>,
     pub state: State,
 }
 
-fn zero_state(channel: Channel) -> State
+// The state of a channel with nothing in it.
+pub fn zero_state(channel: Channel) -> State
     ensures { result ≡ zero_state channel }
 {
     State {
@@ -88,22 +60,14 @@ fn fresh_state(t: Tree, channel: Channel) -> State
     state
 }
 
-// The starting state of a channel, of a configuration that keeps its rules; else refusal 11, with a state of zeros.
-pub fn fresh(t: Tree, channel: Channel) -> FreshReply
-    ensures { fresh_outcome result ≡ freshened t channel }
+// The starting state of a channel, of a configuration that keeps its rules; else refusal 11.
+pub fn fresh(t: Tree, channel: Channel) -> Result<State, Refusal>
+    ensures { fresh_outcome channel result ≡ freshened t channel }
 {
     if !tree_keeps(t) {
-        let zeros = zero_state(channel);
-        return FreshReply {
-            answer: FreshAnswer::Refused(Refusal::Rules),
-            state: zeros,
-        };
+        return Err(Refusal::Rules);
     }
-    let state = fresh_state(t, channel);
-    FreshReply {
-        answer: FreshAnswer::Started,
-        state: state,
-    }
+    Ok(fresh_state(t, channel))
 }
 
 // One more transaction of accelerator a waits and counts against its budget.
@@ -121,30 +85,30 @@ fn admitting(s: State, a: u8) -> State
 }
 
 // What an offer answers by the limits of its accelerator: as many as may be are outstanding, or the budget is used, or neither.
-pub fn limits_answer(limit: u32, outstanding: u32, budget: u32, admitted: u32) -> OfferAnswer
+pub fn limits_answer(limit: u32, outstanding: u32, budget: u32, admitted: u32) -> Result<(), Refusal>
     ensures { offer_means result ≡ limits_answer limit outstanding budget admitted }
 {
     if limit <= outstanding {
-        return OfferAnswer::Refused(Refusal::Outstanding);
+        return Err(Refusal::Outstanding);
     }
     if budget <= admitted {
-        return OfferAnswer::Refused(Refusal::Budget);
+        return Err(Refusal::Budget);
     }
-    OfferAnswer::Admitted
+    Ok(())
 }
 
 // What the offer of one transaction of accelerator a answers, for a caller that has checked configuration and state. Where it
 // is admitted, its counts have room for one more.
-fn offer_answer(t: Tree, s: State, a: u8) -> OfferAnswer
+fn offer_answer(t: Tree, s: State, a: u8) -> Result<(), Refusal>
     ensures answer { offer_means result ≡ verdict_of t s a }
     ensures room { offer_means result ≡ admitted → (waiting_of s a < 255) × (admitted_of s a < 65535) }
 {
     if t.accs <= a {
-        return OfferAnswer::Refused(Refusal::Unknown);
+        return Err(Refusal::Unknown);
     }
     let channel = s.channel;
     if job_of(t, channel, a) == 0 {
-        return OfferAnswer::Refused(Refusal::NoJob);
+        return Err(Refusal::NoJob);
     }
     let x = accelerator_at(t, a);
     limits_answer(
@@ -160,18 +124,13 @@ fn offer_within(t: Tree, s: State, a: u8) -> OfferReply
     ensures { offer_outcome result ≡ offered_within t s a }
 {
     let answer = offer_answer(t, s, a);
-    match answer {
-        OfferAnswer::Admitted => {
-            let state = admitting(s, a);
-            OfferReply {
-                answer: OfferAnswer::Admitted,
-                state: state,
-            }
-        }
-        OfferAnswer::Refused(refusal) => OfferReply {
-            answer: OfferAnswer::Refused(refusal),
-            state: s,
-        },
+    let state = match answer {
+        Ok(()) => admitting(s, a),
+        Err(_) => s,
+    };
+    OfferReply {
+        answer: answer,
+        state: state,
     }
 }
 
@@ -181,7 +140,7 @@ pub fn offer(t: Tree, s: State, a: u8) -> OfferReply
 {
     if !both_keep(t, s) {
         return OfferReply {
-            answer: OfferAnswer::Refused(Refusal::Rules),
+            answer: Err(Refusal::Rules),
             state: s,
         };
     }
@@ -265,14 +224,14 @@ fn slot_within(t: Tree, s: State) -> SlotReply
 {
     if s.slot == 4294967295 {
         return SlotReply {
-            answer: SlotAnswer::Refused(Refusal::LastSlot),
+            answer: Err(Refusal::LastSlot),
             state: s,
         };
     }
     if none_waits(s) {
         let next = ticked(t, s);
         return SlotReply {
-            answer: SlotAnswer::Idle,
+            answer: Ok(None),
             state: next,
         };
     }
@@ -281,7 +240,7 @@ fn slot_within(t: Tree, s: State) -> SlotReply
     let turned = c.state;
     let next = ticked(t, take_one(turned, a));
     SlotReply {
-        answer: SlotAnswer::Served(a),
+        answer: Ok(Some(a)),
         state: next,
     }
 }
@@ -292,7 +251,7 @@ pub fn slot(t: Tree, s: State) -> SlotReply
 {
     if !both_keep(t, s) {
         return SlotReply {
-            answer: SlotAnswer::Refused(Refusal::Rules),
+            answer: Err(Refusal::Rules),
             state: s,
         };
     }
