@@ -10,8 +10,7 @@ use Rattle.model.specs.declared.State.{State}
 use Rattle.model.specs.declared.Refusal.{Refusal}
 use Rattle.model.specs.Builders.{zero_state}
 use Rattle.model.specs.Answer.{number_of}
-use Rattle.machine.specs.declared.OfferReply.{OfferReply}
-use Rattle.machine.specs.declared.SlotReply.{SlotReply}
+use Rattle.machine.specs.declared.Reply.{Reply}
 use Rattle.machine.specs.Machine.{Answer, Outcome, outcome, admitted, served, idle, refused, started, not_started, Beginning, beginning}
 
 abbrev pub offer_means : Result (Unit {0}) Refusal → Answer
@@ -27,8 +26,8 @@ abbrev pub fresh_outcome : Channel → Result State Refusal → Beginning
 fresh_outcome c (Ok s) = beginning started s
 fresh_outcome c (Err r) = beginning (not_started (number_of r)) (zero_state c)
 
-abbrev pub offer_outcome : OfferReply → Outcome
+abbrev pub offer_outcome : Reply (Unit {0}) → Outcome
 offer_outcome r = outcome (offer_means r.answer) r.state
 
-abbrev pub slot_outcome : SlotReply → Outcome
+abbrev pub slot_outcome : Reply (Option ℕ) → Outcome
 slot_outcome r = outcome (slot_means r.answer) r.state

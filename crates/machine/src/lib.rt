@@ -7,7 +7,7 @@ ghost use Rattle.std.specs.Prelude.{◌≡◌, true, map, ◌<◌, ◌≤◌};
 ghost use Rattle.model.specs.Tree.{delay_of, waiting_of, returns_of, admitted_of};
 ghost use Rattle.model.specs.Builders.{zero_state};
 ghost use Rattle.rules.specs.Rules.{keeps};
-ghost use Rattle.machine.specs.Machine.{admitted, fresh_state, freshened, admit, limits_answer, verdict_of, offered_within, offered, none_waits, older, tick, take_one, last_slot, slotted_within, slotted};
+ghost use Rattle.machine.specs.Machine.{admitted, fresh_state, freshened, admit, limits_answer, offered, none_waits, older, tick, take_one, last_slot, slotted_within, slotted};
 ghost use Rattle.machine.specs.Answers.{offer_means, fresh_outcome, offer_outcome, slot_outcome};
 
 use model::access::{accelerator_at, admitted_of, job_of, outstanding_of, waiting_of};
@@ -15,17 +15,10 @@ use model::{Channel, Port, Refusal, State, Tree};
 use rules::{both_keep, less_one, tree_keeps};
 use turns::choose;
 
-// An offer's answer, that it is admitted or why it is refused, with the next state.
+// A call's answer, or why the call is refused, with the next state.
 #[derive(Clone, Copy)]
-pub struct OfferReply {
-    pub answer: Result<(), Refusal>,
-    pub state: State,
-}
-
-// A slot's answer, the accelerator that was served, None where nothing waited, or why it is refused, with the next state.
-#[derive(Clone, Copy)]
-pub struct SlotReply {
-    pub answer: Result<Option<u8>, Refusal>,
+pub struct Reply<A> {
+    pub answer: Result<A, Refusal>,
     pub state: State,
 }
 
@@ -64,10 +57,10 @@ fn fresh_state(t: Tree, channel: Channel) -> State
 pub fn fresh(t: Tree, channel: Channel) -> Result<State, Refusal>
     ensures { fresh_outcome channel result ≡ freshened t channel }
 {
-    if !tree_keeps(t) {
-        return Err(Refusal::Rules);
+    if tree_keeps(t) {
+        return Ok(fresh_state(t, channel));
     }
-    Ok(fresh_state(t, channel))
+    Err(Refusal::Rules)
 }
 
 // One more transaction of accelerator a waits and counts against its budget.
@@ -97,12 +90,15 @@ pub fn limits_answer(limit: u32, outstanding: u32, budget: u32, admitted: u32) -
     Ok(())
 }
 
-// What the offer of one transaction of accelerator a answers, for a caller that has checked configuration and state. Where it
-// is admitted, its counts have room for one more.
+// What the offer of one transaction of accelerator a answers: admitted, or why it is refused. Where it is admitted, its counts have
+// room for one more.
 fn offer_answer(t: Tree, s: State, a: u8) -> Result<(), Refusal>
-    ensures answer { offer_means result ≡ verdict_of t s a }
+    ensures answer { offer_means result ≡ (offered t s a).answer }
     ensures room { offer_means result ≡ admitted → (waiting_of s a < 255) × (admitted_of s a < 65535) }
 {
+    if !both_keep(t, s) {
+        return Err(Refusal::Rules);
+    }
     if t.accs <= a {
         return Err(Refusal::Unknown);
     }
@@ -119,32 +115,19 @@ fn offer_answer(t: Tree, s: State, a: u8) -> Result<(), Refusal>
     )
 }
 
-// The offer of one transaction of accelerator a, for a caller that has checked configuration and state.
-fn offer_within(t: Tree, s: State, a: u8) -> OfferReply
-    ensures { offer_outcome result ≡ offered_within t s a }
+// The offer of one transaction of accelerator a.
+pub fn offer(t: Tree, s: State, a: u8) -> Reply<()>
+    ensures { offer_outcome result ≡ offered t s a }
 {
     let answer = offer_answer(t, s, a);
     let state = match answer {
         Ok(()) => admitting(s, a),
         Err(_) => s,
     };
-    OfferReply {
+    Reply {
         answer: answer,
         state: state,
     }
-}
-
-// The offer of one transaction of accelerator a.
-pub fn offer(t: Tree, s: State, a: u8) -> OfferReply
-    ensures { offer_outcome result ≡ offered t s a }
-{
-    if !both_keep(t, s) {
-        return OfferReply {
-            answer: Err(Refusal::Rules),
-            state: s,
-        };
-    }
-    offer_within(t, s, a)
 }
 
 fn none_waits(s: State) -> bool
@@ -218,39 +201,37 @@ fn take_one(s: State, a: u8) -> State
 }
 
 // One slot, for a caller that has checked configuration and state.
-fn slot_within(t: Tree, s: State) -> SlotReply
+fn slot_within(t: Tree, s: State) -> Reply<Option<u8>>
     requires { keeps t s ≡ true }
     ensures { slot_outcome result ≡ slotted_within t s }
 {
     if s.slot == 4294967295 {
-        return SlotReply {
+        return Reply {
             answer: Err(Refusal::LastSlot),
             state: s,
         };
     }
     if none_waits(s) {
-        let next = ticked(t, s);
-        return SlotReply {
+        return Reply {
             answer: Ok(None),
-            state: next,
+            state: ticked(t, s),
         };
     }
     let c = choose(t, s, 4, Port::Int(0));
     let a = c.served;
     let turned = c.state;
-    let next = ticked(t, take_one(turned, a));
-    SlotReply {
+    Reply {
         answer: Ok(Some(a)),
-        state: next,
+        state: ticked(t, take_one(turned, a)),
     }
 }
 
-// One slot: serves the transaction whose turn it is, or is idle if none waits.
-pub fn slot(t: Tree, s: State) -> SlotReply
+// One slot: serves the transaction whose turn it is and answers its accelerator, or is idle and answers None if none waits.
+pub fn slot(t: Tree, s: State) -> Reply<Option<u8>>
     ensures { slot_outcome result ≡ slotted t s }
 {
     if !both_keep(t, s) {
-        return SlotReply {
+        return Reply {
             answer: Err(Refusal::Rules),
             state: s,
         };
