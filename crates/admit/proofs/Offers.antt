@@ -13,11 +13,7 @@ use lib.Dec.{ltb, eqb}
 use borrow.Author.Tests.{lt-ltb, le-ltb, ltb-false, eq-eqb, eqb-true}
 use Rattle.folds.specs.Fold.{pick}
 use Rattle.folds.proofs.Folds.{picked, passed, clash}
-use Rattle.machine.specs.declared.OfferAnswer.{OfferAnswer}
-use Rattle.machine.specs.declared.OfferAnswer.TheVariants.{Admitted}
 use Rattle.machine.specs.Machine.{admitted, refused, limits_answer, on_admitted}
-use Rattle.machine.specs.Answers.{offer_means}
-use Rattle.machine.proofs.Steps.{limits_room}
 use Rattle.counts.specs.Table.{limits, budgets, parent_ports}
 use Rattle.counts.specs.Counts.{lives, up, raised, opened}
 use Rattle.admit.proofs.Kept.{first_kept, second_kept}
@@ -78,10 +74,6 @@ arrays_same d e p q r u v l o =
     ∙ ap₂ (λ (x y : List ℕ). arrays e.outstanding e.admitted x y d.live d.last d.allowance) r u
     ∙ ap₂ (λ (x y : List ℕ). arrays e.outstanding e.admitted e.held e.under x y d.allowance) v l
     ∙ ap (arrays e.outstanding e.admitted e.held e.under e.live e.last) o
-
--- an admission is below both limits
-pub admits_room : (l o m n : ℕ) (x : OfferAnswer) → offer_means x ≡ limits_answer l o m n → x ≡ Admitted → (o < l) × (n < m)
-admits_room l o m n x e f = limits_room l o m n (sym e ∙ ap offer_means f)
 
 -- the counts of accelerator a, by the parts of the arrays
 module _ (b : List ℕ) (a : ℕ) (h : a < 32) where

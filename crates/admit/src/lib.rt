@@ -7,7 +7,8 @@ ghost use Rattle.admit.specs.Admitting.{arrays_of, answer_on, offered_on, offers
 
 use counts::along::add_along;
 use counts::{BUDGET, LIMIT, OWN_PORT};
-use machine::{OfferAnswer, limits_answer};
+use machine::limits_answer;
+use model::Refusal;
 use rules::less_one;
 
 // In the array of the counts of each accelerator, after the outstanding counts: the admitted counts.
@@ -29,7 +30,7 @@ fn offer_one(
     blocks: &mut [u32; 96],
     under: &mut [u16; 120],
     turns: &mut [u8; 45],
-) -> OfferAnswer
+) -> Result<(), Refusal>
     requires { a < 32 }
     ensures answer { offer_means result ≡ answer_on table.now a (arrays_of blocks.old under.old turns.old) }
     ensures arrays { arrays_of blocks.new under.new turns.new
@@ -41,14 +42,14 @@ fn offer_one(
     let limit = wide(table[LIMIT + i]);
     let budget = wide(table[BUDGET + i]);
     match limits_answer(limit, outstanding, budget, admitted) {
-        OfferAnswer::Admitted => {
+        Ok(()) => {
             blocks[HELD + i] = less_one(blocks[HELD + i]);
             blocks[i] = outstanding + 1;
             blocks[ADMITTED + i] = admitted + 1;
             add_along(table, table[OWN_PORT + i], under, turns);
-            OfferAnswer::Admitted
+            Ok(())
         }
-        OfferAnswer::Refused(refusal) => OfferAnswer::Refused(refusal),
+        Err(refusal) => Err(refusal),
     }
 }
 
@@ -68,7 +69,7 @@ fn offer_held(
         return;
     }
     while 0 < blocks[HELD + i] {
-        let OfferAnswer::Admitted = offer_one(a, table, blocks, under, turns) else {
+        let Ok(()) = offer_one(a, table, blocks, under, turns) else {
             return;
         };
     }

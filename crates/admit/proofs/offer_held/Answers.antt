@@ -16,7 +16,7 @@ loop-blocks-smaller c =
     let o = c.offer_one in
     let h : 0 < get_or (helds l.blocks) x.a 0 =
     omega (arith, c.loop-blocks-test.true, reads_held l.blocks x.a (omega (arith, k.if-i-gt31.false))) in
-    let e = sym o.ensures.answer ∙ ap offer_means c.in-Admitted.is in
+    let e = sym o.ensures.answer ∙ ap offer_means c.in-Ok.is in
     omega (arith, held_less x.table.now x.a (arrays_of l.blocks l.under l.turns) e _ o.ensures.arrays h, h)
 
 pub loop-blocks-preserved : goal.loop-blocks-preserved
@@ -27,7 +27,7 @@ loop-blocks-preserved c =
     let o = c.offer_one in
     let h : 0 < get_or (helds l.blocks) x.a 0 =
     omega (arith, c.loop-blocks-test.true, reads_held l.blocks x.a (omega (arith, k.if-i-gt31.false))) in
-    let e = sym o.ensures.answer ∙ ap offer_means c.in-Admitted.is in
+    let e = sym o.ensures.answer ∙ ap offer_means c.in-Ok.is in
     offers_turn x.table.now x.a (arrays_of l.blocks l.under l.turns) e _ o.ensures.arrays h ∙ l.invariant
 
 pub returns-in_default : goal.returns-in_default
