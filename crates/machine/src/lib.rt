@@ -78,7 +78,12 @@ fn admitting(s: State, a: u8) -> State
 }
 
 // What an offer answers by the limits of its accelerator: as many as may be are outstanding, or the budget is used, or neither.
-pub fn limits_answer(limit: u32, outstanding: u32, budget: u32, admitted: u32) -> Result<(), Refusal>
+pub fn limits_answer(
+    limit: u32,
+    outstanding: u32,
+    budget: u32,
+    admitted: u32,
+) -> Result<(), Refusal>
     ensures { offer_means result ≡ limits_answer limit outstanding budget admitted }
 {
     if limit <= outstanding {
