@@ -103,19 +103,15 @@ pub(crate) fn asked(b: Burst) -> Asked {
 
 // A pattern, from x on, into each entry of an array,
 fn fill(a: &mut [u32; 256], x: u32) {
-    let mut i: usize = 0;
-    while i < 256 {
+    for i in 0..256usize {
         a[i] = std::num::wrapping_add_u32(x, i as u32);
-        i += 1;
     }
 }
 
 // and of a part of the store.
 fn fill_part(d: &mut [usize; 16384], part: usize, x: u32) {
-    let mut i: usize = 0;
-    while i < 256 {
+    for i in 0..256 {
         put(d, part, i, std::num::wrapping_add_usize(wide(x), i));
-        i += 1;
     }
 }
 
@@ -154,8 +150,7 @@ fn end_in_page(b: Burst) -> usize {
 }
 
 fn is_good(size: u32) -> bool {
-    let small = (size == 1) | (size == 2) | (size == 4) | (size == 8);
-    small | (size == 16) | (size == 32) | (size == 64) | (size == 128)
+    matches!(size, 1 | 2 | 4 | 8 | 16 | 32 | 64 | 128)
 }
 
 // Is it a burst by AXI4, and by its beats none by AXI3?

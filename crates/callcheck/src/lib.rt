@@ -86,10 +86,8 @@ fn same_records(s: State, delay: u8, d: &[usize; 16384]) -> bool
     ensures { result ≡ all 32 (λ a. same_record s a delay d.now) }
 {
     let mut same = true;
-    let mut a: u8 = 0;
-    while a < 32 {
-        same = same & same_record(s, a, delay, d);
-        a += 1;
+    for a in 0..32 {
+        same &= same_record(s, a, delay, d);
     }
     same
 }
@@ -98,10 +96,8 @@ fn same_turns(s: State, d: &[usize; 16384]) -> bool
     ensures { result ≡ all 15 (λ j. same_turn s j d.now) }
 {
     let mut same = true;
-    let mut j: u8 = 0;
-    while j < 15 {
-        same = same & same_turn(s, j, d);
-        j += 1;
+    for j in 0..15 {
+        same &= same_turn(s, j, d);
     }
     same
 }
