@@ -1,5 +1,5 @@
-use Rattle.std.proofs.Common.{◌-◌}
+use Rattle.std.proofs.Common.{length, ◌≤◌, IfOk}
 use Rattle.input.proofs.read_some.Given as goal
 
-abbrev pub decreases-loop-tries : goal.decreases-loop-tries
-decreases-loop-tries g l = 100 - l.tries
+abbrev pub invariant-loop : goal.invariant-loop
+invariant-loop g l = IfOk l.got (λ n. n ≤ length l.buf)
