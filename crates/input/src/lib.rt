@@ -72,18 +72,26 @@ fn is_interrupted(got: &Result<usize, Error>) -> bool {
     matches!(got, Err(e) if e.kind() == ErrorKind::Interrupted)
 }
 
-// One read. Where a signal came before a byte did it reads again, a hundred times at most, since every function here ends.
+// What the call, a read or a write of at most n bytes, answered. Where a signal came before a byte did it calls again, a hundred times
+// at most, since every function here ends.
+fn retried<F: FnMut() -> Result<usize, Error>>(n: usize, mut call: F) -> Result<usize, Error>
+    requires { F.IsAlwaysCallable call }
+    ensures { IfOk result (λ k. k ≤ n) }
+{
+    let mut got = call();
+    for _ in 1..100 {
+        if !is_interrupted(&got) {
+            break;
+        }
+        got = call();
+    }
+    answered(got, n)
+}
+
 fn read_some(from: &mut impl Read, buf: &mut [u8]) -> Result<usize, Error>
     ensures { IfOk result (λ n. n ≤ length buf.new) }
 {
-    let mut got = answered(from.read(buf), buf.len());
-    for _ in 1..100 {
-        if !is_interrupted(&got) {
-            return got;
-        }
-        got = answered(from.read(buf), buf.len());
-    }
-    got
+    retried(buf.len(), || from.read(buf))
 }
 
 // Reads into the buffer until the end of the file or of the buffer: after a short read it reads again.
@@ -178,18 +186,10 @@ pub fn load(
     read_or_say(name, errors, read_named(path, files, buf))
 }
 
-// One write on standard output, tried again as a read is.
 fn write_some(out: &impl Print, text: &[u8]) -> Result<usize, Error>
     ensures { IfOk result (λ n. n ≤ length text.now) }
 {
-    let mut got = answered(out.write_some(text), text.len());
-    for _ in 1..100 {
-        if !is_interrupted(&got) {
-            return got;
-        }
-        got = answered(out.write_some(text), text.len());
-    }
-    got
+    retried(text.len(), || out.write_some(text))
 }
 
 // Writes a text on standard output, after a short write the rest.
