@@ -30,12 +30,12 @@ pub fn words(words: &impl Env) -> usize {
         .count()
 }
 
-// Puts word i, from 1, at the start of the buffer, which the longest word of Linux fits, and answers its length; 0 where it was
-// not given. The buffer is lent as an array: a caller's part of it then needs no proof.
-pub fn word(words: &impl Env, i: usize, buf: &mut [u8; 131072]) -> usize
-    ensures { result ≤ length buf.new }
+// Word i, from 1, which is put into the buffer; no byte where it was not given. The longest word of Linux fits.
+pub fn word<'a>(words: &impl Env, i: usize, buf: &'a mut [u8; 131072]) -> &'a [u8]
+    ensures { length result.now ≤ length buf.old }
 {
-    words.arg(i, buf).unwrap_or(0)
+    let n = words.arg(i, buf).unwrap_or(0);
+    &buf[..n]
 }
 
 // The first n bytes, or all where there are fewer.
