@@ -6,7 +6,8 @@ ghost use Rattle.machine.specs.Answers.{offer_means};
 ghost use Rattle.admit.specs.Admitting.{answer_on, offered_on, offers_of, is_in, offers_before};
 
 use counts::{Ports, Table};
-use machine::{OfferAnswer, limits_answer};
+use machine::limits_answer;
+use model::Refusal;
 use rules::less_one;
 
 // What a run keeps in place of a state: how many transactions of each accelerator are outstanding, admitted in this window and held, and
@@ -21,7 +22,7 @@ pub struct Arrays {
 
 impl Arrays {
     // Accelerator a offers one of its held transactions: refused by 8, by 9, or admitted, and then it is held no longer.
-    fn offer_one(&mut self, a: u8, table: &Table) -> OfferAnswer
+    fn offer_one(&mut self, a: u8, table: &Table) -> Result<(), Refusal>
         requires { a < 32 }
         ensures answer { offer_means result ≡ answer_on table.now a self.old }
         ensures arrays { self.new ≡ offered_on table.now a self.old }
@@ -31,16 +32,12 @@ impl Arrays {
         let admitted = self.admitted[i];
         let limit = table.limit[i] as u32;
         let budget = table.budget[i] as u32;
-        match limits_answer(limit, outstanding, budget, admitted) {
-            OfferAnswer::Admitted => {
-                self.held[i] = less_one(self.held[i]);
-                self.outstanding[i] = outstanding + 1;
-                self.admitted[i] = admitted + 1;
-                self.ports.add_along(table, table.own_port[i]);
-                OfferAnswer::Admitted
-            }
-            OfferAnswer::Refused(refusal) => OfferAnswer::Refused(refusal),
-        }
+        limits_answer(limit, outstanding, budget, admitted)?;
+        self.held[i] = less_one(self.held[i]);
+        self.outstanding[i] = outstanding + 1;
+        self.admitted[i] = admitted + 1;
+        self.ports.add_along(table, table.own_port[i]);
+        Ok(())
     }
 
     // Accelerator a offers its held transactions until one is refused, which stays first in line, or none is left.
@@ -52,7 +49,7 @@ impl Arrays {
             return;
         }
         while 0 < self.held[i] {
-            let OfferAnswer::Admitted = self.offer_one(a, table) else {
+            let Ok(()) = self.offer_one(a, table) else {
                 return;
             };
         }

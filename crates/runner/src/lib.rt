@@ -15,7 +15,7 @@ ghost use Rattle.runner.specs.Places.{left_at, Accepts};
 
 use counts::tables::table_of;
 use lines::FileAnswer;
-use machine::{FreshAnswer, fresh};
+use machine::fresh;
 use model::{Channel, Refusal, State, Tree};
 use steps::{after_slot, arrays_from, before_slot, below, home_of, is_done};
 use trace::read_requests;
@@ -159,9 +159,7 @@ pub fn run_wait(t: Tree, channel: Channel, trace: &[u8], a: u8, k: u32, out: &mu
     ensures bytes { out.new ≡ buffer_after t channel trace.now out.old }
     ensures wait { wait_of result.wait ≡ told_of t channel trace.now a k (length out.old) }
 {
-    let start = fresh(t, channel);
-    let started = start.answer;
-    let FreshAnswer::Started = started else {
+    let Ok(start) = fresh(t, channel) else {
         return untold(RunAnswer::Broken);
     };
     if 65536 < out.len() {
@@ -170,7 +168,7 @@ pub fn run_wait(t: Tree, channel: Channel, trace: &[u8], a: u8, k: u32, out: &mu
     match read_requests(t.accs, trace) {
         FileAnswer::Accepted => {
             let number = number_asked(t.accs, a, k);
-            run_slots(t, channel, start.state, trace, a, number, out)
+            run_slots(t, channel, start, trace, a, number, out)
         }
         FileAnswer::Refused(why, line) => untold(RunAnswer::Refused(why, line)),
         FileAnswer::Broken => untold(RunAnswer::Broken),

@@ -10,7 +10,7 @@ loop-self-smaller c =
     let x = c.args in
     let o = c.offer_one in
     let h = c.loop-self-test.true in
-    let e = sym o.ensures.answer ∙ ap offer_means c.in-Admitted.is in
+    let e = sym o.ensures.answer ∙ ap offer_means c.in-Ok.is in
     omega (arith, held_less x.table.now x.a c.loop-self.self e _ o.ensures.arrays h, h)
 
 pub loop-self-preserved : goal.loop-self-preserved
@@ -18,7 +18,7 @@ loop-self-preserved c =
     let x = c.args in
     let l = c.loop-self in
     let o = c.offer_one in
-    let e = sym o.ensures.answer ∙ ap offer_means c.in-Admitted.is in
+    let e = sym o.ensures.answer ∙ ap offer_means c.in-Ok.is in
     offers_turn x.table.now x.a l.self e _ o.ensures.arrays c.loop-self-test.true ∙ l.invariant
 
 pub returns-in_default : goal.returns-in_default
