@@ -4,7 +4,7 @@ use mathlib.Core.Bool.{Bool, true, false, ◌||◌, not}
 use mathlib.Core.Path.{◌≡◌, refl, sym, ◌∙◌, ap, ap₂}
 use native.Mathlib.Omega.{arith}
 use native.Mathlib.Decide.{dec_lt, ℕ_discrete}
-use lib.ListN.{get_or, set, length, get_or-eq_default}
+use lib.ListN.{get_or, length, get_or-eq_default}
 use lib.Seq.{get_or-set_same}
 use lib.Bits.{bit_and, and_zero_l}
 use lib.Count.{count_trailing_zeros, trailing_of_zero}
@@ -14,12 +14,9 @@ use Rattle.folds.specs.Fold.{pick}
 use Rattle.folds.proofs.Folds.{picked, passed, clash}
 use Rattle.machine.specs.Machine.{admitted, refused, on_admitted}
 use Rattle.counts.specs.declared.Table.{Table}
-use Rattle.counts.specs.declared.Ports.{Ports}
-use Rattle.counts.specs.Counts.{path_ports}
-use Rattle.counts.specs.Choice.{more_at}
 use Rattle.admit.specs.declared.Arrays.{Arrays}
 use Rattle.admit.proofs.Sets.{in_none, lowest}
-use Rattle.admit.specs.Admitting.{arrays, answer_on, admit_on, offered_on, offers_for, offers_of, is_in, offers_in}
+use Rattle.admit.specs.Admitting.{answer_on, admit_on, offered_on, offers_for, offers_of, is_in, offers_in}
 
 -- one offer, by its answer
 module _ (w : Table) (a : ℕ) (d : Arrays) where
@@ -66,13 +63,6 @@ module _ (w : Table) (a : ℕ) (d : Arrays) where
 
   pub offers_known : a < 32 → offers_of w a d ≡ offers_for (get_or d.held a 0) w a d
   offers_known h = passed _ _ _ (le-ltb 31 a (omega arith))
-
--- one held transaction of accelerator a is admitted
-pub stored_one : (w : Table) (a : ℕ) (d : Arrays) (n : ℕ) (p : Ports) → answer_on w a d ≡ admitted → n ≡ get_or d.held a 0 - 1 → p ≡ more_at (path_ports w a) d.ports
-    → arrays (set d.outstanding a (get_or d.outstanding a 0 + 1)) (set d.admitted a (get_or d.admitted a 0 + 1)) (set d.held a n) p ≡ offered_on w a d
-stored_one w a d n p e f g =
-    ap₂ (λ (m : ℕ) (q : Ports). arrays (set d.outstanding a (get_or d.outstanding a 0 + 1)) (set d.admitted a (get_or d.admitted a 0 + 1)) (set d.held a m) q) f g
-    ∙ sym (on_admitted_lem w a d e)
 
 -- the offers of those of which f holds
 module _ (w : Table) (f : ℕ → Bool) (d : Arrays) where

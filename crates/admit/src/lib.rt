@@ -32,16 +32,12 @@ impl Arrays {
         let admitted = self.admitted[i];
         let limit = table.limit[i] as u32;
         let budget = table.budget[i] as u32;
-        match limits_answer(limit, outstanding, budget, admitted) {
-            Ok(()) => {
-                self.held[i] = less_one(self.held[i]);
-                self.outstanding[i] = outstanding + 1;
-                self.admitted[i] = admitted + 1;
-                self.ports.add_along(table, table.own_port[i]);
-                Ok(())
-            }
-            Err(refusal) => Err(refusal),
-        }
+        limits_answer(limit, outstanding, budget, admitted)?;
+        self.held[i] = less_one(self.held[i]);
+        self.outstanding[i] = outstanding + 1;
+        self.admitted[i] = admitted + 1;
+        self.ports.add_along(table, table.own_port[i]);
+        Ok(())
     }
 
     // Accelerator a offers its held transactions until one is refused, which stays first in line, or none is left.
