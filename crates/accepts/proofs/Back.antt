@@ -27,7 +27,7 @@ use Rattle.rules.specs.Rules.{is_empty, bus_keeps, tree_keeps}
 use Rattle.rules.proofs.Sound.{sound}
 use Rattle.rules.proofs.Beneath.{only, only_same, only_other}
 use Rattle.folds.proofs.Folds.{picked, passed, both, tests}
-use Rattle.lines.specs.declared.FileAnswer.TheVariants.{Accepted}
+use Rattle.lines.specs.Answer.{Accepted}
 use Rattle.lines.specs.declared.Kind.{Kind}
 use Rattle.lines.specs.declared.Kind.TheVariants.{NoRecord, BusLine, IntLine, AccLine, OfferLine, Bus3Line}
 use Rattle.lines.specs.declared.Line.{Line}

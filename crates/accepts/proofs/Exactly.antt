@@ -17,7 +17,7 @@ use Rattle.folds.specs.Fold.{pick}
 use Rattle.folds.proofs.Folds.{picked, passed}
 use Rattle.rules.specs.Rules.{tree_keeps}
 use Rattle.model.specs.declared.Refusal.{Refusal}
-use Rattle.lines.specs.declared.FileAnswer.TheVariants.{Accepted, Refused}
+use Rattle.lines.specs.Answer.{Accepted, Refused}
 use Rattle.lines.specs.declared.Kind.TheVariants.{AccLine}
 use Rattle.lines.specs.Lines.{kind_of, line_from, line_of}
 use Rattle.lines.proofs.Written.{name_clean}

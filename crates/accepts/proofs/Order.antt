@@ -23,8 +23,7 @@ use Rattle.model.specs.declared.Refusal.TheVariants.{Shape, Limit, Order, Taken}
 use Rattle.folds.specs.Fold.{pick}
 use Rattle.model.specs.Tree.{no_interconnect, accelerator_of, port_of, phi_of}
 use Rattle.rules.specs.Rules.{is_empty}
-use Rattle.lines.specs.declared.FileAnswer.{FileAnswer}
-use Rattle.lines.specs.declared.FileAnswer.TheVariants.{Accepted, Refused, Broken}
+use Rattle.lines.specs.Answer.{FileAnswer, Accepted, Refused, Broken}
 use Rattle.placing.specs.declared.TreeRead.{TreeRead}
 use Rattle.lines.specs.declared.Kind.{Kind}
 use Rattle.lines.specs.declared.Kind.TheVariants.{AccLine}

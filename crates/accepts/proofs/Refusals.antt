@@ -24,8 +24,7 @@ use Rattle.rules.specs.Rules.{is_empty}
 use Rattle.lines.specs.declared.Kind.{Kind}
 use Rattle.lines.specs.declared.Kind.TheVariants.{NoRecord, BusLine, IntLine, AccLine, OfferLine, Bus3Line}
 use Rattle.lines.specs.declared.Line.{Line}
-use Rattle.lines.specs.declared.FileAnswer.{FileAnswer}
-use Rattle.lines.specs.declared.FileAnswer.TheVariants.{Accepted, Refused, Broken}
+use Rattle.lines.specs.Answer.{FileAnswer, Accepted, Refused, Broken}
 use Rattle.lines.specs.FirstRule.{Rule, rule, broken}
 use Rattle.lines.specs.Lines.{named, pushed, line_with, line_of, value_at, in_tree, shaped, limits_kept}
 use Rattle.lines.specs.LineText.{WritesLine}

@@ -22,7 +22,7 @@ use Rattle.rules.specs.Rules.{tree_keeps}
 use Rattle.rules.proofs.Sound.{sound}
 use Rattle.lines.specs.declared.Kind.TheVariants.{OfferLine}
 use Rattle.lines.specs.declared.Line.{Line}
-use Rattle.lines.specs.declared.FileAnswer.TheVariants.{Accepted, Refused}
+use Rattle.lines.specs.Answer.{Accepted, Refused}
 use Rattle.lines.specs.Lines.{pushed, line_of, in_trace, shaped, limits_kept}
 use Rattle.lines.proofs.Written.{name_clean, Below, below_none, below_more, numbers_clean, numbers_read}
 use Rattle.lines.proofs.Back.{shape_exact, numbers_written, no_dash_at, value_small, never_dash}

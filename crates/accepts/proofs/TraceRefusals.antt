@@ -20,8 +20,7 @@ use Rattle.folds.proofs.Folds.{passed, both, joined, clash}
 use Rattle.rules.specs.Rules.{tree_keeps}
 use Rattle.rules.proofs.Sound.{sound}
 use Rattle.lines.specs.declared.Kind.TheVariants.{OfferLine}
-use Rattle.lines.specs.declared.FileAnswer.{FileAnswer}
-use Rattle.lines.specs.declared.FileAnswer.TheVariants.{Accepted, Refused}
+use Rattle.lines.specs.Answer.{FileAnswer, Accepted, Refused}
 use Rattle.lines.specs.FirstRule.{broken}
 use Rattle.lines.specs.Lines.{line_of, limits_kept}
 use Rattle.trace.specs.declared.Request.{Request}

@@ -98,7 +98,7 @@ pub struct State {
 }
 
 // Why a file, a call or a state is refused.
-#[derive(Clone, Copy)]
+#[derive(Clone, Copy, PartialEq, Eq)]
 pub enum Refusal {
     Shape,
     Limit,

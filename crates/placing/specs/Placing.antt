@@ -26,7 +26,7 @@ use Rattle.rules.specs.Rules.{is_empty}
 use Rattle.lines.specs.declared.Kind.{Kind}
 use Rattle.lines.specs.declared.Kind.TheVariants.{NoRecord, BusLine, IntLine, AccLine, OfferLine, Bus3Line}
 use Rattle.lines.specs.declared.Line.{Line}
-use Rattle.lines.specs.declared.FileAnswer.TheVariants.{Accepted, Refused}
+use Rattle.lines.specs.Answer.{Accepted, Refused}
 use Rattle.model.specs.Builders.{with_bus}
 use Rattle.records.specs.Records.{empty_tree, bus_of, with_root, with_child, with_acc}
 use Rattle.placing.specs.declared.TreeRead.{TreeRead}

@@ -4,11 +4,10 @@ use Prim.Native.Nat.{ℕ}
 use mathlib.Core.List.{List, []}
 use mathlib.Core.Path.{◌≡◌, refl, ap, sym, subst, ◌∙◌}
 use lib.ListN.{length}
-use Rattle.lines.specs.declared.FileAnswer.{FileAnswer}
+use Rattle.lines.specs.Answer.{FileAnswer, answer_number, answer_line}
 use Rattle.placing.specs.declared.TreeRead.{TreeRead}
 use Rattle.put.specs.Page.{Written}
 use Rattle.put.proofs.Puts.{written_none}
-use Rattle.lines.specs.Answer.{answer_number, answer_line}
 use Rattle.writer.specs.Writer.{write_of, write_buffer}
 use Rattle.plan.specs.declared.Printed.{Printed}
 use Rattle.plan.specs.Plan.{printed, Printing}

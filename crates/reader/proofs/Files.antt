@@ -11,8 +11,7 @@ use Rattle.text.proofs.Parts.{lines_none, lines_unended, lines_next, part_fits}
 use Rattle.model.specs.declared.Tree.{Tree}
 use Rattle.model.specs.declared.Refusal.TheVariants.{Shape, Limit}
 use Rattle.folds.proofs.Folds.{picked, passed}
-use Rattle.lines.specs.declared.FileAnswer.{FileAnswer}
-use Rattle.lines.specs.declared.FileAnswer.TheVariants.{Accepted, Refused, Broken}
+use Rattle.lines.specs.Answer.{FileAnswer, Accepted, Refused, Broken}
 use Rattle.placing.specs.declared.TreeRead.{TreeRead}
 use Rattle.lines.specs.Lines.{line_of}
 use Rattle.lines.proofs.Limits.{nonempty}

@@ -8,8 +8,7 @@ use Rattle.model.specs.declared.Tree.{Tree}
 use Rattle.model.specs.declared.Refusal.TheVariants.{Shape, Limit}
 use Rattle.folds.specs.Fold.{pick}
 use Rattle.text.specs.Text.{lines, unended}
-use Rattle.lines.specs.declared.FileAnswer.{FileAnswer}
-use Rattle.lines.specs.declared.FileAnswer.TheVariants.{Accepted, Refused, Broken}
+use Rattle.lines.specs.Answer.{FileAnswer, Accepted, Refused, Broken}
 use Rattle.lines.specs.Lines.{line_of}
 use Rattle.placing.specs.declared.TreeRead.{TreeRead}
 use Rattle.records.specs.Records.{empty_tree}

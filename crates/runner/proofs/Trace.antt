@@ -16,7 +16,7 @@ use Rattle.trace.specs.declared.Request.{Request}
 use Rattle.machine.specs.Machine.{last_slot}
 use Rattle.trace.specs.declared.NextRequest.{NextRequest}
 use Rattle.trace.specs.declared.NextRequest.TheVariants.{Done, Due}
-use Rattle.lines.specs.declared.FileAnswer.TheVariants.{Accepted}
+use Rattle.lines.specs.Answer.{Accepted}
 use Rattle.trace.specs.TraceFile.{added, no_totals, read_trace, request_at}
 use Rattle.trace.proofs.Traces.{trace_start_lem}
 use Rattle.trace.proofs.Requests.{accepted_trace, Step, walk_step, walk_end}

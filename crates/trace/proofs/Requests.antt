@@ -25,8 +25,7 @@ use Rattle.trace.specs.declared.Request.{Request}
 use Rattle.trace.specs.declared.OfferRead.{OfferRead}
 use Rattle.trace.specs.declared.OfferRead.TheVariants.{NoOffer, Offer}
 use Rattle.trace.specs.declared.NextRequest.TheVariants.{Done, Due}
-use Rattle.lines.specs.declared.FileAnswer.{FileAnswer}
-use Rattle.lines.specs.declared.FileAnswer.TheVariants.{Accepted, Refused}
+use Rattle.lines.specs.Answer.{FileAnswer, Accepted, Refused}
 use Rattle.lines.specs.Lines.{line_of, value_at}
 use Rattle.trace.specs.TraceFile.{total_of, added, offer_line, after_offer, read_offers, no_totals, read_trace}
 use Rattle.trace.specs.TraceFile.{requests, rising, in_range, all_in_range, total_for, is_offer, request_at}

@@ -26,8 +26,7 @@ use Rattle.trace.specs.declared.OfferRead.TheVariants.{NoOffer, Offer}
 use Rattle.trace.specs.declared.NextRequest.{NextRequest}
 use Rattle.trace.specs.declared.NextRequest.TheVariants.{Done, Due}
 use Rattle.trace.specs.declared.OfferText.TheVariants.{Unshaped}
-use Rattle.lines.specs.declared.FileAnswer.{FileAnswer}
-use Rattle.lines.specs.declared.FileAnswer.TheVariants.{Accepted, Refused, Broken}
+use Rattle.lines.specs.Answer.{FileAnswer, Accepted, Refused, Broken}
 use Rattle.lines.specs.Lines.{line_of, value_at, shaped, limits_kept, in_trace}
 use Rattle.trace.specs.TraceFile.{request_of, total_of, added, offer_line, after_offer, read_offers, no_totals, read_trace, read_requests, request_on, request_at}
 use Rattle.trace.specs.OfferText.{offer_text, offer_of}
