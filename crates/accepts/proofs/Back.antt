@@ -36,8 +36,7 @@ use Rattle.lines.proofs.Limits.{least, most}
 use Rattle.lines.proofs.Back.{field_at, absent_zero, shape_count, shape_exact, line_written, numbers_written, no_dash_at}
 use Rattle.model.specs.Builders.{with_bus}
 use Rattle.records.specs.Records.{empty_tree, bus_of, with_root, with_child, acc_of, with_acc}
-use Rattle.placing.specs.declared.TreeRead.{TreeRead}
-use Rattle.placing.specs.Placing.{refused_at, given, int_in_order, bus_line, child_line, int_line, complete, finish, record_line, tree_line}
+use Rattle.placing.specs.Placing.{TreeRead, refused_at, given, int_in_order, bus_line, child_line, int_line, complete, finish, record_line, tree_line}
 use Rattle.placing.proofs.Tests.{bus_record, line_record, int_root, int_child, child_given}
 use Rattle.reader.specs.TreeFile.{onward, read_lines, read_tree}
 use Rattle.reader.proofs.Files.{tree_size, tree_start}

@@ -14,7 +14,7 @@ use Rattle.lines.specs.declared.Kind.{Kind}
 use Rattle.lines.specs.Answer.{Accepted}
 use Rattle.lines.specs.Lines.{bus_kind, name_of}
 use Rattle.lines.proofs.Written.{name_clean}
-use Rattle.placing.specs.declared.TreeRead.{TreeRead}
+use Rattle.placing.specs.Placing.{TreeRead}
 use Rattle.reader.specs.TreeFile.{read_tree}
 use Rattle.writer.specs.Lines.{bus_front, bus_values, bus_name}
 use Rattle.accepts.specs.TreeText.{WritesBus, with_delay, without_delay, Writes}

@@ -31,7 +31,7 @@ use Rattle.lines.specs.LineText.{WritesLine}
 use Rattle.lines.proofs.Written.{fields_from, limits_below, numbers_read}
 use Rattle.lines.proofs.Back.{pushed_kind, line_said, shaped_exactly}
 use Rattle.records.specs.Records.{empty_tree, with_root, acc_of}
-use Rattle.placing.specs.declared.TreeRead.{TreeRead}
+use Rattle.placing.specs.Placing.{TreeRead}
 use Rattle.placing.specs.Placing.{refused_at, given, int_in_order, bus_line, child_line, int_line, acc_line, complete, finish, record_line, tree_line}
 use Rattle.placing.proofs.Tests.{line_record, int_root, int_child, child_given, acc_given}
 use Rattle.reader.specs.TreeFile.{onward, read_lines, read_tree}

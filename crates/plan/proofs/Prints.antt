@@ -5,7 +5,7 @@ use mathlib.Core.List.{List, []}
 use mathlib.Core.Path.{◌≡◌, refl, ap, sym, subst, ◌∙◌}
 use lib.ListN.{length}
 use Rattle.lines.specs.Answer.{FileAnswer, answer_number, answer_line}
-use Rattle.placing.specs.declared.TreeRead.{TreeRead}
+use Rattle.placing.specs.Placing.{TreeRead}
 use Rattle.put.specs.Page.{Written}
 use Rattle.put.proofs.Puts.{written_none}
 use Rattle.writer.specs.Writer.{write_of, write_buffer}

@@ -9,7 +9,7 @@ use borrow.Author.Tests.{lt-ltb, le-ltb}
 use Rattle.folds.specs.Fold.{pick}
 use Rattle.folds.proofs.Folds.{picked, passed}
 use Rattle.model.specs.declared.Channel.{Channel}
-use Rattle.placing.specs.declared.TreeRead.{TreeRead}
+use Rattle.placing.specs.Placing.{TreeRead}
 use Rattle.plan.specs.declared.Printed.{Printed}
 use Rattle.plan.specs.Plan.{Printing}
 use Rattle.answers.specs.Numbers.{channel_of, is_accepted}

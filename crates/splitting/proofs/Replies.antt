@@ -4,7 +4,7 @@ use Prim.Native.Nat.{ℕ}
 use mathlib.Core.List.{List}
 use mathlib.Core.Path.{◌≡◌, ap, sym, ◌∙◌}
 use Rattle.lines.specs.Answer.{FileAnswer}
-use Rattle.placing.specs.declared.TreeRead.{TreeRead}
+use Rattle.placing.specs.Placing.{TreeRead}
 use Rattle.burst.specs.declared.Burst.{Burst}
 use Rattle.burst.specs.Burst.{split_by, starts_after, beats_after}
 use Rattle.splitting.specs.declared.Reply.{Reply}

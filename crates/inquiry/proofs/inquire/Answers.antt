@@ -5,7 +5,7 @@ use Prim.Native.Nat.{ℕ}
 use borrow.Author.Rules.{rules}
 use Rattle.model.specs.declared.Channel.{Channel}
 use Rattle.lines.specs.Answer.{answer_number, answer_line}
-use Rattle.placing.specs.declared.TreeRead.{TreeRead}
+use Rattle.placing.specs.Placing.{TreeRead}
 use Rattle.razhikum.proofs.Told.{of_accepted, of_refused}
 use Rattle.waits.specs.Why.{why_of, why_buffer}
 use Rattle.inquiry.specs.declared.Part.TheVariants.{Tree}
