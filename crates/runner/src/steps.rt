@@ -12,7 +12,7 @@ use admit::{ADMITTED, HELD, offer_each};
 use counts::LIVE;
 use counts::choice::choose;
 use rules::less_one;
-use trace::{NextRequest, request_at};
+use trace::request_at;
 
 // What an accelerator holds with a line's count added: no more than the type has.
 fn more_held(held: u32, count: u8) -> u32
@@ -39,7 +39,7 @@ fn take_due(trace: &[u8], slot: u32, line: NextLine, blocks: &mut [u32; 96]) -> 
     }
     let mut place = line.at;
     while place < trace.len() {
-        let NextRequest::Due(request, next) = request_at(trace, place) else {
+        let Some((request, next)) = request_at(trace, place) else {
             return DueLines {
                 next: NextLine {
                     at: place,

@@ -51,7 +51,7 @@ module _ (s : List ℕ) (at sep e : ℕ) (q : e ≡ at + field_length (drop at s
     pub number_field : get_or s e 0 ≡ sep → (f k : Field) → f ≡ field_of (take (e - at) (drop at s)) → f ≡ k → number_in k (e + 1) ≡ number_at s at sep
     number_field g f k r t = ap (λ x. number_in x (e + 1)) (sym t ∙ r) ∙ sym (number_here g)
 
-same_some : {A : Type 0} {p q : A} → Some p ≡ Some q → p ≡ q
+pub same_some : {A : Type 0} {p q : A} → Some p ≡ Some q → p ≡ q
 same_some e = cc
 
 number_in_lem : (f : Field) (n x next : ℕ) → number_in f n ≡ Some (x, next) → (f ≡ Number x) × (n ≡ next)

@@ -1,6 +1,6 @@
 -- What an accepted trace says: its requests are in order, within limits and totals, and walking the bytes gives them one
 -- after the other. By induction on the lines, with what an accepted line says at each.
-use Rattle.std.specs.Prelude.{Some, None, Result, Ok, Err}
+use Rattle.std.specs.Prelude.{Option, Some, None, Result, Ok, Err}
 use Prim.Native.Nat.{ℕ, zero, suc, ◌+◌, ◌-◌, ◌≤◌, ◌<◌}
 use mathlib.Core.Bool.{Bool, true, false}
 use mathlib.Core.List.{List, [], ◌∷◌}
@@ -28,6 +28,7 @@ use Rattle.lines.specs.Lines.{line_of, value_at}
 use Rattle.trace.specs.TraceFile.{total_of, added, offer_line, after_offer, read_offers, no_totals, read_trace}
 use Rattle.trace.specs.TraceFile.{requests, rising, in_range, all_in_range, total_for, is_offer, request_at}
 use Rattle.lines.proofs.Limits.{most, least}
+use Rattle.trace.proofs.Offers.{same_some}
 use Rattle.trace.proofs.Traces.{Good, offer_says, trace_from, request_done, request_line}
 use Rattle.trace.proofs.Traces.{trace_broken, trace_size, trace_start_lem, trace_unended, trace_line}
 
@@ -126,6 +127,10 @@ accepted_trace t s e =
     none zero a = refl
     none (suc n) zero = refl
     none (suc n) (suc a) = none n a
+
+-- two answers of `request_at` that are equal give the same request and the same place
+pub same_request : (r q : Request) (p m : ℕ) → ◌≡◌ {A = Option (Request × ℕ)} (Some (r, p)) (Some (q, m)) → (r ≡ q) × (p ≡ m)
+same_request r q p m e = let h = same_some e in (ap (λ (x : Request × ℕ). x.0) h, ap (λ (x : Request × ℕ). x.1) h)
 
 -- one step of the walk: the request at a place, and what is left after it
 pub record Step (n accs last : ℕ) (totals s : List ℕ) (at : ℕ) : Type 0 where
