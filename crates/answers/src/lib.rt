@@ -11,7 +11,7 @@ ghost use Rattle.waits.specs.Answers.{why_means};
 ghost use Rattle.bounds.specs.Bounds.{meaning_of};
 ghost use Rattle.burst.specs.Answers.{join_outcome};
 ghost use Rattle.lines.specs.Answer.{file_answer};
-ghost use Rattle.answers.specs.Numbers.{channel_number, channel_of, is_accepted, file_refused, reading_of, accepted_count, count_of, outcome_of, refused_by, tree_refused, no_wait, wait_of, row_of, unbounded, cut_of, joined_of};
+ghost use Rattle.answers.specs.Numbers.{channel_number, channel_of, file_refused, reading_of, accepted_count, count_of, outcome_of, refused_by, tree_refused, no_wait, wait_of, row_of, unbounded, cut_of, joined_of};
 
 use bounds::BoundAnswer;
 use burst::joiner::{JoinAnswer, JoinReply};
@@ -119,18 +119,11 @@ pub fn channel_of(number: u8) -> Channel
     Channel::Write
 }
 
-// Whether the file is accepted.
-pub fn is_accepted(answer: Result<(), FileError>) -> bool
-    ensures { result ≡ is_accepted (file_answer answer) }
-{
-    answer.is_ok()
-}
-
 // Which file is refused: `file`, or 0 where it is accepted.
 fn file_refused(file: u8, answer: Result<(), FileError>) -> u8
     ensures { result ≡ file_refused file (file_answer answer) }
 {
-    if is_accepted(answer) {
+    if answer.is_ok() {
         return 0;
     }
     file
@@ -151,7 +144,7 @@ pub fn reading_of(file: u8, answer: Result<(), FileError>) -> Reading
 fn accepted_count(answer: Result<(), FileError>, accelerators: u8) -> u8
     ensures { result ≡ accepted_count (file_answer answer) accelerators }
 {
-    if is_accepted(answer) {
+    if answer.is_ok() {
         return accelerators;
     }
     0

@@ -13,9 +13,8 @@ ghost use Rattle.answers.specs.Numbers.{cut_of, joined_of};
 ghost use Rattle.burst.specs.Joiner.{join_of};
 
 use answers::{
-    Count, Cut, Joined, Outcome, Reading, Row, Wait, channel_of, count_of, cut_of, is_accepted,
-    joined_of, no_wait, outcome_of, reading_of, refused_by, row_of, tree_refused, unbounded,
-    wait_of,
+    Count, Cut, Joined, Outcome, Reading, Row, Wait, channel_of, count_of, cut_of, joined_of,
+    no_wait, outcome_of, reading_of, refused_by, row_of, tree_refused, unbounded, wait_of,
 };
 use bounds::bound;
 use burst::Burst;
@@ -59,10 +58,8 @@ pub fn razhikum_version() -> u32
 pub fn razhikum_read_tree(tree: &[u8]) -> Reading
     ensures { result ≡ tree_reading (read_tree tree.now) }
 {
-    match read_tree(tree) {
-        Ok(_) => reading_of(1, Ok(())),
-        Err(error) => reading_of(1, Err(error)),
-    }
+    let answer = read_tree(tree).and(Ok(()));
+    reading_of(1, answer)
 }
 
 // Whether the tree file and, on its tree, the trace file are accepted, or which of them is refused, why and where.
