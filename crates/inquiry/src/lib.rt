@@ -102,6 +102,7 @@ fn reply_of(answer: WhyAnswer) -> Reply
 
 // Why transaction k of accelerator a waited on a channel: the tree and the trace are read, and the list of its slots is put into `out`,
 // as far as it has room; a refusal leaves `out` as it was.
+#[tactic(auto, unfolding(crate::specs::Inquiry::reply_from))]
 pub fn inquire(
     tree: &[u8],
     channel: Channel,
