@@ -5,6 +5,7 @@
 ghost use Rattle.std.specs.Prelude.{◌≡◌, min};
 ghost use Rattle.put.specs.Page.{Written};
 ghost use Rattle.put.specs.Put.{Put};
+ghost use Rattle.lines.specs.Answer.{file_error};
 ghost use Rattle.reader.specs.TreeFile.{read_tree};
 ghost use Rattle.usage.specs.Usage.{address_asked};
 ghost use Rattle.burst.specs.Burst.{split_by, starts_after, beats_after};
@@ -13,7 +14,7 @@ ghost use Rattle.splitting.specs.Splitting.{burst_asked, split_asked, burst_part
 ghost use Rattle.splitting.specs.Lines.{piece_text, count_text, pieces_text, list_text, reply_text};
 
 use burst::Burst;
-use lines::{FileAnswer, answer_line, answer_number};
+use lines::{FileError, answer_line, answer_number};
 use listing::refusal_text;
 use model::access::beat_limit;
 use model::{Refusal, Tree, number};
@@ -129,25 +130,23 @@ fn reply_in(t: Tree, b: Burst, starts: &mut [u32; 256], beats: &mut [u32; 256]) 
 }
 
 // The answer for a tree file that is refused.
-fn tree_denied(answer: FileAnswer) -> Reply
-    ensures { result ≡ tree_denied answer }
+fn tree_denied(error: FileError) -> Reply
+    ensures { result ≡ tree_denied (file_error error) }
 {
-    Reply::Refused(Part::Tree, answer_number(answer), answer_line(answer))
+    Reply::Refused(Part::Tree, answer_number(Err(error)), answer_line(Err(error)))
 }
 
 // Cuts a burst into pieces of the burst length of the tree that is read from `tree`: how many, and of each the start address and the
 // beats; the entries after them are 0. A refusal leaves both arrays as they were.
+#[tactic(auto, unfolding(crate::specs::Splitting::reply_from, crate::specs::Splitting::starts_from, crate::specs::Splitting::beats_from))]
 pub fn split_file(tree: &[u8], b: Burst, starts: &mut [u32; 256], beats: &mut [u32; 256]) -> Reply
     ensures answer { result ≡ reply_from (read_tree tree.now) b }
     ensures starts { starts.new ≡ starts_from (read_tree tree.now) b starts.old }
     ensures beats { beats.new ≡ beats_from (read_tree tree.now) b beats.old }
 {
-    let x = read_tree(tree);
-    let answer = x.answer;
-    match answer {
-        FileAnswer::Accepted => reply_in(x.tree, b, starts, beats),
-        FileAnswer::Refused(_, _) => tree_denied(answer),
-        FileAnswer::Broken => tree_denied(answer),
+    match read_tree(tree) {
+        Ok(t) => reply_in(t, b, starts, beats),
+        Err(error) => tree_denied(error),
     }
 }
 
