@@ -45,11 +45,11 @@ run_slots-requires c =
     let fresh = small in
     let x = fresh.args in
     let g = begun x.t x.channel _ fresh.fresh.ensures _ small.in-Ok.is in
-    let y = sym (read.read_requests.ensures ∙ reads_kept x.t _ g.0) ∙ ap file_answer accepted.in-Ok.is in
+    let y = sym (read.read_requests.ensures ∙ reads_kept x.t _ g.0) ∙ ap file_answer accepted.in-Ok-read_requests.is in
     (g.0, g.1, small.if-out-gt65536.false, accepts_start x.t x.trace.now y, asked_known x.t x.a x.k _ c.number_asked-number.ensures)
 
-pub returns-in-Ok : goal.returns-in-Ok
-returns-in-Ok c =
+pub returns-in-Ok-read_requests : goal.returns-in-Ok-read_requests
+returns-in-Ok-read_requests c =
     let ran = c in
     let accepted = ran in
     let read = accepted in
@@ -57,7 +57,7 @@ returns-in-Ok c =
     let fresh = small in
     let x = fresh.args in
     let g = begun x.t x.channel _ fresh.fresh.ensures _ small.in-Ok.is in
-    let y = sym (read.read_requests.ensures ∙ reads_kept x.t _ g.0) ∙ ap file_answer accepted.in-Ok.is in
+    let y = sym (read.read_requests.ensures ∙ reads_kept x.t _ g.0) ∙ ap file_answer accepted.in-Ok-read_requests.is in
     let e = ran_read x.t x.channel x.trace.now x.out.now g.0 small.if-out-gt65536.false _ y in
     let w = told_read_lem x.t x.channel x.trace.now x.a x.k _ g.0 small.if-out-gt65536.false _ y in
     let r = ran.run_slots.ensures in
