@@ -10,27 +10,28 @@ use lib.ListN.{length, take, get_or}
 use lib.Seq.{take-suc, take-length}
 use Rattle.text.specs.Write.{decimal_text, numbers, rows, fields_text, file_text}
 use Rattle.put.specs.Page.{ended, joined}
-use Rattle.put.specs.Put.{Put}
-use Rattle.put.proofs.Puts.{put_none, put_then}
+use Rattle.put.specs.declared.Text.{Text}
+use Rattle.put.specs.Texts.{Puts}
+use Rattle.put.proofs.Texts.{puts_none, puts_then}
 use Rattle.put.proofs.Lines.{joined_more}
 use Rattle.model.specs.declared.Tree.{Tree}
 use Rattle.model.specs.declared.Port.{Port}
 use Rattle.writer.specs.Lines.{bus_text, int_text, acc_text}
-use Rattle.writer.specs.Writer.{carried_by, port_order, written_text, Stored}
+use Rattle.writer.specs.Writer.{carried_by, port_order, written_text}
+use Rattle.writer.specs.Adds.{Adds}
 
-pub stored_none : (d : List ℕ) (at : ℕ) → Stored [] d at d at
-stored_none d at = put_none d at
+pub adds_none : (a : Text) → Adds a [] a
+adds_none a = puts_none a
 
 -- a text is as long as itself
-pub stored_whole : {m : ℕ} {d : List ℕ} {at : ℕ} {xs e : List ℕ} {next : ℕ} → Put m d at xs e next → Stored xs d at e next
-stored_whole p = record { stored = p.stored; ends = p.ends; short = omega arith }
+pub adds_whole : {m : ℕ} {a b : Text} {xs : List ℕ} → Puts m a xs b → Adds a xs b
+adds_whole p = let q = p.part in record { buffer = p.buffer; part = record { stored = q.stored; ends = q.ends; short = omega arith } }
 
-pub stored_as : {d : List ℕ} {at : ℕ} {xs ys e : List ℕ} {next : ℕ} → xs ≡ ys → Stored xs d at e next → Stored ys d at e next
-stored_as {d} {at} {xs} {ys} {e} {next} h p = subst (λ (l : List ℕ). Stored l d at e next) h p
+pub adds_as : {a b : Text} {xs ys : List ℕ} → xs ≡ ys → Adds a xs b → Adds a ys b
+adds_as {a} {b} h p = subst (λ (l : List ℕ). Adds a l b) h p
 
-pub stored_then : {d : List ℕ} {at : ℕ} {xs e : List ℕ} {next : ℕ} {ys f : List ℕ} {last : ℕ}
-    → Stored xs d at e next → Stored ys e next f last → Stored (xs ++ ys) d at f last
-stored_then p q = stored_whole (put_then p q)
+pub adds_then : {a b c : Text} {xs ys : List ℕ} → Adds a xs b → Adds b ys c → Adds a (xs ++ ys) c
+adds_then p q = adds_whole (puts_then p q)
 
 numbers_append : (xs ys : List ℕ) → numbers (xs ++ ys) ≡ numbers xs ++ numbers ys
 unfolding numbers
