@@ -3,6 +3,7 @@
 
 ghost use Rattle.std.specs.Prelude.{◌≡◌, [], ◌∷◌, ◌++◌, ◌+◌, ◌≤◌, length};
 ghost use Rattle.text.specs.Write.{decimal_text};
+ghost use Rattle.put.specs.Page.{Written};
 ghost use Rattle.put.specs.Texts.{Puts};
 
 // A text in a lent buffer: the first `len` bytes of it.
@@ -64,4 +65,13 @@ impl<'a> Text<'a> {
         self.number(n);
         self.byte(end);
     }
+}
+
+// A page whose text is these bytes, and how many they are.
+pub fn put_text(out: &mut [u8; 65536], s: &[u8]) -> usize
+    ensures { length s.now ≤ 65536 → Written s.now out.old out.new result }
+{
+    let mut text = Text::new(out);
+    text.bytes(s);
+    text.len()
 }
