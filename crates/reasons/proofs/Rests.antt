@@ -1,8 +1,9 @@
 -- A text that a loop writes piece by piece: what is still to be written completes it. By the laws of `Puts`, and by the clauses of the
 -- definitions at the byte where the loop stands.
-use Prim.Native.Nat.{ℕ, ◌+◌, ◌≤◌, ◌<◌}
+use Prim.Native.Nat.{ℕ, ◌+◌, ◌≤◌, ◌<◌, min}
 use mathlib.Core.List.{List, [], ◌∷◌, ◌++◌, map}
 use mathlib.Core.Path.{◌≡◌, sym, ap, ◌∙◌}
+use native.Mathlib.Decide.{dec_lt}
 use native.Mathlib.Numerals.{add-one}
 use native.Mathlib.Omega.{arith}
 use lib.Dec.{eqb}
@@ -42,3 +43,10 @@ module _ (s : List ℕ) (i : ℕ) where
 
   pub printed_end : length s ≤ i → map printable (drop i s) ≡ []
   printed_end h = ap (map printable) (drop_of_length-le s h)
+
+-- the first 20 bytes, or all where there are no more
+pub first_taken : (s : List ℕ) (n : ℕ) → n ≡ min (length s) 20 → (take n s ≡ take 20 s) × (length (take n s) ≤ 20)
+first_taken s n e = elim (dec_lt (length s) 20) [
+  | no h ↦ (let t : n ≡ 20 = omega arith in ap (λ (m : ℕ). take m s) t, simp length-take (omega arith))
+  | yes h ↦ (take_all n s (omega arith) ∙ sym (take_all 20 s (omega arith)), simp length-take (omega arith))
+]

@@ -90,6 +90,6 @@ module _ (i n : ℕ) (f : ℕ → Bool) where
   failing_here h e =
       let m : n - i ≡ suc (n - (i + 1)) = omega arith in ap (λ (k : ℕ). first_failing i k f) m ∙ passed (f i) _ _ e
 
-  pub failing_none : n ≤ i → first_failing i (n - i) f ≡ i
+  pub failing_none : i ≡ n → first_failing i (n - i) f ≡ n
   unfolding first_failing
-  failing_none h = let m : n - i ≡ 0 = omega arith in ap (λ (k : ℕ). first_failing i k f) m
+  failing_none h = let m : n - i ≡ 0 = omega arith in ap (λ (k : ℕ). first_failing i k f) m ∙ h

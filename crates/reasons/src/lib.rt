@@ -13,7 +13,7 @@ ghost use Rattle.put.specs.Texts.{Puts};
 ghost use Rattle.reasons.specs.Reasons.{number_row, found_text, slot_before, cause_text, place_text, reason_text};
 
 use crate::parts::{part, part_start};
-use crate::shapes::{put_fault, shape_row};
+use crate::shapes::{put_fault, shape_fault};
 use crate::values::{number_row, put_line};
 use crate::words::put_sentence;
 use lines::read_line;
@@ -49,7 +49,7 @@ fn put_found(
     if line == 0 {
         put_sentence(text, no_line_row(number), 0, 0);
     } else if number == 1 {
-        put_fault(text, shape_row(trace, line, ended, l), kind, count, l);
+        put_fault(text, shape_fault(trace, line, ended, l), kind, count, l);
     } else if (number == 3) & !ended & (l.len() == 0) {
         put_sentence(text, 32, 0, 0);
     } else {

@@ -3,6 +3,7 @@ ghost use Rattle.std.specs.Prelude.{◌++◌, ◌≡◌, get_or};
 ghost use Rattle.put.specs.Texts.{Puts};
 ghost use Rattle.lines.specs.LineText.{may_stand};
 ghost use Rattle.reasons.specs.Words.{quoted, sentence};
+ghost use Rattle.reasons.specs.Faults.{fault_row};
 ghost use Rattle.reasons.specs.Reasons.{has as hasByte, fits as fitsFile, record_fault, shape_row, unread, not_number, unread_text, malformed_text, count_text, fault_text};
 
 use crate::parts::part;
@@ -10,6 +11,22 @@ use crate::words::{put_field_name, put_of_record, put_quoted, put_sentence};
 use lines::{Kind, Line, form_of, is_record, read_line};
 use put::Text;
 use text::{Field, part_end, read_field};
+
+// What is wrong with the shape of a line: a mark or a byte that stands in no line, no LF, no byte, no record, a record of the other
+// file, a wrong count of fields, or a field that is malformed.
+#[derive(Clone, Copy, PartialEq, Eq)]
+pub enum Fault {
+    ByteOrderMark,
+    CarriageReturn,
+    Space,
+    Unended,
+    Empty,
+    NoRecord,
+    OfTrace,
+    OfTree,
+    FieldCount,
+    Malformed,
+}
 
 // Whether the byte stands in the line.
 fn has(b: u8, l: &[u8]) -> bool
@@ -35,45 +52,42 @@ pub fn fits(trace: bool, kind: Kind) -> bool
     }
 }
 
-// Which sentence tells a wrong shape of a line, by its record and its fields.
-fn record_fault(trace: bool, r: Line) -> usize
-    ensures { result ≡ record_fault trace r }
+// What is wrong with the shape of a line, by its record and its fields.
+fn record_fault(trace: bool, r: Line) -> Fault
+    ensures { fault_row result ≡ record_fault trace r }
 {
     let kind = r.kind;
     let f = form_of(kind);
     if !is_record(kind) {
-        return 18;
+        return Fault::NoRecord;
     }
     if !fits(trace, kind) {
-        if trace {
-            return 20;
-        }
-        return 19;
+        return if trace { Fault::OfTree } else { Fault::OfTrace };
     }
     if (f.least <= r.count) & (r.count <= f.count) {
-        return 22;
+        return Fault::Malformed;
     }
-    21
+    Fault::FieldCount
 }
 
-// Which sentence tells a wrong shape of the bytes l of a line; `ended` says that LF ends it.
-pub fn shape_row(trace: bool, line: u32, ended: bool, l: &[u8]) -> usize
-    ensures { result ≡ shape_row trace line ended l.now }
+// What is wrong with the shape of a line of the bytes l; `ended` says that LF ends it.
+pub fn shape_fault(trace: bool, line: u32, ended: bool, l: &[u8]) -> Fault
+    ensures { fault_row result ≡ shape_row trace line ended l.now }
 {
     if (line == 1) & (first_byte(l) == 239) {
-        return 13;
+        return Fault::ByteOrderMark;
     }
     if has(13, l) {
-        return 14;
+        return Fault::CarriageReturn;
     }
     if has(32, l) {
-        return 15;
+        return Fault::Space;
     }
     if !ended {
-        return 16;
+        return Fault::Unended;
     }
     if l.len() == 0 {
-        return 17;
+        return Fault::Empty;
     }
     record_fault(trace, read_line(l))
 }
@@ -151,14 +165,20 @@ fn put_count(text: &mut Text, kind: Kind, count: usize)
     }
 }
 
-// Sentence j of a wrong shape, of the bytes l, which have this record and this count of fields.
-pub fn put_fault(text: &mut Text, j: usize, kind: Kind, count: usize, l: &[u8])
-    ensures { Puts 48322 text.old (fault_text j kind count l.now) text.new }
+// What is wrong with the shape of the bytes l, which have this record and this count of fields.
+pub fn put_fault(text: &mut Text, fault: Fault, kind: Kind, count: usize, l: &[u8])
+    ensures { Puts 48322 text.old (fault_text (fault_row fault) kind count l.now) text.new }
 {
-    match j {
-        18 => put_no_record(text, part(l, 9, 0)),
-        21 => put_count(text, kind, count),
-        22 => put_malformed(text, kind, l),
-        _ => put_sentence(text, j, 0, 0),
+    match fault {
+        Fault::NoRecord => put_no_record(text, part(l, 9, 0)),
+        Fault::FieldCount => put_count(text, kind, count),
+        Fault::Malformed => put_malformed(text, kind, l),
+        Fault::ByteOrderMark => put_sentence(text, 13, 0, 0),
+        Fault::CarriageReturn => put_sentence(text, 14, 0, 0),
+        Fault::Space => put_sentence(text, 15, 0, 0),
+        Fault::Unended => put_sentence(text, 16, 0, 0),
+        Fault::Empty => put_sentence(text, 17, 0, 0),
+        Fault::OfTrace => put_sentence(text, 19, 0, 0),
+        Fault::OfTree => put_sentence(text, 20, 0, 0),
     }
 }

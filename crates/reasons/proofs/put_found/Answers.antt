@@ -19,7 +19,7 @@ returns-then-line-eq0 c =
 pub returns-then-number-eq1 : goal.returns-then-number-eq1
 unfolding found_text
 returns-then-number-eq1 c =
-    puts_as (ap₂ (λ (j : ℕ) (r : Line). fault_text j r.kind r.count c.args.l.now) c.shape_row.ensures c.read_line-r.ensures
+    puts_as (ap₂ (λ (j : ℕ) (r : Line). fault_text j r.kind r.count c.args.l.now) c.shape_fault.ensures c.read_line-r.ensures
     ∙ sym (passed _ _ _ (ne_eqb _ _ c.if-line-eq0.false) ∙ picked _ _ _ (eq-eqb _ _ c.if-number-eq1.true))) c.put_fault.ensures
 
 pub returns-then-number-ended : goal.returns-then-number-ended
@@ -28,8 +28,8 @@ returns-then-number-ended c =
     puts_most (omega arith) (puts_as (sym (passed _ _ _ (ne_eqb _ _ c.if-line-eq0.false) ∙ passed _ _ _ (ne_eqb _ _ c.if-number-eq1.false)
     ∙ picked _ _ _ c.if-number-ended.true)) c.put_sentence-then-number-ended.ensures)
 
-pub returns : goal.returns
+pub returns-else-number-ended : goal.returns-else-number-ended
 unfolding found_text
-returns c =
+returns-else-number-ended c =
     puts_most (omega arith) (puts_as (ap (λ (r : Line). line_says c.args.number c.args.before r.kind r.values) c.read_line-r.ensures
     ∙ sym (passed _ _ _ (ne_eqb _ _ c.if-line-eq0.false) ∙ passed _ _ _ (ne_eqb _ _ c.if-number-eq1.false) ∙ passed _ _ _ c.if-number-ended.false)) c.put_line.ensures)

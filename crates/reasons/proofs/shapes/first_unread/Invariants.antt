@@ -1,6 +1,6 @@
 -- `first_unread` meets its contract: the fields before this one may stand.
 use mathlib.Core.Path.{◌≡◌}
-use Prim.Native.Nat.{◌-◌, ◌≤◌}
+use Prim.Native.Nat.{◌-◌}
 use Rattle.reasons.specs.Reasons.{first_failing, readable}
 use Rattle.reasons.proofs.shapes.first_unread.Given as goal
 

@@ -53,9 +53,9 @@ returns-then-number-trace-2 c =
     ∙ passed _ _ _ (ap (λ (x : Bool). eqb c.args.number 6 && x) (sym c.fits-trace.ensures) ∙ c.if-number-trace.false)
     ∙ picked _ _ _ (ap (λ (x : Bool). eqb c.args.number 7 && x) (sym c.fits-trace.ensures) ∙ c.if-number-trace-2.true))) c.put_of_field-then-number-trace-2.ensures
 
-pub returns : goal.returns
+pub returns-else-number-trace-2 : goal.returns-else-number-trace-2
 unfolding line_says
-returns c =
+returns-else-number-trace-2 c =
     puts_most (omega arith) (puts_as (ap (λ (j : ℕ). sentence j 0 0) c.number_row.ensures ∙ sym (passed _ _ _ (ne_eqb _ _ c.if-number-eq2.false)
     ∙ passed _ _ _ (ap (λ (x : Bool). eqb c.args.number 3 && x) (sym c.fits.ensures) ∙ c.if-number-fits.false)
     ∙ passed _ _ _ (ap (λ (x : Bool). eqb c.args.number 4 && x) (sym c.on_port.ensures) ∙ c.if-number-on_port.false)

@@ -8,6 +8,6 @@ pub returns-then-i-f : goal.returns-then-i-f
 returns-then-i-f c =
     puts_most (omega arith) (puts_as (value_field c.args.kind _ _ _ c.first_outside-i.ensures c.form_of-f.ensures c.if-i-f.true) c.put_limit.ensures)
 
-pub returns : goal.returns
-returns c =
+pub returns-else-i-f : goal.returns-else-i-f
+returns-else-i-f c =
     puts_as (value_total c.args.kind _ _ _ c.first_outside-i.ensures c.form_of-f.ensures c.if-i-f.false) c.put_total.ensures
