@@ -16,10 +16,6 @@ use Rattle.put.specs.Texts.{Puts}
 use Rattle.put.proofs.Texts.{puts_as, puts_most, puts_then}
 use Rattle.put.proofs.Lines.{joined_add, joined_more}
 
--- the length of the part of a buffer that a text is of, as the code counts it
-pub part_counted : (bs : List ℕ) (n k : ℕ) → k ≤ length bs → take k bs ≡ take n bs → k ≡ length (take n bs)
-part_counted bs n k h e = sym (length-take-le k bs h) ∙ ap length e
-
 whole_page : (n i : ℕ) → suc i ≤ n / 1024 → 1024 * i + min 1024 (n - 1024 * i) ≡ 1024 * suc i
 whole_page n i h = omega arith
 

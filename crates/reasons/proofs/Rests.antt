@@ -19,9 +19,6 @@ use Rattle.reasons.specs.Words.{marked, filled, printable}
 abbrev pub Rests : ℕ → Text → List ℕ → Text → List ℕ → Type 0
 Rests k a xs b rest = (n : ℕ) (c : Text) → Puts n b rest c → Puts (k + n) a xs c
 
-pub rests_all : (k : ℕ) (a : Text) (xs : List ℕ) → Rests k a xs a xs
-rests_all k a xs n c p = puts_most (omega arith) p
-
 module _ (k : ℕ) {a b : Text} {xs rest : List ℕ} (r : Rests k a xs b rest) where
   pub rests_turn : {j : ℕ} {now then : List ℕ} {b' : Text} (m : ℕ) → k + j ≤ m → rest ≡ now ++ then → Puts j b now b' → Rests m a xs b' then
   rests_turn m h q p n c z = puts_most (omega arith) (r _ c (puts_as (sym q) (puts_then p z)))

@@ -71,9 +71,6 @@ decimal_next s i v h =
 pub below_ten : (i v d : ℕ) → v < 10 ^ i → d ≤ 9 → v * 10 + d < 10 ^ (i + 1)
 below_ten i v d h k = rw (add-one, pow-suc) (omega arith)
 
-pub ten_fits : (i v : ℕ) → i ≤ 10 → v < 10 ^ i → v < 10000000001
-ten_fits i v h k = omega (arith, pow-le-pow_right {n = 10} (lit< tt) h)
-
 -- the tests of a field, one after the other
 module _ (s : List ℕ) where
   pub field_dash : same s (45 ∷ []) ≡ true → field_of s ≡ Dash

@@ -62,9 +62,6 @@ pub no_fields : (xs : List ℕ) → [] ≡ fields_text (numbers (take 0 xs))
 unfolding fields_text numbers
 no_fields xs = refl
 
-pub all_fields : (xs : List ℕ) (i : ℕ) → i ≡ length xs → fields_text (numbers (take i xs)) ≡ fields_text (numbers xs)
-all_fields xs i e = ap (λ (k : ℕ). fields_text (numbers (take k xs))) e ∙ ap (λ (l : List ℕ). fields_text (numbers l)) (take-length xs)
-
 pub file_append : (ls ms : List (List ℕ)) → file_text (ls ++ ms) ≡ file_text ls ++ file_text ms
 unfolding file_text
 file_append [] ms = refl
@@ -96,9 +93,6 @@ row_more n f =
     ∙ sym (file_append (rows n 0 f) (f n ∷ []))
     ∙ ap file_text (ap (λ (i : ℕ). rows n 0 f ++ (f i ∷ [])) (sym (zero-add n)) ∙ sym (rows_last n 0 f) ∙ rw add-one)
 
-pub all_rows : (n m : ℕ) (f : ℕ → List ℕ) → n ≤ m → m ≤ n → file_text (rows n 0 f) ≡ file_text (rows m 0 f)
-all_rows n m f h k = ap (λ (i : ℕ). file_text (rows i 0 f)) (le_antisymm h k)
-
 pub map_append : (f : ℕ → List ℕ) (xs ys : List ℕ) → map f (xs ++ ys) ≡ map f xs ++ map f ys
 map_append f [] ys = refl
 map_append f (x ∷ xs) ys = ap (λ (l : List (List ℕ)). f x ∷ l) (map_append f xs ys)
@@ -113,9 +107,6 @@ module _ (f : ℕ → List ℕ) (g : ℕ → List ℕ) where
   part_more n =
       sym (file_append (map f (joined n g)) (map f (g n)))
       ∙ ap file_text (sym (map_append f (joined n g) (g n)) ∙ ap (map f) (sym (joined_more n g)))
-
-  pub all_parts : (n m : ℕ) → n ≤ m → m ≤ n → file_text (map f (joined n g)) ≡ file_text (map f (joined m g))
-  all_parts n m h k = ap (λ (i : ℕ). file_text (map f (joined i g))) (le_antisymm h k)
 
 -- the acc lines of a port
 pub port_lines : (t : Tree) (x y : Port) → x ≡ y → file_text (map (acc_text t) (carried_by x)) ≡ file_text (map (acc_text t) (carried_by y))
