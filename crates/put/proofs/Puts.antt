@@ -16,11 +16,6 @@ pub sets_append : (xs ys d : List ℕ) (at : ℕ) → sets (sets d at xs) (at + 
 sets_append [] ys d at = rw add-zero
 sets_append (x ∷ xs) ys d at = rw (add-suc, ← suc-add) (sets_append xs ys _ (suc at))
 
--- past the end of the buffer nothing is stored
-sets_past : (ys l : List ℕ) (i : ℕ) → length l ≤ i → sets l i ys ≡ l
-sets_past [] l i h = refl
-sets_past (y ∷ ys) l i h = ap (λ (k : List ℕ). sets k (suc i) ys) (set_out l i y h) ∙ sets_past ys l (suc i) (omega arith)
-
 -- so what follows a text that the buffer cuts short may as well follow the whole of it
 sets_stop : (ys l : List ℕ) (at k n : ℕ) → (at + k) - length l ≡ n → sets l (at + min k (length l - at)) ys ≡ sets l (at + k) ys
 sets_stop ys l at k zero e = ap (λ (i : ℕ). sets l i ys) (omega arith)
