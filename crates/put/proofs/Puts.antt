@@ -3,10 +3,9 @@ use Prim.Native.Nat.{ℕ, zero, suc, ◌+◌, ◌-◌, ◌/◌, ◌%◌, ◌^◌
 use mathlib.Core.List.{List, [], ◌∷◌, ◌++◌}
 use mathlib.Core.Path.{◌≡◌, refl, ap, ap₂, sym, ◌∙◌, subst}
 use native.Mathlib.Nat.{add-suc, suc-add, add-zero, zero-add}
-use native.Mathlib.Numerals.{add-one}
 use native.Mathlib.Omega.{arith}
-use lib.ListN.{length, take, get_or, length-append}
-use lib.Seq.{sets, sets-eq, length-sets, set_out, take-suc, take-length}
+use lib.ListN.{length, length-append}
+use lib.Seq.{sets, sets-eq, length-sets, set_out}
 use Rattle.text.specs.Write.{decimal_text}
 use Rattle.put.specs.Page.{Written}
 use Rattle.put.specs.Put.{Put}
@@ -15,6 +14,11 @@ use Rattle.text.proofs.Decimal.{decimal_one, decimal_more, decimal_short}
 pub sets_append : (xs ys d : List ℕ) (at : ℕ) → sets (sets d at xs) (at + length xs) ys ≡ sets d at (xs ++ ys)
 sets_append [] ys d at = rw add-zero
 sets_append (x ∷ xs) ys d at = rw (add-suc, ← suc-add) (sets_append xs ys _ (suc at))
+
+-- past the end of the buffer nothing is stored
+sets_past : (ys l : List ℕ) (i : ℕ) → length l ≤ i → sets l i ys ≡ l
+sets_past [] l i h = refl
+sets_past (y ∷ ys) l i h = ap (λ (k : List ℕ). sets k (suc i) ys) (set_out l i y h) ∙ sets_past ys l (suc i) (omega arith)
 
 -- so what follows a text that the buffer cuts short may as well follow the whole of it
 sets_stop : (ys l : List ℕ) (at k n : ℕ) → (at + k) - length l ≡ n → sets l (at + min k (length l - at)) ys ≡ sets l (at + k) ys
