@@ -12,7 +12,7 @@ use lines::{FileError, answer_line, answer_number};
 use listing::report_text;
 use model::Tree;
 use reader::read_tree;
-use writer::{WriteAnswer, write_tree};
+use writer::{WriteError, write_tree};
 
 // How many bytes were put, and the refusal's number and line; number 0 says that the file is accepted.
 #[derive(Clone, Copy)]
@@ -55,24 +55,23 @@ fn written(t: Tree, out: &mut [u8]) -> Printed
     ensures answer { result ≡ wrote_as (write_of t (length out.old)) }
     ensures bytes { out.new ≡ write_buffer t out.old }
 {
-    let answer = write_tree(t, out);
-    match answer {
-        WriteAnswer::Broken => Printed {
+    match write_tree(t, out) {
+        Err(WriteError::Broken) => Printed {
             bytes: 0,
             number: 11,
             line: 0,
         },
-        WriteAnswer::TooLong => Printed {
+        Err(WriteError::TooLong) => Printed {
             bytes: 0,
             number: 2,
             line: 0,
         },
-        WriteAnswer::TooShort => Printed {
+        Err(WriteError::TooShort) => Printed {
             bytes: 0,
             number: 13,
             line: 0,
         },
-        WriteAnswer::Wrote(n) => Printed {
+        Ok(n) => Printed {
             bytes: n,
             number: 0,
             line: 0,
