@@ -1,12 +1,12 @@
 -- `take_due` meets its contract: what is left of the walk over the lines due, from the held counts and the set as they are, is what the
 -- whole walk comes to.
-use mathlib.Core.Path.{ap, ap₂, sym, ◌∙◌}
-use Prim.Native.Nat.{◌^◌}
+use mathlib.Core.Path.{◌≡◌, ap, ap₂, sym, ◌∙◌}
+use Prim.Native.Nat.{◌+◌, ◌^◌, min}
 use native.Mathlib.Nat.{one-mul}
 use native.Mathlib.Omega.{arith}
 use lib.Bits.{bit_or}
 use lib.Dec.{lit<}
-use lib.ListN.{set}
+use lib.ListN.{get_or, set}
 use lib.Pow.{shl_exact}
 use Rattle.trace.proofs.Requests.{walk_end}
 use Rattle.runner.proofs.Due.{found, left, left_none, left_later, left_step, on_none, on_some}
@@ -64,7 +64,7 @@ loop-place-preserved c =
     let e = sym k.request_at.ensures ∙ k.in-Due.is in
     let r = k.in-Due.request in
     let p = k.in-Due.next in
-    let held = c.more_held.ensures in
+    let held : c.saturating_add.result ≡ min 4294967295 (get_or l.held r.accelerator 0 + r.count) = omega (arith, c.saturating_add.ensures) in
     let due = c.if-slot-request.false in
     let one = shl_exact {a = 1} 1 r.accelerator 32 (lit< tt) (omega (arith, (found _ _ _ _ e).known)) ∙ one-mul (2 ^ r.accelerator) in
     ap₂ (left x.slot x.trace.now p) (ap (set l.held r.accelerator) held) (ap (bit_or l.accelerators) one)
