@@ -153,8 +153,5 @@ drop_zeros m zero = rw sub-zero
 drop_zeros zero (suc k) = rw zero-sub
 drop_zeros (suc m) (suc k) = drop_zeros m k ∙ ap (λ (n : ℕ). replicate n 0) (sym (suc-sub-suc m k))
 
-pub last_ports : (t : Tree) (c : Channel) (l : List ℕ) (j : ℕ) → l ≡ replicate j 7 ++ drop j (replicate 15 0) → j ≤ t.ints → t.ints ≤ j
-    → l ≡ (fresh_state t c).last
-last_ports t c l j e h k =
-    e ∙ ap (λ (x : List ℕ). replicate j 7 ++ x) (drop_zeros 15 j)
-    ∙ ap (λ (n : ℕ). replicate n 7 ++ replicate (15 - n) 0) (le_antisymm h k)
+pub last_ports : (t : Tree) (c : Channel) (l : List ℕ) → l ≡ replicate t.ints 7 ++ drop t.ints (replicate 15 0) → l ≡ (fresh_state t c).last
+last_ports t c l e = e ∙ ap (λ (x : List ℕ). replicate t.ints 7 ++ x) (drop_zeros 15 t.ints)

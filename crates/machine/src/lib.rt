@@ -12,7 +12,7 @@ ghost use Rattle.machine.specs.Answers.{offer_means, fresh_outcome, offer_outcom
 
 use model::access::{accelerator_at, admitted_of, job_of, outstanding_of, waiting_of};
 use model::{Channel, Port, Refusal, State, Tree};
-use rules::{both_keep, less_one, tree_keeps};
+use rules::{both_keep, tree_keeps};
 use turns::choose;
 
 // A call's answer, or why the call is refused, with the next state.
@@ -41,13 +41,8 @@ fn fresh_state(t: Tree, channel: Channel) -> State
     requires { t.ints ≤ 15 }
     ensures { result ≡ fresh_state t channel }
 {
-    let n = t.ints as usize;
     let mut last = [0u8; 15];
-    let mut j: usize = 0;
-    while j < n {
-        last[j] = 7;
-        j += 1;
-    }
+    last[..t.ints as usize].fill(7);
     let mut state = zero_state(channel);
     state.last = last;
     state
@@ -139,10 +134,8 @@ fn none_waits(s: State) -> bool
     ensures { result ≡ none_waits s }
 {
     let mut ok = true;
-    let mut a: u8 = 0;
-    while a < 32 {
-        ok = ok & (waiting_of(s, a) == 0);
-        a += 1;
+    for a in 0..32 {
+        ok &= waiting_of(s, a) == 0;
     }
     ok
 }
@@ -161,10 +154,8 @@ fn all_older(delay: u8, returning: [u32; 32]) -> [u32; 32]
     ensures { result ≡ map (older delay) returning }
 {
     let mut r = returning;
-    let mut a: usize = 0;
-    while a < 32 {
-        r[a] = one_older(delay, r[a]);
-        a += 1;
+    for x in r.iter_mut() {
+        *x = one_older(delay, *x);
     }
     r
 }
@@ -199,7 +190,7 @@ fn take_one(s: State, a: u8) -> State
     let i = a as usize;
     let mut next = s;
     if i < 32 {
-        next.waiting[i] = less_one(waiting_of(s, a) as u32) as u8;
+        next.waiting[i] = s.waiting[i].saturating_sub(1);
         next.returning[i] = s.returning[i] + 1;
     }
     next

@@ -1,9 +1,10 @@
 // What the programs do with files and texts: a file is read, a text is put into a page and written, page by page where it has several.
-// And what the programs of one tree file do, `report` and `rewrite`: they read the file, standard input without a name or with "-", and
+// The text is a function that puts it into a page; what is written is outside of every contract (std), so the clauses say that this
+// function put it, into an empty page. And what the programs of one tree file do, `report` and `rewrite`: they read the file, standard input without a name or with "-", and
 // write a text of its tree to standard output. A refusal is one line there, and one line in words on standard error.
 #![tactic(auto)]
 
-ghost use Rattle.std.specs.Prelude.{◌≡◌, ℕ, List, take, IfSome};
+ghost use Rattle.std.specs.Prelude.{◌≡◌, ℕ, List, take, replicate, IfSome};
 ghost use Rattle.std.specs.Fn.{FnOnceReturnsAtMut};
 
 use input::{file_bytes, page_text};
@@ -26,7 +27,7 @@ pub struct NamedFile<'a> {
     pub bytes: &'a [u8],
 }
 
-// The text that is put into the page.
+// The bytes of the text that is put into the page.
 pub fn put_text<'a, F: FnOnce(&mut [u8; 65536]) -> usize>(
     page: &'a mut [u8; 65536],
     text: F,
@@ -38,19 +39,21 @@ pub fn put_text<'a, F: FnOnce(&mut [u8; 65536]) -> usize>(
     page_text(page, n)
 }
 
-// Writes the text on standard output, or says why it cannot be written; answers whether all of it was.
+// Writes the text on standard output as it is put into an empty page, or says why it cannot be written; answers whether all of it was.
 pub fn show_text<F: FnOnce(&mut [u8; 65536]) -> usize>(
     s: &Streams<impl Print, impl Print>,
     text: F,
 ) -> bool
     requires { F.IsAlwaysCallable text }
+    ensures { (n : ℕ) × (put : List ℕ) × FnOnceReturnsAtMut F.FnOnce text (replicate 65536 0) n put }
 {
     input::write_out(s.out, s.errors, put_text(&mut [0u8; 65536], text))
 }
 
-// Writes the text on standard error.
+// Writes the text on standard error as it is put into an empty page.
 pub fn say_text<F: FnOnce(&mut [u8; 65536]) -> usize>(s: &Streams<impl Print, impl Print>, text: F)
     requires { F.IsAlwaysCallable text }
+    ensures { (n : ℕ) × (put : List ℕ) × FnOnceReturnsAtMut F.FnOnce text (replicate 65536 0) n put }
 {
     input::say(s.errors, put_text(&mut [0u8; 65536], text));
 }
@@ -81,10 +84,8 @@ pub fn load<'a>(
     ensures { IfSome result (λ f. f.name.now ≡ name.now) }
 {
     let n = input::load(name, s.out, stdin, s.errors, buf)?;
-    Some(NamedFile {
-        name,
-        bytes: file_bytes(buf, n),
-    })
+    let bytes = file_bytes(buf, n);
+    Some(NamedFile { name, bytes })
 }
 
 // The refusal: the line of document 01, and for a person the file's name and what is wrong.

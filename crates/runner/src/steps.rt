@@ -8,7 +8,7 @@ ghost use Rattle.runner.specs.Arrays.{arrays_from, slot_on, serve_on, left_on, s
 use crate::{DueLines, IDLE, NextLine, SlotEnd};
 use admit::Arrays;
 use counts::{Ports, Table};
-use trace::{NextRequest, request_at};
+use trace::request_at;
 
 // Adds the lines due in this slot to the held counts.
 fn take_due(trace: &[u8], slot: u32, line: NextLine, held: &mut [u32; 32]) -> DueLines
@@ -23,7 +23,7 @@ fn take_due(trace: &[u8], slot: u32, line: NextLine, held: &mut [u32; 32]) -> Du
     }
     let mut place = line.at;
     while place < trace.len() {
-        let NextRequest::Due(request, next) = request_at(trace, place) else {
+        let Some((request, next)) = request_at(trace, place) else {
             return DueLines {
                 next: NextLine {
                     at: place,
