@@ -61,6 +61,7 @@ impl Arrays {
     {
         let mut a = first as u32;
         let mut rest = others;
+        // The members by the lowest bit of those left: a `for` over the thirty-two numbers would test each in each slot.
         while (a < 32) | (rest != 0) {
             self.offer_held(a as u8, table);
             a = u32::trailing_zeros(rest);

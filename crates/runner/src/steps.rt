@@ -22,16 +22,7 @@ fn take_due(trace: &[u8], slot: u32, line: NextLine, held: &mut [u32; 32]) -> Du
         };
     }
     let mut place = line.at;
-    while place < trace.len() {
-        let Some((request, next)) = request_at(trace, place) else {
-            return DueLines {
-                next: NextLine {
-                    at: place,
-                    due: 4294967295,
-                },
-                accelerators: accelerators,
-            };
-        };
+    while let Some((request, next)) = request_at(trace, place) {
         if slot < request.slot {
             return DueLines {
                 next: NextLine {
