@@ -7,8 +7,8 @@
 // error, each as a `Print`, which takes bytes that are no text, as a file's name may be.
 #![tactic(auto)]
 
-ghost use Rattle.std.specs.Prelude.{◌≡◌, ◌≤◌, length, take};
-ghost use Rattle.input.specs.Input.{size_of, answer_of};
+ghost use Rattle.std.specs.Prelude.{◌≡◌, ◌≤◌, length, take, IfOk, IfSome};
+ghost use Rattle.input.specs.Input.{answer_of};
 
 use std::env::FillError;
 use std::fs::File;
@@ -16,13 +16,6 @@ use std::io::{Error, ErrorKind, Read, Write};
 use std::rt::{Env, Files};
 use text::part_end;
 use usage::is_dash;
-
-// A file read to its end, or until the buffer is full; or a read failed. Likewise of one read and one write.
-#[derive(Clone, Copy)]
-pub enum Input {
-    Bytes(usize),
-    Failed,
-}
 
 // Whether word i was not given. One that was given is longer than no byte, or is empty.
 fn is_missing(words: &impl Env, i: usize) -> bool {
@@ -53,10 +46,7 @@ pub fn word(words: &impl Env, i: usize, buf: &mut [u8; 131072]) -> usize
 fn first_bytes(s: &[u8], n: usize) -> &[u8]
     ensures { result.now ≡ take n s.now }
 {
-    if n < s.len() {
-        return &s[..n];
-    }
-    s
+    &s[..n.min(s.len())]
 }
 
 // A text that was put into a page. Page and buffer are lent as arrays: a caller's part of them then needs no proof.
@@ -73,78 +63,72 @@ pub fn file_bytes(file: &[u8; 65537], n: usize) -> &[u8]
     first_bytes(file, n)
 }
 
-// What a read or a write of the buffer answered: below 0 it failed, else it moved so many bytes; a read that moves none is at
-// the end of the file.
-fn answered(got: isize, buf: &[u8]) -> Input
+// What a read or a write of the buffer answered: it failed, or it moved so many bytes, at most all; a read that moves none is at the
+// end of the file.
+fn answered(got: Result<usize, Error>, buf: &[u8]) -> Result<usize, Error>
     ensures { result ≡ answer_of got (length buf.now) }
 {
-    if got < 0 {
-        return Input::Failed;
-    }
-    Input::Bytes((got as usize).min(buf.len()))
+    Ok(got?.min(buf.len()))
 }
 
-// The answer of a read or a write as the system gives it, a count, or -1 where it failed; then the error is put into `cause`.
-fn number_of(answer: Result<usize, Error>, cause: &mut Error) -> isize {
-    match answer {
-        Ok(n) => isize::try_from(n).unwrap_or(isize::MAX),
-        Err(e) => {
-            *cause = e;
-            -1
-        }
-    }
+// Whether a signal came before a byte did.
+fn is_interrupted(got: &Result<usize, Error>) -> bool {
+    matches!(got, Err(e) if e.kind() == ErrorKind::Interrupted)
 }
 
-// An error that no call gave: a read or a write that fails puts its own in the place of it.
-fn no_cause() -> Error {
-    Error::from(ErrorKind::Other)
-}
-
-// One read; where it fails its error is put into `cause`. Where a signal came before a byte did it reads again, a hundred times
-// at most, since every function here ends.
-fn read_some(from: &mut impl Read, buf: &mut [u8], cause: &mut Error) -> Input
-    ensures { size_of result ≤ length buf.new }
+// A read or a write, tried again where a signal came before a byte did, a hundred times at most, since every function here ends.
+fn tried<F: FnMut() -> Result<usize, Error>>(mut call: F) -> Result<usize, Error>
+    requires { F.IsAlwaysCallable call }
 {
-    let mut tries: u32 = 0;
-    while tries < 100 {
-        let got = number_of(from.read(buf), cause);
-        if (0 <= got) | (cause.kind() != ErrorKind::Interrupted) {
-            return answered(got, buf);
+    let mut got = call();
+    for _ in 1..100 {
+        if !is_interrupted(&got) {
+            return got;
         }
-        tries += 1;
+        got = call();
     }
-    Input::Failed
+    got
 }
 
-// Reads into the buffer until the end of the file or of the buffer: after a short read it reads again. Where a read fails its
-// error is put into `cause`.
-pub fn read_all(from: &mut impl Read, buf: &mut [u8], cause: &mut Error) -> Input
-    ensures { size_of result ≤ length buf.new }
+// One read.
+fn read_some(from: &mut impl Read, buf: &mut [u8]) -> Result<usize, Error>
+    ensures { IfOk result (λ n. n ≤ length buf.new) }
+{
+    let got = tried(|| from.read(buf));
+    answered(got, buf)
+}
+
+// Reads into the buffer until the end of the file or of the buffer: after a short read it reads again.
+pub fn read_all(from: &mut impl Read, buf: &mut [u8]) -> Result<usize, Error>
+    ensures { IfOk result (λ n. n ≤ length buf.new) }
 {
     let mut done = 0;
     while done < buf.len() {
-        let got = read_some(from, &mut buf[done..], cause);
-        let Input::Bytes(more) = got else {
-            return Input::Failed;
-        };
+        let more = read_some(from, &mut buf[done..])?;
         if more == 0 {
-            return Input::Bytes(done);
+            return Ok(done);
         }
         done += more;
     }
-    Input::Bytes(done)
+    Ok(done)
 }
 
 // Reads what was opened to its end, or says why it cannot be read.
-fn read_opened(name: &[u8], from: &mut impl Read, errors: &impl Print, buf: &mut [u8]) -> Input
-    ensures { size_of result ≤ length buf.new }
+fn read_opened(
+    name: &[u8],
+    from: &mut impl Read,
+    errors: &impl Print,
+    buf: &mut [u8],
+) -> Option<usize>
+    ensures { IfSome result (λ n. n ≤ length buf.new) }
 {
-    let mut cause = no_cause();
-    let got = read_all(from, buf, &mut cause);
-    if let Input::Failed = got {
-        cannot_read(name, errors, &cause);
+    match read_all(from, buf) {
+        Ok(n) => Some(n),
+        Err(e) => {
+            cannot_read(name, errors, &e);
+            None
+        }
     }
-    got
 }
 
 // Reads the file of that name, which is closed where it is let go, or says why it cannot be read.
@@ -154,14 +138,14 @@ fn read_named(
     files: &impl Files,
     errors: &impl Print,
     buf: &mut [u8],
-) -> Input
-    ensures { size_of result ≤ length buf.new }
+) -> Option<usize>
+    ensures { IfSome result (λ n. n ≤ length buf.new) }
 {
     match File::open(files, path) {
         Ok(mut file) => read_opened(name, &mut file, errors, buf),
         Err(e) => {
             cannot_read(name, errors, &e);
-            Input::Failed
+            None
         }
     }
 }
@@ -175,7 +159,7 @@ fn cannot_read(name: &[u8], errors: &impl Print, cause: &Error) {
 
 // Writes the name of a file on standard error: of an empty one the quotes, which otherwise nobody would see.
 fn say_name(name: &[u8], errors: &impl Print) {
-    if name.len() == 0 {
+    if name.is_empty() {
         say(errors, b"\"\"");
         return;
     }
@@ -218,8 +202,8 @@ pub fn load(
     stdin: &mut impl Read,
     errors: &impl Print,
     buf: &mut [u8],
-) -> Input
-    ensures { size_of result ≤ length buf.new }
+) -> Option<usize>
+    ensures { IfSome result (λ n. n ≤ length buf.new) }
 {
     if is_dash(name) {
         return read_opened(b"standard input", stdin, errors, buf);
@@ -229,45 +213,39 @@ pub fn load(
         Err(_) => {
             say(errors, name);
             say(errors, b" cannot be read: its name is not UTF-8\n");
-            Input::Failed
+            None
         }
     }
 }
 
-// One write on standard output, tried again as a read is; where it fails its error is put into `cause`.
-fn write_some(out: &impl Print, text: &[u8], cause: &mut Error) -> Input
-    ensures { size_of result ≤ length text.now }
+// One write on standard output.
+fn write_some(out: &impl Print, text: &[u8]) -> Result<usize, Error>
+    ensures { IfOk result (λ n. n ≤ length text.now) }
 {
-    let mut tries: u32 = 0;
-    while tries < 100 {
-        let got = number_of(out.write_some(text), cause);
-        if (0 <= got) | (cause.kind() != ErrorKind::Interrupted) {
-            return answered(got, text);
-        }
-        tries += 1;
-    }
-    Input::Failed
+    answered(tried(|| out.write_some(text)), text)
 }
 
 // Writes a text on standard output, after a short write the rest, or says why it cannot be written; answers whether all of it was.
 pub fn write_out(out: &impl Print, errors: &impl Print, text: &[u8]) -> bool {
-    let mut cause = no_cause();
     let mut sent = 0;
     while sent < text.len() {
-        let put = write_some(out, &text[sent..], &mut cause);
-        let Input::Bytes(more) = put else {
-            say(errors, b"standard output cannot be written");
-            say_cause(errors, &cause);
-            return false;
-        };
-        if more == 0 {
-            say(
-                errors,
-                b"standard output cannot be written: it takes no byte\n",
-            );
-            return false;
+        match write_some(out, &text[sent..]) {
+            Ok(0) => {
+                say(
+                    errors,
+                    b"standard output cannot be written: it takes no byte\n",
+                );
+                return false;
+            }
+            Ok(more) => {
+                sent += more;
+            }
+            Err(e) => {
+                say(errors, b"standard output cannot be written");
+                say_cause(errors, &e);
+                return false;
+            }
         }
-        sent += more;
     }
     true
 }

@@ -7,8 +7,7 @@ use Rattle.lines.specs.declared.FileAnswer.{FileAnswer}
 use Rattle.placing.specs.declared.TreeRead.{TreeRead}
 use Rattle.burst.specs.declared.Burst.{Burst}
 use Rattle.burst.specs.Burst.{split_by, starts_after, beats_after}
-use Rattle.splitting.specs.declared.Reply.{Reply}
-use Rattle.splitting.specs.Splitting.{reply_in, tree_denied, on_accepted, reply_from, starts_from, beats_from}
+use Rattle.splitting.specs.Splitting.{Reply, reply_in, tree_denied, on_accepted, reply_from, starts_from, beats_from}
 
 abbrev chosen : {A : Type 0} → (TreeRead → A) → (TreeRead → A) → TreeRead → A
 chosen f g q = on_accepted q.answer (f q) (g q)

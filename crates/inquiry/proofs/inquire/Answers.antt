@@ -9,9 +9,7 @@ use Rattle.placing.specs.declared.TreeRead.{TreeRead}
 use Rattle.razhikum.proofs.Told.{of_accepted, of_refused}
 use Rattle.waits.specs.Why.{why_of, why_buffer}
 use Rattle.inquiry.specs.declared.Part.TheVariants.{Tree}
-use Rattle.inquiry.specs.declared.Reply.{Reply}
-use Rattle.inquiry.specs.declared.Reply.TheVariants.{Refused}
-use Rattle.inquiry.specs.Inquiry.{reply_of, reply_from}
+use Rattle.inquiry.specs.Inquiry.{Reply, refused, reply_of, reply_from}
 use Rattle.lines.proofs.Limits.{yes_not, no_not}
 use Rattle.inquiry.proofs.inquire.Goals as goal
 
@@ -22,13 +20,13 @@ abbrev list_on : Channel → List ℕ → ℕ → ℕ → List ℕ → TreeRead 
 list_on h s a k d q = why_buffer q.tree h s a k d
 
 abbrev refusedTree : TreeRead → Reply
-refusedTree q = Refused Tree (answer_number q.answer) (answer_line q.answer)
+refusedTree q = refused Tree (answer_number q.answer) (answer_line q.answer)
 
 pub returns-then-not-is_accepted : goal.returns-then-not-is_accepted
 unfolding reply_from
 returns-then-not-is_accepted c =
     record {
-      answer = of_refused (asked c.args.channel c.args.trace.now c.args.a c.args.k) refusedTree _ _ c.read_tree-x.ensures _ c.is_accepted.ensures (yes_not _ c.if-not-is_accepted.true) _ (ap₂ (Refused Tree) c.answer_number.ensures c.answer_line.ensures);
+      answer = of_refused (asked c.args.channel c.args.trace.now c.args.a c.args.k) refusedTree _ _ c.read_tree-x.ensures _ c.is_accepted.ensures (yes_not _ c.if-not-is_accepted.true) _ (c.refused.ensures ∙ ap₂ (refused Tree) c.answer_number.ensures c.answer_line.ensures);
       list = of_refused (list_on c.args.channel c.args.trace.now c.args.a c.args.k c.args.out.now) (λ (q : TreeRead). c.args.out.now) _ _ c.read_tree-x.ensures _ c.is_accepted.ensures (yes_not _ c.if-not-is_accepted.true) _ refl;
     }
 
