@@ -1,87 +1,160 @@
-// What the programs of one tree file do, `report` and `rewrite`: they read the file, standard input without a name or with "-", and
-// write a text of its tree to standard output. A refusal is one line there, and one line in words on standard error.
+// What the programs share: a text of one page said or written, a text of several pages written, files loaded; and what the programs of
+// one tree file do, `report` and `rewrite`: they read the file, standard input without a name or with "-", and write a text of its tree
+// to standard output. A refusal is one line there, and one line in words on standard error.
+//
+// The system is lent by its parts, as in `input`, each by the bounds that a function needs: a struct of them would want three type
+// parameters, and their bounds, at each function.
 #![tactic(auto)]
 
-use input::{Input, file_bytes, page_text};
+use input::{file_bytes, page_text};
 use plan::Printed;
 use std::io::{IsTerminal, Read};
 use std::rt::{Env, Files};
-use usage::Asked;
+use usage::{Asked, Source};
 
-// Which of the two runs.
+// A file that was read: its name and its bytes.
 #[derive(Clone, Copy)]
-pub enum Program {
-    Report,
-    Rewrite,
+pub struct FileRead<'a> {
+    pub name: &'a [u8],
+    pub bytes: &'a [u8],
 }
 
-fn say_usage(errors: &impl Print, p: Program) {
+// The two files of a run.
+#[derive(Clone, Copy)]
+pub struct RunFiles<'a> {
+    pub tree: FileRead<'a>,
+    pub trace: FileRead<'a>,
+}
+
+// Says on standard error the text that `text` puts into a page.
+pub fn say_text<F: FnOnce(&mut [u8; 65536]) -> usize>(errors: &impl Print, text: F)
+    requires { F.IsAlwaysCallable text }
+{
     let mut page = [0u8; 65536];
-    let n = match p {
-        Program::Report => usage::report_usage(&mut page),
-        Program::Rewrite => usage::rewrite_usage(&mut page),
-    };
+    let n = text(&mut page);
     input::say(errors, page_text(&page, n));
 }
 
-fn say_help(out: &impl Print, errors: &impl Print, p: Program) {
+// Writes the text that `text` puts into a page; answers whether all of it was written.
+pub fn write_text<F: FnOnce(&mut [u8; 65536]) -> usize>(
+    out: &impl Print,
+    errors: &impl Print,
+    text: F,
+) -> bool
+    requires { F.IsAlwaysCallable text }
+{
     let mut page = [0u8; 65536];
-    let n = match p {
-        Program::Report => usage::report_help(&mut page),
-        Program::Rewrite => usage::rewrite_help(&mut page),
-    };
-    input::write_out(out, errors, page_text(&page, n));
+    let n = text(&mut page);
+    input::write_out(out, errors, page_text(&page, n))
 }
 
-// The refusal: the line of document 01, and for a person the file's name and what is wrong.
-fn refuse(out: &impl Print, errors: &impl Print, name: &[u8], tree: &[u8], number: u8, line: u32) {
-    let mut page = [0u8; 65536];
-    let n = listing::refusal_text(number, line, &mut page);
-    input::write_out(out, errors, page_text(&page, n));
-    reasons::explain(errors, name, false, tree, number, line);
-}
-
-// The program's text of the tree, put into the page.
-fn printed(p: Program, tree: &[u8], page: &mut [u8; 65536]) -> Printed {
-    match p {
-        Program::Report => plan::report(tree, page),
-        Program::Rewrite => plan::rewrite(tree, page),
+// Writes the pages of a text, each put by `text`, until one cannot be written: a run has the most, 65.
+pub fn write_pages<F: Fn(u32, &mut [u8; 65536]) -> usize>(
+    out: &impl Print,
+    errors: &impl Print,
+    count: usize,
+    text: F,
+)
+    requires { F.IsAlwaysCallable text }
+{
+    for page in 0..count.min(65) as u32 {
+        if !write_text(out, errors, |put| text(page, put)) {
+            return;
+        }
     }
 }
 
-fn print_bytes(out: &impl Print, errors: &impl Print, p: Program, name: &[u8], tree: &[u8]) {
+// Loads the file of that name into the buffer, in which one byte more than a file may have shows a longer one.
+pub fn load<'a>(
+    name: &'a [u8],
+    files: &impl Files,
+    stdin: &mut impl Read,
+    errors: &impl Print,
+    buf: &'a mut [u8; 65537],
+) -> Option<FileRead<'a>> {
+    let n = input::load(name, files, stdin, errors, buf)?;
+    Some(FileRead {
+        name: name,
+        bytes: file_bytes(buf, n),
+    })
+}
+
+// Loads the two files of a run, each into its buffer: the trace only where the tree can be read.
+pub fn load_both<'a>(
+    tree_name: &'a [u8],
+    trace_name: &'a [u8],
+    files: &impl Files,
+    stdin: &mut impl Read,
+    errors: &impl Print,
+    tree: &'a mut [u8; 65537],
+    trace: &'a mut [u8; 65537],
+) -> Option<RunFiles<'a>> {
+    Some(RunFiles {
+        tree: load(tree_name, files, stdin, errors, tree)?,
+        trace: load(trace_name, files, stdin, errors, trace)?,
+    })
+}
+
+// The refusal: the line of document 01, and for a person the file's name and what is wrong.
+fn refuse(out: &impl Print, errors: &impl Print, file: FileRead, number: u8, line: u32) {
+    write_text(
+        out,
+        errors,
+        |page| listing::refusal_text(number, line, page),
+    );
+    reasons::explain(errors, file.name, false, file.bytes, number, line);
+}
+
+fn print_bytes<F: FnOnce(&[u8], &mut [u8; 65536]) -> Printed>(
+    out: &impl Print,
+    errors: &impl Print,
+    file: FileRead,
+    text: F,
+)
+    requires { F.IsAlwaysCallable text }
+{
     let mut page = [0u8; 65536];
-    let done = printed(p, tree, &mut page);
+    let done = text(file.bytes, &mut page);
     if done.number != 0 {
-        refuse(out, errors, name, tree, done.number, done.line);
+        refuse(out, errors, file, done.number, done.line);
         return;
     }
     input::write_out(out, errors, page_text(&page, done.bytes));
 }
 
-fn print_file(
+fn print_file<F: FnOnce(&[u8], &mut [u8; 65536]) -> Printed>(
     rt: &(impl Files + Print),
     stdin: &mut impl Read,
     errors: &impl Print,
-    p: Program,
     name: &[u8],
-) {
-    // One byte more than a tree file may have shows a longer one.
+    text: F,
+)
+    requires { F.IsAlwaysCallable text }
+{
     let mut tree = [0u8; 65537];
-    let read = input::load(name, rt, stdin, errors, &mut tree);
-    let Input::Bytes(n) = read else {
+    let Some(file) = load(name, rt, stdin, errors, &mut tree) else {
         return;
     };
-    print_bytes(rt, errors, p, name, file_bytes(&tree, n));
+    print_bytes(rt, errors, file, text);
 }
 
-// What the first three words ask, of the system's words, files and standard output, its standard input, and its standard error.
-pub fn run(
+// What the first three words ask of a program with this usage, this help and this text of a tree file.
+pub fn run<
+    U: FnOnce(&mut [u8; 65536]) -> usize,
+    H: FnOnce(&mut [u8; 65536]) -> usize,
+    F: FnOnce(&[u8], &mut [u8; 65536]) -> Printed,
+>(
     rt: &(impl Env + Files + Print),
     stdin: &mut (impl Read + IsTerminal),
     errors: &impl Print,
-    p: Program,
-) {
+    usage: U,
+    help: H,
+    text: F,
+)
+    requires usage { U.IsAlwaysCallable usage }
+    requires help { H.IsAlwaysCallable help }
+    requires text { F.IsAlwaysCallable text }
+{
     let mut first = [0u8; 131072];
     let mut second = [0u8; 131072];
     let mut third = [0u8; 131072];
@@ -98,9 +171,11 @@ pub fn run(
         terminal,
     );
     match asked {
-        Asked::Usage => say_usage(errors, p),
-        Asked::Help => say_help(rt, errors, p),
-        Asked::Input => print_file(rt, stdin, errors, p, b"-"),
-        Asked::File => print_file(rt, stdin, errors, p, name),
+        Asked::Usage => say_text(errors, usage),
+        Asked::Help => {
+            write_text(rt, errors, help);
+        }
+        Asked::Run(Source::Input) => print_file(rt, stdin, errors, b"-", text),
+        Asked::Run(Source::File) => print_file(rt, stdin, errors, name, text),
     }
 }

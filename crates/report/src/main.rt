@@ -2,8 +2,15 @@
 // output. A refusal is one line there, and one line in words on standard error.
 #![tactic(auto)]
 
-use printing::{Program, run};
+use printing::run;
 
 fn main(rt: HostRuntime) {
-    run(&rt, &mut rt.stdin(), &rt.stderr(), Program::Report);
+    run(
+        &rt,
+        &mut rt.stdin(),
+        &rt.stderr(),
+        usage::report_usage,
+        usage::report_help,
+        plan::report,
+    );
 }

@@ -2,8 +2,15 @@
 // A refusal is one line there, and one line in words on standard error.
 #![tactic(auto)]
 
-use printing::{Program, run};
+use printing::run;
 
 fn main(rt: HostRuntime) {
-    run(&rt, &mut rt.stdin(), &rt.stderr(), Program::Rewrite);
+    run(
+        &rt,
+        &mut rt.stdin(),
+        &rt.stderr(),
+        usage::rewrite_usage,
+        usage::rewrite_help,
+        |tree, page| plan::rewrite(tree, page),
+    );
 }

@@ -4,64 +4,22 @@
 #![tactic(auto)]
 
 use answers::{Outcome, channel_number};
-use input::{Input, file_bytes, page_text};
-use model::Channel;
+use printing::{RunFiles, load_both, say_text, write_pages, write_text};
 use reasons::explain;
-use simulation::{Asked, Part};
+use simulation::{Part, Simulation};
 use std::io::Read;
 use std::rt::Files;
-
-fn say_usage(errors: &impl Print) {
-    let mut page = [0u8; 65536];
-    let n = usage::simulate_usage(&mut page);
-    input::say(errors, page_text(&page, n));
-}
-
-fn say_help(out: &impl Print, errors: &impl Print) {
-    let mut page = [0u8; 65536];
-    let n = usage::simulate_help(&mut page);
-    input::write_out(out, errors, page_text(&page, n));
-}
-
-// Writes one page of the outcome's text; answers whether all of it was written.
-fn show_page(out: &impl Print, errors: &impl Print, o: Outcome, served: &[u8], page: u32) -> bool {
-    let mut text = [0u8; 65536];
-    let n = simulation::page_text(o, served, page, &mut text);
-    input::write_out(out, errors, page_text(&text, n))
-}
-
-// The pages of the outcome's text, until one cannot be written: a run has at most 65.
-fn show(out: &impl Print, errors: &impl Print, o: Outcome, served: &[u8]) {
-    let count = simulation::page_count(o, served);
-    let mut page: u32 = 0;
-    while page < 65 {
-        if count <= page as usize {
-            return;
-        }
-        if !show_page(out, errors, o, served, page) {
-            return;
-        }
-        page += 1;
-    }
-}
+use usage::Asked;
 
 // What was refused, if anything was.
-fn explain_outcome(
-    errors: &impl Print,
-    o: Outcome,
-    slots: usize,
-    tree_name: &[u8],
-    tree: &[u8],
-    trace_name: &[u8],
-    trace: &[u8],
-) {
-    let part = simulation::refused_part(o, slots);
-    match part {
-        Part::Nothing => {}
-        Part::Tree => explain(errors, tree_name, false, tree, o.number, o.line),
-        Part::Word => explain(errors, b"SLOTS", true, trace, o.number, o.line),
-        Part::Trace => explain(errors, trace_name, true, trace, o.number, o.line),
-    }
+fn explain_outcome(errors: &impl Print, o: Outcome, slots: usize, files: RunFiles) {
+    let (name, trace, bytes) = match simulation::refused_part(o, slots) {
+        None => return,
+        Some(Part::Tree) => (files.tree.name, false, files.tree.bytes),
+        Some(Part::Word) => (&b"SLOTS"[..], true, files.trace.bytes),
+        Some(Part::Trace) => (files.trace.name, true, files.trace.bytes),
+    };
+    explain(errors, name, trace, bytes, o.number, o.line);
 }
 
 // Runs over the buffer, of a byte for each slot asked.
@@ -69,73 +27,50 @@ fn run_over(
     out: &impl Print,
     errors: &impl Print,
     served: &mut [u8],
-    channel: Channel,
-    tree_name: &[u8],
-    tree: &[u8],
-    trace_name: &[u8],
-    trace: &[u8],
+    channel: u8,
+    files: RunFiles,
 ) {
-    let o = razhikum::razhikum_run(tree, channel_number(channel), trace, served);
-    show(out, errors, o, served);
-    explain_outcome(errors, o, served.len(), tree_name, tree, trace_name, trace);
+    let o = razhikum::razhikum_run(files.tree.bytes, channel, files.trace.bytes, served);
+    let served = &served[..];
+    write_pages(
+        out,
+        errors,
+        simulation::page_count(o, served),
+        |page, text| simulation::page_text(o, served, page, text),
+    );
+    explain_outcome(errors, o, served.len(), files);
 }
 
 // One slot more than a run may have shows that more were asked.
-fn run_slots(
-    out: &impl Print,
-    errors: &impl Print,
-    channel: Channel,
-    slots: usize,
-    tree_name: &[u8],
-    tree: &[u8],
-    trace_name: &[u8],
-    trace: &[u8],
-) {
+fn run_slots(out: &impl Print, errors: &impl Print, asked: Simulation, files: RunFiles) {
     let mut served = [0u8; 65537];
-    if slots <= 65537 {
+    if asked.slots <= 65537 {
         run_over(
             out,
             errors,
-            &mut served[..slots],
-            channel,
-            tree_name,
-            tree,
-            trace_name,
-            trace,
+            &mut served[..asked.slots],
+            channel_number(asked.channel),
+            files,
         );
     }
 }
 
-// One byte more than a file may have shows a longer one.
 fn run_files(
     rt: &(impl Files + Print),
     stdin: &mut impl Read,
     errors: &impl Print,
-    channel: Channel,
-    slots: usize,
+    asked: Simulation,
     tree_name: &[u8],
     trace_name: &[u8],
 ) {
     let mut tree = [0u8; 65537];
     let mut trace = [0u8; 65537];
-    let read = input::load(tree_name, rt, stdin, errors, &mut tree);
-    let Input::Bytes(n) = read else {
+    let Some(files) = load_both(
+        tree_name, trace_name, rt, stdin, errors, &mut tree, &mut trace,
+    ) else {
         return;
     };
-    let read = input::load(trace_name, rt, stdin, errors, &mut trace);
-    let Input::Bytes(m) = read else {
-        return;
-    };
-    run_slots(
-        rt,
-        errors,
-        channel,
-        slots,
-        tree_name,
-        file_bytes(&tree, n),
-        trace_name,
-        file_bytes(&trace, m),
-    );
+    run_slots(rt, errors, asked, files);
 }
 
 // What the first four words ask.
@@ -160,10 +95,10 @@ fn main(rt: HostRuntime) {
         &fourth[0..j],
     );
     match asked {
-        Asked::Usage => say_usage(errors),
-        Asked::Help => say_help(&rt, errors),
-        Asked::Run(channel, slots) => run_files(
-            &rt, stdin, errors, channel, slots, tree_name, trace_name,
-        ),
+        Asked::Usage => say_text(errors, usage::simulate_usage),
+        Asked::Help => {
+            write_text(&rt, errors, usage::simulate_help);
+        }
+        Asked::Run(asked) => run_files(&rt, stdin, errors, asked, tree_name, trace_name),
     }
 }

@@ -3,50 +3,36 @@
 #![tactic(auto)]
 
 use burst::Burst;
-use input::{Input, file_bytes, page_text};
+use printing::{FileRead, load, say_text, write_text};
 use reasons::explain;
-use splitting::{Asked, Part, Reply};
+use splitting::Part;
 use std::io::Read;
 use std::rt::Files;
-
-fn say_usage(errors: &impl Print) {
-    let mut page = [0u8; 65536];
-    let n = usage::split_usage(&mut page);
-    input::say(errors, page_text(&page, n));
-}
-
-fn say_help(out: &impl Print, errors: &impl Print) {
-    let mut page = [0u8; 65536];
-    let n = usage::split_help(&mut page);
-    input::write_out(out, errors, page_text(&page, n));
-}
+use usage::{Asked, Denied};
 
 // What was refused, by this number at this line.
-fn explain_part(errors: &impl Print, part: Part, number: u8, line: u32, name: &[u8], tree: &[u8]) {
-    match part {
-        Part::Tree => explain(errors, name, false, tree, number, line),
-        Part::Address => explain(errors, b"ADDRESS", false, tree, number, line),
-        Part::Beats => explain(errors, b"BEATS", false, tree, number, line),
-        Part::Size => explain(errors, b"SIZE", false, tree, number, line),
-    }
+fn explain_part(errors: &impl Print, e: Denied<Part>, tree: FileRead) {
+    let name = match e.part {
+        Part::Tree => tree.name,
+        Part::Address => b"ADDRESS",
+        Part::Beats => b"BEATS",
+        Part::Size => b"SIZE",
+    };
+    explain(errors, name, false, tree.bytes, e.number, e.line);
 }
 
-fn cut(out: &impl Print, errors: &impl Print, b: Burst, name: &[u8], tree: &[u8]) {
+fn cut(out: &impl Print, errors: &impl Print, b: Burst, tree: FileRead) {
     let mut starts = [0u32; 256];
     let mut beats = [0u32; 256];
-    let reply = splitting::split_file(tree, b, &mut starts, &mut beats);
-    let mut page = [0u8; 65536];
-    let n = splitting::reply_text(reply, &starts, &beats, &mut page);
-    input::write_out(out, errors, page_text(&page, n));
-    match reply {
-        Reply::Refused(part, number, line) => {
-            explain_part(errors, part, number, line, name, tree)
-        }
-        Reply::Pieces(_) => {}
+    let reply = splitting::split_file(tree.bytes, b, &mut starts, &mut beats);
+    write_text(out, errors, |page| {
+        splitting::reply_text(reply, &starts, &beats, page)
+    });
+    if let Err(e) = reply {
+        explain_part(errors, e, tree);
     }
 }
 
-// One byte more than a file may have shows a longer one.
 fn cut_file(
     rt: &(impl Files + Print),
     stdin: &mut impl Read,
@@ -55,11 +41,10 @@ fn cut_file(
     name: &[u8],
 ) {
     let mut tree = [0u8; 65537];
-    let read = input::load(name, rt, stdin, errors, &mut tree);
-    let Input::Bytes(n) = read else {
+    let Some(tree) = load(name, rt, stdin, errors, &mut tree) else {
         return;
     };
-    cut(rt, errors, b, name, file_bytes(&tree, n));
+    cut(rt, errors, b, tree);
 }
 
 // What the first four words ask.
@@ -83,8 +68,10 @@ fn main(rt: HostRuntime) {
         &fourth[0..n],
     );
     match asked {
-        Asked::Usage => say_usage(errors),
-        Asked::Help => say_help(&rt, errors),
-        Asked::Split(b) => cut_file(&rt, stdin, errors, b, name),
+        Asked::Usage => say_text(errors, usage::split_usage),
+        Asked::Help => {
+            write_text(&rt, errors, usage::split_help);
+        }
+        Asked::Run(b) => cut_file(&rt, stdin, errors, b, name),
     }
 }

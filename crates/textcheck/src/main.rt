@@ -5,15 +5,15 @@
 
 use answers::channel_number;
 use burst::Burst;
-use input::Input;
-use inquiry::Reply;
+use inquiry::Waited;
 use model::Channel;
 use plan::Printed;
-use simulation::{Asked, Part};
+use simulation::{Part, Simulation};
 use std::io;
 use std::io::Read;
 use std::rt::Files;
 use text::{part_end, same_bytes};
+use usage::{Asked, Denied, Source};
 
 fn show(out: &impl Print, page: &[u8], n: usize) {
     if n <= page.len() {
@@ -102,10 +102,10 @@ fn report_does(out: &impl Print, words: &[u8], terminal: bool) {
         terminal,
     );
     match asked {
-        usage::Asked::Usage => say_line(out, b"report: usage\n"),
-        usage::Asked::Help => say_line(out, b"report: help\n"),
-        usage::Asked::Input => say_line(out, b"report: standard input\n"),
-        usage::Asked::File => say_line(out, b"report: the file\n"),
+        Asked::Usage => say_line(out, b"report: usage\n"),
+        Asked::Help => say_line(out, b"report: help\n"),
+        Asked::Run(Source::Input) => say_line(out, b"report: standard input\n"),
+        Asked::Run(Source::File) => say_line(out, b"report: the file\n"),
     }
 }
 
@@ -131,11 +131,11 @@ fn simulate_does(out: &impl Print, words: &[u8]) {
     match asked {
         Asked::Usage => say_line(out, b"simulate: usage\n"),
         Asked::Help => say_line(out, b"simulate: help\n"),
-        Asked::Run(channel, k) => {
+        Asked::Run(run) => {
             say_line(out, b"simulate: ");
-            say_channel(out, channel);
+            say_channel(out, run.channel);
             say_line(out, b", slots ");
-            say_number(out, k as u64);
+            say_number(out, run.slots as u64);
             say_line(out, b"\n");
         }
     }
@@ -156,15 +156,15 @@ fn why_does(out: &impl Print, words: &[u8]) {
         word(fifth),
     );
     match asked {
-        inquiry::Asked::Usage => say_line(out, b"why: usage\n"),
-        inquiry::Asked::Help => say_line(out, b"why: help\n"),
-        inquiry::Asked::Wait(channel, a, k) => {
+        Asked::Usage => say_line(out, b"why: usage\n"),
+        Asked::Help => say_line(out, b"why: help\n"),
+        Asked::Run(wait) => {
             say_line(out, b"why: ");
-            say_channel(out, channel);
+            say_channel(out, wait.channel);
             say_line(out, b", accelerator ");
-            say_number(out, a as u64);
+            say_number(out, wait.accelerator as u64);
             say_line(out, b", number ");
-            say_number(out, k as u64);
+            say_number(out, wait.number as u64);
             say_line(out, b"\n");
         }
     }
@@ -183,9 +183,9 @@ fn split_does(out: &impl Print, words: &[u8]) {
         word(fourth),
     );
     match asked {
-        splitting::Asked::Usage => say_line(out, b"split: usage\n"),
-        splitting::Asked::Help => say_line(out, b"split: help\n"),
-        splitting::Asked::Split(b) => {
+        Asked::Usage => say_line(out, b"split: usage\n"),
+        Asked::Help => say_line(out, b"split: help\n"),
+        Asked::Run(b) => {
             say_line(out, b"split: start ");
             say_number(out, b.start as u64);
             say_line(out, b", beats ");
@@ -405,12 +405,12 @@ fn load(rt: &(impl Files + Print), stdin: &mut impl Read, errors: &impl Print, n
     let mut bytes = [0u8; 16];
     let read = input::load(name, rt, stdin, errors, &mut bytes);
     match read {
-        Input::Bytes(n) => {
+        Some(n) => {
             say_line(rt, b"read: ");
             show(rt, &bytes, n);
             say_line(rt, b"\n");
         }
-        Input::Failed => say_line(rt, b"cannot be read\n"),
+        None => say_line(rt, b"cannot be read\n"),
     }
 }
 
@@ -693,27 +693,27 @@ fn run_over(out: &impl Print, served: &mut [u8], channel: Channel, tree: &[u8], 
     show_page(out, &page, n);
     let part = simulation::refused_part(o, served.len());
     match part {
-        Part::Nothing => {}
-        Part::Tree => say_line(out, b"of the tree\n"),
-        Part::Word => say_line(out, b"of SLOTS\n"),
-        Part::Trace => say_line(out, b"of the trace\n"),
+        None => {}
+        Some(Part::Tree) => say_line(out, b"of the tree\n"),
+        Some(Part::Word) => say_line(out, b"of SLOTS\n"),
+        Some(Part::Trace) => say_line(out, b"of the trace\n"),
     }
 }
 
 fn simulate(out: &impl Print, channel: Channel, tree: &[u8], trace: &[u8], word: &[u8]) {
     let asked = simulation::slots_asked(channel, word);
-    let Asked::Run(c, k) = asked else {
+    let Asked::Run(Simulation { channel, slots }) = asked else {
         say_line(out, b"no number\n");
         return;
     };
     let mut served = [0u8; 65537];
-    if k <= 65537 {
-        run_over(out, &mut served[..k], c, tree, trace);
+    if slots <= 65537 {
+        run_over(out, &mut served[..slots], channel, tree, trace);
     }
 }
 
 // The first page of the reply's text.
-fn show_reply(out: &impl Print, reply: Reply, list: &[u8; 65536]) {
+fn show_reply(out: &impl Print, reply: Result<Waited, Denied<inquiry::Part>>, list: &[u8; 65536]) {
     let mut page = [0u8; 65536];
     let n = inquiry::page_text(reply, list, 0, &mut page);
     show_page(out, &page, n);
@@ -724,10 +724,10 @@ fn why(out: &impl Print, channel: Channel, tree: &[u8], trace: &[u8], a: u8, k: 
     let mut list = [0u8; 65536];
     let reply = inquiry::inquire(tree, channel, trace, a, k, &mut list);
     show_reply(out, reply, &list);
-    let Reply::Refused(part, _, _) = reply else {
+    let Err(e) = reply else {
         return;
     };
-    match part {
+    match e.part {
         inquiry::Part::Tree => say_line(out, b"of the tree\n"),
         inquiry::Part::Trace => say_line(out, b"of the trace\n"),
         inquiry::Part::Accelerator => say_line(out, b"of ACC\n"),
@@ -760,7 +760,12 @@ fn why_writes(out: &impl Print, tree: &[u8]) {
 }
 
 // The text of a reply to a burst, with these arrays.
-fn show_pieces(out: &impl Print, reply: splitting::Reply, starts: &[u32; 256], beats: &[u32; 256]) {
+fn show_pieces(
+    out: &impl Print,
+    reply: Result<u32, Denied<splitting::Part>>,
+    starts: &[u32; 256],
+    beats: &[u32; 256],
+) {
     let mut page = [0u8; 65536];
     let n = splitting::reply_text(reply, starts, beats, &mut page);
     show_page(out, &page, n);
@@ -777,10 +782,10 @@ fn split(out: &impl Print, tree: &[u8], start: u32, beats: u32, size: u32) {
     let mut lengths = [8u32; 256];
     let reply = splitting::split_file(tree, b, &mut starts, &mut lengths);
     show_pieces(out, reply, &starts, &lengths);
-    let splitting::Reply::Refused(part, _, _) = reply else {
+    let Err(e) = reply else {
         return;
     };
-    match part {
+    match e.part {
         splitting::Part::Tree => say_line(out, b"of the tree\n"),
         splitting::Part::Address => say_line(out, b"of ADDRESS\n"),
         splitting::Part::Beats => say_line(out, b"of BEATS\n"),
@@ -847,14 +852,9 @@ fn split_lengths(out: &impl Print) {
 fn split_arrays(out: &impl Print) {
     let starts = [4294967295u32; 256];
     let beats = [4294967295u32; 256];
-    show_pieces(out, splitting::Reply::Pieces(0), &starts, &beats);
-    show_pieces(out, splitting::Reply::Pieces(2), &starts, &beats);
-    show_pieces(
-        out,
-        splitting::Reply::Pieces(4294967295),
-        &[7u32; 256],
-        &[8u32; 256],
-    );
+    show_pieces(out, Ok(0), &starts, &beats);
+    show_pieces(out, Ok(2), &starts, &beats);
+    show_pieces(out, Ok(4294967295), &[7u32; 256], &[8u32; 256]);
 }
 
 // The texts of bursts cut into pieces.

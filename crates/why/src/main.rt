@@ -3,128 +3,62 @@
 // error.
 #![tactic(auto)]
 
-use input::{Input, file_bytes, page_text};
-use inquiry::{Asked, Part, Reply};
-use model::Channel;
+use inquiry::{Part, Transaction};
+use printing::{RunFiles, load_both, say_text, write_pages, write_text};
 use reasons::explain;
 use std::io::Read;
 use std::rt::Files;
-
-fn say_usage(errors: &impl Print) {
-    let mut page = [0u8; 65536];
-    let n = usage::why_usage(&mut page);
-    input::say(errors, page_text(&page, n));
-}
-
-fn say_help(out: &impl Print, errors: &impl Print) {
-    let mut page = [0u8; 65536];
-    let n = usage::why_help(&mut page);
-    input::write_out(out, errors, page_text(&page, n));
-}
-
-// Writes one page of the reply's text; answers whether all of it was written.
-fn show_page(
-    out: &impl Print,
-    errors: &impl Print,
-    reply: Reply,
-    list: &[u8; 65536],
-    page: u32,
-) -> bool {
-    let mut text = [0u8; 65536];
-    let n = inquiry::page_text(reply, list, page, &mut text);
-    input::write_out(out, errors, page_text(&text, n))
-}
-
-// The pages of the reply's text, until one cannot be written: 32,768 lines and the last have at most 33.
-fn show(out: &impl Print, errors: &impl Print, reply: Reply, list: &[u8; 65536]) {
-    let count = inquiry::page_count(reply, list);
-    let mut page: u32 = 0;
-    while page < 33 {
-        if count <= page as usize {
-            return;
-        }
-        if !show_page(out, errors, reply, list, page) {
-            return;
-        }
-        page += 1;
-    }
-}
+use usage::{Asked, Denied};
 
 // What was refused, by this number at this line.
-fn explain_part(
-    errors: &impl Print,
-    part: Part,
-    number: u8,
-    line: u32,
-    tree_name: &[u8],
-    tree: &[u8],
-    trace_name: &[u8],
-    trace: &[u8],
-) {
-    match part {
-        Part::Tree => explain(errors, tree_name, false, tree, number, line),
-        Part::Trace => explain(errors, trace_name, true, trace, number, line),
-        Part::Accelerator => explain(errors, b"ACC", true, trace, number, line),
-        Part::Number => explain(errors, b"NUMBER", true, trace, number, line),
-    }
+fn explain_part(errors: &impl Print, e: Denied<Part>, files: RunFiles) {
+    let (name, trace, bytes) = match e.part {
+        Part::Tree => (files.tree.name, false, files.tree.bytes),
+        Part::Trace => (files.trace.name, true, files.trace.bytes),
+        Part::Accelerator => (&b"ACC"[..], true, files.trace.bytes),
+        Part::Number => (&b"NUMBER"[..], true, files.trace.bytes),
+    };
+    explain(errors, name, trace, bytes, e.number, e.line);
 }
 
-fn ask(
-    out: &impl Print,
-    errors: &impl Print,
-    channel: Channel,
-    a: u8,
-    k: u32,
-    tree_name: &[u8],
-    tree: &[u8],
-    trace_name: &[u8],
-    trace: &[u8],
-) {
+fn ask(out: &impl Print, errors: &impl Print, asked: Transaction, files: RunFiles) {
     let mut list = [0u8; 65536];
-    let reply = inquiry::inquire(tree, channel, trace, a, k, &mut list);
-    show(out, errors, reply, &list);
-    match reply {
-        Reply::Refused(part, number, line) => {
-            explain_part(
-                errors, part, number, line, tree_name, tree, trace_name, trace,
-            )
-        }
-        Reply::Waited(_, _) => {}
+    let reply = inquiry::inquire(
+        files.tree.bytes,
+        asked.channel,
+        files.trace.bytes,
+        asked.accelerator,
+        asked.number,
+        &mut list,
+    );
+    let list = &list;
+    write_pages(
+        out,
+        errors,
+        inquiry::page_count(reply, list),
+        |page, text| inquiry::page_text(reply, list, page, text),
+    );
+    if let Err(e) = reply {
+        explain_part(errors, e, files);
     }
 }
 
-// One byte more than a file may have shows a longer one.
 fn ask_files(
     rt: &(impl Files + Print),
     stdin: &mut impl Read,
     errors: &impl Print,
-    channel: Channel,
-    a: u8,
-    k: u32,
+    asked: Transaction,
     tree_name: &[u8],
     trace_name: &[u8],
 ) {
     let mut tree = [0u8; 65537];
     let mut trace = [0u8; 65537];
-    let read = input::load(tree_name, rt, stdin, errors, &mut tree);
-    let Input::Bytes(n) = read else {
+    let Some(files) = load_both(
+        tree_name, trace_name, rt, stdin, errors, &mut tree, &mut trace,
+    ) else {
         return;
     };
-    let read = input::load(trace_name, rt, stdin, errors, &mut trace);
-    let Input::Bytes(m) = read else {
-        return;
-    };
-    ask(
-        rt,
-        errors,
-        channel,
-        a,
-        k,
-        tree_name,
-        file_bytes(&tree, n),
-        trace_name,
-        file_bytes(&trace, m),
-    );
+    ask(rt, errors, asked, files);
 }
 
 // What the first five words ask.
@@ -152,10 +86,10 @@ fn main(rt: HostRuntime) {
         &fifth[0..j],
     );
     match asked {
-        Asked::Usage => say_usage(errors),
-        Asked::Help => say_help(&rt, errors),
-        Asked::Wait(channel, a, k) => ask_files(
-            &rt, stdin, errors, channel, a, k, tree_name, trace_name,
-        ),
+        Asked::Usage => say_text(errors, usage::why_usage),
+        Asked::Help => {
+            write_text(&rt, errors, usage::why_help);
+        }
+        Asked::Run(asked) => ask_files(&rt, stdin, errors, asked, tree_name, trace_name),
     }
 }
