@@ -12,10 +12,10 @@ ghost use Rattle.bounds.specs.Bounds.{meaning_of};
 ghost use Rattle.burst.specs.Answers.{join_outcome};
 ghost use Rattle.answers.specs.Numbers.{channel_number, channel_of, is_accepted, file_refused, reading_of, accepted_count, count_of, outcome_of, refused_by, tree_refused, no_wait, wait_of, row_of, unbounded, cut_of, joined_of};
 
-use bounds::BoundAnswer;
-use burst::joiner::{JoinAnswer, JoinReply};
+use bounds::Figures;
+use burst::joiner::{JoinReply, Progress};
 use lines::{FileAnswer, answer_line, answer_number};
-use model::{Channel, number};
+use model::{Channel, Refusal, number};
 use runner::RunAnswer;
 use splitting::Part;
 use usage::Denied;
@@ -274,12 +274,12 @@ pub fn unbounded(number: u8, line: u32) -> Row
 }
 
 // The bounds of an accelerator.
-pub fn row_of(answer: BoundAnswer) -> Row
+pub fn row_of(answer: Result<Figures, Refusal>) -> Row
     ensures { result ≡ row_of (meaning_of answer) }
 {
     match answer {
-        BoundAnswer::Refused(r) => unbounded(number(r), 0),
-        BoundAnswer::Bound(f) => Row {
+        Err(r) => unbounded(number(r), 0),
+        Ok(f) => Row {
             number: 0,
             line: 0,
             level: f.level,
@@ -324,12 +324,12 @@ pub fn joined_of(reply: JoinReply) -> Joined
         answered: reply.joiner.answered,
     };
     match answer {
-        JoinAnswer::Taken => joined,
-        JoinAnswer::Done => {
+        Ok(Progress::Taken) => joined,
+        Ok(Progress::Done) => {
             joined.done = true;
             joined
         }
-        JoinAnswer::Refused(r) => {
+        Err(r) => {
             joined.number = number(r);
             joined
         }

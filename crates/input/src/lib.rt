@@ -8,6 +8,7 @@
 #![tactic(auto)]
 
 ghost use Rattle.std.specs.Prelude.{◌≡◌, ◌≤◌, length, take, IfOk, IfSome};
+ghost use Rattle.std.specs.Result.{result_ok};
 ghost use Rattle.input.specs.Input.{answer_of};
 
 use std::env::FillError;
@@ -24,22 +25,17 @@ fn is_missing(words: &impl Env, i: usize) -> bool {
 
 // How many words stand after the program's name.
 pub fn words(words: &impl Env) -> usize {
-    let mut n = 0;
-    for i in 1..usize::MAX {
-        if is_missing(words, i) {
-            return n;
-        }
-        n = i;
-    }
-    n
+    (1..usize::MAX)
+        .take_while(|&i| !is_missing(words, i))
+        .count()
 }
 
-// Puts word i, from 1, at the start of the buffer, which the longest word of Linux fits, and answers its length; 0 where it was
-// not given. The buffer is lent as an array: a caller's part of it then needs no proof.
-pub fn word(words: &impl Env, i: usize, buf: &mut [u8; 131072]) -> usize
-    ensures { result ≤ length buf.new }
+// Word i, from 1, which is put into the buffer; no byte where it was not given. The longest word of Linux fits.
+pub fn word<'a>(words: &impl Env, i: usize, buf: &'a mut [u8; 131072]) -> &'a [u8]
+    ensures { length result.now ≤ length buf.old }
 {
-    words.arg(i, buf).unwrap_or(0)
+    let n = words.arg(i, buf).unwrap_or(0);
+    &buf[..n]
 }
 
 // The first n bytes, or all where there are fewer.
@@ -63,12 +59,12 @@ pub fn file_bytes(file: &[u8; 65537], n: usize) -> &[u8]
     first_bytes(file, n)
 }
 
-// What a read or a write of the buffer answered: it failed, or it moved so many bytes, at most all; a read that moves none is at the
-// end of the file.
-fn answered(got: Result<usize, Error>, buf: &[u8]) -> Result<usize, Error>
-    ensures { result ≡ answer_of got (length buf.now) }
+// What a read or a write of at most n bytes answered: its error where it failed, else how many bytes it moved; a read that moves none
+// is at the end of the file.
+fn answered(got: Result<usize, Error>, n: usize) -> Result<usize, Error>
+    ensures { result ≡ answer_of got n }
 {
-    Ok(got?.min(buf.len()))
+    got.map(|k| k.min(n))
 }
 
 // Whether a signal came before a byte did.
@@ -76,26 +72,26 @@ fn is_interrupted(got: &Result<usize, Error>) -> bool {
     matches!(got, Err(e) if e.kind() == ErrorKind::Interrupted)
 }
 
-// A read or a write, tried again where a signal came before a byte did, a hundred times at most, since every function here ends.
-fn tried<F: FnMut() -> Result<usize, Error>>(mut call: F) -> Result<usize, Error>
+// What the call, a read or a write of at most n bytes, answered. Where a signal came before a byte did it calls again, a hundred times
+// at most, since every function here ends.
+fn retried<F: FnMut() -> Result<usize, Error>>(n: usize, mut call: F) -> Result<usize, Error>
     requires { F.IsAlwaysCallable call }
+    ensures { IfOk result (λ k. k ≤ n) }
 {
     let mut got = call();
     for _ in 1..100 {
         if !is_interrupted(&got) {
-            return got;
+            break;
         }
         got = call();
     }
-    got
+    answered(got, n)
 }
 
-// One read.
 fn read_some(from: &mut impl Read, buf: &mut [u8]) -> Result<usize, Error>
     ensures { IfOk result (λ n. n ≤ length buf.new) }
 {
-    let got = tried(|| from.read(buf));
-    answered(got, buf)
+    retried(buf.len(), || from.read(buf))
 }
 
 // Reads into the buffer until the end of the file or of the buffer: after a short read it reads again.
@@ -113,41 +109,18 @@ pub fn read_all(from: &mut impl Read, buf: &mut [u8]) -> Result<usize, Error>
     Ok(done)
 }
 
-// Reads what was opened to its end, or says why it cannot be read.
-fn read_opened(
-    name: &[u8],
-    from: &mut impl Read,
-    errors: &impl Print,
-    buf: &mut [u8],
-) -> Option<usize>
-    ensures { IfSome result (λ n. n ≤ length buf.new) }
+// Reads the file of that name, which is closed where it is let go.
+fn read_named(path: &str, files: &impl Files, buf: &mut [u8]) -> Result<usize, Error>
+    ensures { IfOk result (λ n. n ≤ length buf.new) }
 {
-    match read_all(from, buf) {
-        Ok(n) => Some(n),
-        Err(e) => {
-            cannot_read(name, errors, &e);
-            None
-        }
-    }
+    read_all(&mut File::open(files, path)?, buf)
 }
 
-// Reads the file of that name, which is closed where it is let go, or says why it cannot be read.
-fn read_named(
-    name: &[u8],
-    path: &str,
-    files: &impl Files,
-    errors: &impl Print,
-    buf: &mut [u8],
-) -> Option<usize>
-    ensures { IfSome result (λ n. n ≤ length buf.new) }
+// How many bytes were read of the file of that name, or says why it cannot be read.
+fn read_or_say(name: &[u8], errors: &impl Print, read: Result<usize, Error>) -> Option<usize>
+    ensures { result ≡ result_ok read }
 {
-    match File::open(files, path) {
-        Ok(mut file) => read_opened(name, &mut file, errors, buf),
-        Err(e) => {
-            cannot_read(name, errors, &e);
-            None
-        }
-    }
+    read.inspect_err(|e| cannot_read(name, errors, e)).ok()
 }
 
 // Says which file cannot be read, and why.
@@ -159,7 +132,7 @@ fn cannot_read(name: &[u8], errors: &impl Print, cause: &Error) {
 
 // Writes the name of a file on standard error: of an empty one the quotes, which otherwise nobody would see.
 fn say_name(name: &[u8], errors: &impl Print) {
-    if name.is_empty() {
+    if name.len() == 0 {
         say(errors, b"\"\"");
         return;
     }
@@ -188,14 +161,11 @@ fn cause_text(cause: &Error, text: &mut [u8; 512]) -> usize {
     let left = rest.len();
     let n = 512usize.saturating_sub(left);
     let end = part_end(text, 0, b'(');
-    if end < n {
-        return end.saturating_sub(1);
-    }
-    n
+    if end < n { end.saturating_sub(1) } else { n }
 }
 
-// Reads the file of that name, standard input where the name is "-", or says why it cannot be read. A name that is not UTF-8
-// cannot be given to std, so such a file is not read, and that is said.
+// Reads the file of that name, standard input where the name is "-", and answers how many bytes it has; none where it cannot be read,
+// which is then said. A name that is not UTF-8 cannot be given to std, so such a file is not read.
 pub fn load(
     name: &[u8],
     files: &impl Files,
@@ -206,48 +176,43 @@ pub fn load(
     ensures { IfSome result (λ n. n ≤ length buf.new) }
 {
     if is_dash(name) {
-        return read_opened(b"standard input", stdin, errors, buf);
+        return read_or_say(b"standard input", errors, read_all(stdin, buf));
     }
-    match std::str::from_utf8(name) {
-        Ok(path) => read_named(name, path, files, errors, buf),
-        Err(_) => {
-            say(errors, name);
-            say(errors, b" cannot be read: its name is not UTF-8\n");
-            None
-        }
-    }
+    let Ok(path) = std::str::from_utf8(name) else {
+        say(errors, name);
+        say(errors, b" cannot be read: its name is not UTF-8\n");
+        return None;
+    };
+    read_or_say(name, errors, read_named(path, files, buf))
 }
 
-// One write on standard output.
 fn write_some(out: &impl Print, text: &[u8]) -> Result<usize, Error>
     ensures { IfOk result (λ n. n ≤ length text.now) }
 {
-    answered(tried(|| out.write_some(text)), text)
+    retried(text.len(), || out.write_some(text))
 }
 
-// Writes a text on standard output, after a short write the rest, or says why it cannot be written; answers whether all of it was.
-pub fn write_out(out: &impl Print, errors: &impl Print, text: &[u8]) -> bool {
+// Writes a text on standard output, after a short write the rest.
+fn write_whole(out: &impl Print, text: &[u8]) -> Result<(), Error> {
     let mut sent = 0;
     while sent < text.len() {
-        match write_some(out, &text[sent..]) {
-            Ok(0) => {
-                say(
-                    errors,
-                    b"standard output cannot be written: it takes no byte\n",
-                );
-                return false;
-            }
-            Ok(more) => {
-                sent += more;
-            }
-            Err(e) => {
-                say(errors, b"standard output cannot be written");
-                say_cause(errors, &e);
-                return false;
-            }
+        let more = write_some(out, &text[sent..])?;
+        if more == 0 {
+            return Err(Error::new(ErrorKind::WriteZero, "it takes no byte"));
         }
+        sent += more;
     }
-    true
+    Ok(())
+}
+
+// Writes a text on standard output, or says why it cannot be written; answers whether all of it was.
+pub fn write_out(out: &impl Print, errors: &impl Print, text: &[u8]) -> bool {
+    let Err(cause) = write_whole(out, text) else {
+        return true;
+    };
+    say(errors, b"standard output cannot be written");
+    say_cause(errors, &cause);
+    false
 }
 
 // Says something of a file on standard error: its name, and what.

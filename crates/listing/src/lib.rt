@@ -9,7 +9,7 @@ ghost use Rattle.put.specs.Put.{Put};
 ghost use Rattle.bounds.specs.Bounds.{figures_mean};
 ghost use Rattle.listing.specs.Listing.{head_line, verdict_of, row_text, all_line, refusal_text, report_text};
 
-use bounds::{BoundAnswer, Figures, bound};
+use bounds::{Figures, bound};
 use model::Tree;
 use put::{put_bytes, put_field};
 use rules::tree_keeps;
@@ -79,7 +79,7 @@ fn put_report(t: Tree, out: &mut [u8]) -> usize
     let mut all_meet = true;
     let mut a: u8 = 0;
     while a < t.accs {
-        let BoundAnswer::Bound(f) = bound(t, a) else {
+        let Ok(f) = bound(t, a) else {
             return next;
         };
         next = put_row(out, next, a, f);

@@ -1,10 +1,11 @@
-// What the programs share: a text of one page said or written, a text of several pages written, files loaded; and what the programs of
-// one tree file do, `report` and `rewrite`: they read the file, standard input without a name or with "-", and write a text of its tree
-// to standard output. A refusal is one line there, and one line in words on standard error.
-//
-// The system is lent by its parts, as in `input`, each by the bounds that a function needs: a struct of them would want three type
-// parameters, and their bounds, at each function.
+// What the programs do with files and texts: a file is read, a text is put into a page and written, page by page where it has several.
+// The text is a function that puts it into a page; what is written is outside of every contract (std), so the clauses say that this
+// function put it, into an empty page. And what the programs of one tree file do, `report` and `rewrite`: they read the file, standard input without a name or with "-", and
+// write a text of its tree to standard output. A refusal is one line there, and one line in words on standard error.
 #![tactic(auto)]
+
+ghost use Rattle.std.specs.Prelude.{◌≡◌, ℕ, List, take, replicate, IfSome};
+ghost use Rattle.std.specs.Fn.{FnOnceReturnsAtMut};
 
 use input::{file_bytes, page_text};
 use plan::Printed;
@@ -12,170 +13,153 @@ use std::io::{IsTerminal, Read};
 use std::rt::{Env, Files};
 use usage::{Asked, Source};
 
+// Standard output, with the system's files, and standard error.
+#[derive(Drop)]
+pub struct Streams<'a, O, E> {
+    pub out: &'a O,
+    pub errors: &'a E,
+}
+
 // A file that was read: its name and its bytes.
 #[derive(Clone, Copy)]
-pub struct FileRead<'a> {
+pub struct NamedFile<'a> {
     pub name: &'a [u8],
     pub bytes: &'a [u8],
 }
 
-// The two files of a run.
-#[derive(Clone, Copy)]
-pub struct RunFiles<'a> {
-    pub tree: FileRead<'a>,
-    pub trace: FileRead<'a>,
-}
-
-// Says on standard error the text that `text` puts into a page.
-pub fn say_text<F: FnOnce(&mut [u8; 65536]) -> usize>(errors: &impl Print, text: F)
+// The bytes of the text that is put into the page.
+pub fn put_text<'a, F: FnOnce(&mut [u8; 65536]) -> usize>(
+    page: &'a mut [u8; 65536],
+    text: F,
+) -> &'a [u8]
     requires { F.IsAlwaysCallable text }
+    ensures { (n : ℕ) × (put : List ℕ) × FnOnceReturnsAtMut F.FnOnce text page.old n put × (result.now ≡ take n put) }
 {
-    let mut page = [0u8; 65536];
-    let n = text(&mut page);
-    input::say(errors, page_text(&page, n));
+    let n = text(page);
+    page_text(page, n)
 }
 
-// Writes the text that `text` puts into a page; answers whether all of it was written.
-pub fn write_text<F: FnOnce(&mut [u8; 65536]) -> usize>(
-    out: &impl Print,
-    errors: &impl Print,
+// Writes the text on standard output as it is put into an empty page, or says why it cannot be written; answers whether all of it was.
+pub fn show_text<F: FnOnce(&mut [u8; 65536]) -> usize>(
+    s: &Streams<impl Print, impl Print>,
     text: F,
 ) -> bool
     requires { F.IsAlwaysCallable text }
+    ensures { (n : ℕ) × (put : List ℕ) × FnOnceReturnsAtMut F.FnOnce text (replicate 65536 0) n put }
 {
-    let mut page = [0u8; 65536];
-    let n = text(&mut page);
-    input::write_out(out, errors, page_text(&page, n))
+    input::write_out(s.out, s.errors, put_text(&mut [0u8; 65536], text))
 }
 
-// Writes the pages of a text, each put by `text`, until one cannot be written: a run has the most, 65.
-pub fn write_pages<F: Fn(u32, &mut [u8; 65536]) -> usize>(
-    out: &impl Print,
-    errors: &impl Print,
-    count: usize,
+// Writes the text on standard error as it is put into an empty page.
+pub fn say_text<F: FnOnce(&mut [u8; 65536]) -> usize>(s: &Streams<impl Print, impl Print>, text: F)
+    requires { F.IsAlwaysCallable text }
+    ensures { (n : ℕ) × (put : List ℕ) × FnOnceReturnsAtMut F.FnOnce text (replicate 65536 0) n put }
+{
+    input::say(s.errors, put_text(&mut [0u8; 65536], text));
+}
+
+// The pages of a text of which there are `count`, from 0, until one cannot be written.
+pub fn show_pages<F: Fn(u32, &mut [u8; 65536]) -> usize>(
+    s: &Streams<impl Print, impl Print>,
+    count: u32,
     text: F,
 )
     requires { F.IsAlwaysCallable text }
 {
-    for page in 0..count.min(65) as u32 {
-        if !write_text(out, errors, |put| text(page, put)) {
+    for page in 0..count {
+        if !show_text(s, |out| text(page, out)) {
             return;
         }
     }
 }
 
-// Loads the file of that name into the buffer, in which one byte more than a file may have shows a longer one.
+// Reads the file of that name into the buffer, standard input where the name is "-", or says why it cannot be read. One byte more than
+// a file may have shows a longer one.
 pub fn load<'a>(
+    s: &Streams<impl Files + Print, impl Print>,
+    stdin: &mut impl Read,
     name: &'a [u8],
-    files: &impl Files,
-    stdin: &mut impl Read,
-    errors: &impl Print,
     buf: &'a mut [u8; 65537],
-) -> Option<FileRead<'a>> {
-    let n = input::load(name, files, stdin, errors, buf)?;
-    Some(FileRead {
-        name: name,
-        bytes: file_bytes(buf, n),
-    })
-}
-
-// Loads the two files of a run, each into its buffer: the trace only where the tree can be read.
-pub fn load_both<'a>(
-    tree_name: &'a [u8],
-    trace_name: &'a [u8],
-    files: &impl Files,
-    stdin: &mut impl Read,
-    errors: &impl Print,
-    tree: &'a mut [u8; 65537],
-    trace: &'a mut [u8; 65537],
-) -> Option<RunFiles<'a>> {
-    Some(RunFiles {
-        tree: load(tree_name, files, stdin, errors, tree)?,
-        trace: load(trace_name, files, stdin, errors, trace)?,
-    })
+) -> Option<NamedFile<'a>>
+    ensures { IfSome result (λ f. f.name.now ≡ name.now) }
+{
+    let n = input::load(name, s.out, stdin, s.errors, buf)?;
+    let bytes = file_bytes(buf, n);
+    Some(NamedFile { name, bytes })
 }
 
 // The refusal: the line of document 01, and for a person the file's name and what is wrong.
-fn refuse(out: &impl Print, errors: &impl Print, file: FileRead, number: u8, line: u32) {
-    write_text(
-        out,
-        errors,
-        |page| listing::refusal_text(number, line, page),
-    );
-    reasons::explain(errors, file.name, false, file.bytes, number, line);
+fn refuse(s: &Streams<impl Print, impl Print>, file: NamedFile<'_>, number: u8, line: u32) {
+    show_text(s, |page| listing::refusal_text(number, line, page));
+    reasons::explain(s.errors, file.name, false, file.bytes, number, line);
 }
 
-fn print_bytes<F: FnOnce(&[u8], &mut [u8; 65536]) -> Printed>(
-    out: &impl Print,
-    errors: &impl Print,
-    file: FileRead,
-    text: F,
+// Writes what `print` puts into a page of the file's tree, or its refusal.
+fn print_tree<F: FnOnce(&[u8], &mut [u8; 65536]) -> Printed>(
+    s: &Streams<impl Print, impl Print>,
+    file: NamedFile<'_>,
+    print: F,
 )
-    requires { F.IsAlwaysCallable text }
+    requires { F.IsAlwaysCallable print }
 {
     let mut page = [0u8; 65536];
-    let done = text(file.bytes, &mut page);
+    let done = print(file.bytes, &mut page);
     if done.number != 0 {
-        refuse(out, errors, file, done.number, done.line);
+        refuse(s, file, done.number, done.line);
         return;
     }
-    input::write_out(out, errors, page_text(&page, done.bytes));
+    input::write_out(s.out, s.errors, page_text(&page, done.bytes));
 }
 
-fn print_file<F: FnOnce(&[u8], &mut [u8; 65536]) -> Printed>(
-    rt: &(impl Files + Print),
+fn print_file<F: FnOnce(&[u8], &mut [u8; 65536]) -> Printed + Drop>(
+    s: &Streams<impl Files + Print, impl Print>,
     stdin: &mut impl Read,
-    errors: &impl Print,
     name: &[u8],
-    text: F,
+    print: F,
 )
-    requires { F.IsAlwaysCallable text }
+    requires { F.IsAlwaysCallable print }
 {
-    let mut tree = [0u8; 65537];
-    let Some(file) = load(name, rt, stdin, errors, &mut tree) else {
+    let mut buf = [0u8; 65537];
+    let Some(file) = load(s, stdin, name, &mut buf) else {
         return;
     };
-    print_bytes(rt, errors, file, text);
+    print_tree(s, file, print);
 }
 
-// What the first three words ask of a program with this usage, this help and this text of a tree file.
+// What the first three words ask of a program of one tree file: its usage, its help, or what it prints of the file's tree.
 pub fn run<
-    U: FnOnce(&mut [u8; 65536]) -> usize,
-    H: FnOnce(&mut [u8; 65536]) -> usize,
-    F: FnOnce(&[u8], &mut [u8; 65536]) -> Printed,
+    U: FnOnce(&mut [u8; 65536]) -> usize + Drop,
+    H: FnOnce(&mut [u8; 65536]) -> usize + Drop,
+    F: FnOnce(&[u8], &mut [u8; 65536]) -> Printed + Drop,
 >(
-    rt: &(impl Env + Files + Print),
+    s: &Streams<impl Env + Files + Print, impl Print>,
     stdin: &mut (impl Read + IsTerminal),
-    errors: &impl Print,
     usage: U,
     help: H,
-    text: F,
+    print: F,
 )
     requires usage { U.IsAlwaysCallable usage }
     requires help { H.IsAlwaysCallable help }
-    requires text { F.IsAlwaysCallable text }
+    requires print { F.IsAlwaysCallable print }
 {
     let mut first = [0u8; 131072];
     let mut second = [0u8; 131072];
     let mut third = [0u8; 131072];
-    let a = input::word(rt, 1, &mut first);
-    let b = input::word(rt, 2, &mut second);
-    let c = input::word(rt, 3, &mut third);
-    let name = &first[0..a];
+    let name = input::word(s.out, 1, &mut first);
     let terminal = stdin.is_terminal();
     let asked = usage::file_asked(
-        input::words(rt),
+        input::words(s.out),
         name,
-        &second[0..b],
-        &third[0..c],
+        input::word(s.out, 2, &mut second),
+        input::word(s.out, 3, &mut third),
         terminal,
     );
     match asked {
-        Asked::Usage => say_text(errors, usage),
+        Asked::Usage => say_text(s, usage),
         Asked::Help => {
-            write_text(rt, errors, help);
+            show_text(s, help);
         }
-        Asked::Run(Source::Input) => print_file(rt, stdin, errors, b"-", text),
-        Asked::Run(Source::File) => print_file(rt, stdin, errors, name, text),
+        Asked::Run(Source::Input) => print_file(s, stdin, b"-", print),
+        Asked::Run(Source::File) => print_file(s, stdin, name, print),
     }
 }

@@ -2,13 +2,16 @@
 // output. A refusal is one line there, and one line in words on standard error.
 #![tactic(auto)]
 
-use printing::run;
+use printing::{Streams, run};
 
 fn main(rt: HostRuntime) {
+    let s = &Streams {
+        out: &rt,
+        errors: &rt.stderr(),
+    };
     run(
-        &rt,
+        s,
         &mut rt.stdin(),
-        &rt.stderr(),
         usage::report_usage,
         usage::report_help,
         plan::report,

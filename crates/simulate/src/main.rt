@@ -4,101 +4,104 @@
 #![tactic(auto)]
 
 use answers::{Outcome, channel_number};
-use printing::{RunFiles, load_both, say_text, write_pages, write_text};
+use printing::{NamedFile, Streams, load, say_text, show_pages, show_text};
 use reasons::explain;
 use simulation::{Part, Simulation};
 use std::io::Read;
 use std::rt::Files;
 use usage::Asked;
 
+// The pages of the outcome's text: a run has at most 65.
+fn show(s: &Streams<impl Print, impl Print>, o: Outcome, served: &[u8]) {
+    let count = simulation::page_count(o, served).min(65);
+    show_pages(s, count as u32, |page, out| {
+        simulation::page_text(o, served, page, out)
+    });
+}
+
 // What was refused, if anything was.
-fn explain_outcome(errors: &impl Print, o: Outcome, slots: usize, files: RunFiles) {
-    let (name, trace, bytes) = match simulation::refused_part(o, slots) {
-        None => return,
-        Some(Part::Tree) => (files.tree.name, false, files.tree.bytes),
-        Some(Part::Word) => (&b"SLOTS"[..], true, files.trace.bytes),
-        Some(Part::Trace) => (files.trace.name, true, files.trace.bytes),
+fn explain_outcome(
+    errors: &impl Print,
+    o: Outcome,
+    slots: usize,
+    tree: NamedFile<'_>,
+    trace: NamedFile<'_>,
+) {
+    let Some(part) = simulation::refused_part(o, slots) else {
+        return;
     };
-    explain(errors, name, trace, bytes, o.number, o.line);
+    match part {
+        Part::Tree => explain(errors, tree.name, false, tree.bytes, o.number, o.line),
+        Part::Word => explain(errors, b"SLOTS", true, trace.bytes, o.number, o.line),
+        Part::Trace => explain(errors, trace.name, true, trace.bytes, o.number, o.line),
+    }
 }
 
 // Runs over the buffer, of a byte for each slot asked.
 fn run_over(
-    out: &impl Print,
-    errors: &impl Print,
+    s: &Streams<impl Print, impl Print>,
     served: &mut [u8],
     channel: u8,
-    files: RunFiles,
+    tree: NamedFile<'_>,
+    trace: NamedFile<'_>,
 ) {
-    let o = razhikum::razhikum_run(files.tree.bytes, channel, files.trace.bytes, served);
-    let served = &served[..];
-    write_pages(
-        out,
-        errors,
-        simulation::page_count(o, served),
-        |page, text| simulation::page_text(o, served, page, text),
-    );
-    explain_outcome(errors, o, served.len(), files);
+    let o = razhikum::razhikum_run(tree.bytes, channel, trace.bytes, served);
+    show(s, o, served);
+    explain_outcome(s.errors, o, served.len(), tree, trace);
 }
 
 // One slot more than a run may have shows that more were asked.
-fn run_slots(out: &impl Print, errors: &impl Print, asked: Simulation, files: RunFiles) {
+fn run_slots(
+    s: &Streams<impl Print, impl Print>,
+    run: Simulation,
+    tree: NamedFile<'_>,
+    trace: NamedFile<'_>,
+) {
     let mut served = [0u8; 65537];
-    if asked.slots <= 65537 {
-        run_over(
-            out,
-            errors,
-            &mut served[..asked.slots],
-            channel_number(asked.channel),
-            files,
-        );
+    if run.slots <= 65537 {
+        let channel = channel_number(run.channel);
+        run_over(s, &mut served[..run.slots], channel, tree, trace);
     }
 }
 
 fn run_files(
-    rt: &(impl Files + Print),
+    s: &Streams<impl Files + Print, impl Print>,
     stdin: &mut impl Read,
-    errors: &impl Print,
-    asked: Simulation,
+    run: Simulation,
     tree_name: &[u8],
     trace_name: &[u8],
 ) {
-    let mut tree = [0u8; 65537];
-    let mut trace = [0u8; 65537];
-    let Some(files) = load_both(
-        tree_name, trace_name, rt, stdin, errors, &mut tree, &mut trace,
-    ) else {
+    let mut tree_bytes = [0u8; 65537];
+    let mut trace_bytes = [0u8; 65537];
+    let Some(tree) = load(s, stdin, tree_name, &mut tree_bytes) else {
         return;
     };
-    run_slots(rt, errors, asked, files);
+    let Some(trace) = load(s, stdin, trace_name, &mut trace_bytes) else {
+        return;
+    };
+    run_slots(s, run, tree, trace);
 }
 
 // What the first four words ask.
 fn main(rt: HostRuntime) {
-    let stdin = &mut rt.stdin();
-    let errors = &rt.stderr();
+    let s = &Streams {
+        out: &rt,
+        errors: &rt.stderr(),
+    };
     let mut first = [0u8; 131072];
     let mut second = [0u8; 131072];
     let mut third = [0u8; 131072];
     let mut fourth = [0u8; 131072];
-    let k = input::word(&rt, 1, &mut first);
-    let n = input::word(&rt, 2, &mut second);
-    let m = input::word(&rt, 3, &mut third);
-    let j = input::word(&rt, 4, &mut fourth);
-    let tree_name = &second[0..n];
-    let trace_name = &third[0..m];
-    let asked = simulation::simulate_asked(
-        input::words(&rt),
-        &first[0..k],
-        tree_name,
-        trace_name,
-        &fourth[0..j],
-    );
+    let channel = input::word(&rt, 1, &mut first);
+    let tree = input::word(&rt, 2, &mut second);
+    let trace = input::word(&rt, 3, &mut third);
+    let slots = input::word(&rt, 4, &mut fourth);
+    let asked = simulation::simulate_asked(input::words(&rt), channel, tree, trace, slots);
     match asked {
-        Asked::Usage => say_text(errors, usage::simulate_usage),
+        Asked::Usage => say_text(s, usage::simulate_usage),
         Asked::Help => {
-            write_text(&rt, errors, usage::simulate_help);
+            show_text(s, usage::simulate_help);
         }
-        Asked::Run(asked) => run_files(&rt, stdin, errors, asked, tree_name, trace_name),
+        Asked::Run(run) => run_files(s, &mut rt.stdin(), run, tree, trace),
     }
 }

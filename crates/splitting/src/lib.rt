@@ -12,11 +12,11 @@ ghost use Rattle.burst.specs.Answers.{split_means};
 ghost use Rattle.splitting.specs.Splitting.{burst_asked, split_asked, burst_part, denied_part, refused, reply_of, reply_in, tree_denied, reply_from, starts_from, beats_from};
 ghost use Rattle.splitting.specs.Lines.{piece_text, count_text, pieces_text, list_text, reply_text};
 
-use burst::{Burst, SplitAnswer};
+use burst::Burst;
 use lines::{FileAnswer, answer_line, answer_number};
 use listing::refusal_text;
 use model::access::beat_limit;
-use model::{Tree, number};
+use model::{Refusal, Tree, number};
 use put::{put_bytes, put_field};
 use reader::read_tree;
 use usage::{Asked, Denied, address_asked, asks_help, help_asked, is_option, number_asked};
@@ -105,12 +105,12 @@ fn refused(part: Part, number: u8, line: u32) -> Denied<Part>
 }
 
 // The answer for a tree that was read, where a burst has at most `limit` beats.
-fn reply_of(limit: u32, b: Burst, answer: SplitAnswer) -> Result<u32, Denied<Part>>
+fn reply_of(limit: u32, b: Burst, answer: Result<u32, Refusal>) -> Result<u32, Denied<Part>>
     ensures { result ≡ reply_of limit b (split_means answer) }
 {
     match answer {
-        SplitAnswer::Pieces(k) => Ok(k),
-        SplitAnswer::Refused(r) => {
+        Ok(k) => Ok(k),
+        Err(r) => {
             let n = number(r);
             Err(refused(denied_part(limit, b, n), n, 0))
         }

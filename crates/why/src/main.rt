@@ -3,93 +3,101 @@
 // error.
 #![tactic(auto)]
 
-use inquiry::{Part, Transaction};
-use printing::{RunFiles, load_both, say_text, write_pages, write_text};
+use inquiry::{Part, Transaction, Waited};
+use printing::{NamedFile, Streams, load, say_text, show_pages, show_text};
 use reasons::explain;
 use std::io::Read;
 use std::rt::Files;
 use usage::{Asked, Denied};
 
-// What was refused, by this number at this line.
-fn explain_part(errors: &impl Print, e: Denied<Part>, files: RunFiles) {
-    let (name, trace, bytes) = match e.part {
-        Part::Tree => (files.tree.name, false, files.tree.bytes),
-        Part::Trace => (files.trace.name, true, files.trace.bytes),
-        Part::Accelerator => (&b"ACC"[..], true, files.trace.bytes),
-        Part::Number => (&b"NUMBER"[..], true, files.trace.bytes),
-    };
-    explain(errors, name, trace, bytes, e.number, e.line);
+// The pages of the reply's text: 32,768 lines and the last have at most 33.
+fn show(
+    s: &Streams<impl Print, impl Print>,
+    reply: Result<Waited, Denied<Part>>,
+    list: &[u8; 65536],
+) {
+    let count = inquiry::page_count(reply, list).min(33);
+    show_pages(s, count as u32, |page, out| {
+        inquiry::page_text(reply, list, page, out)
+    });
 }
 
-fn ask(out: &impl Print, errors: &impl Print, asked: Transaction, files: RunFiles) {
+// What was refused, by which number and at which line.
+fn explain_part(
+    errors: &impl Print,
+    e: Denied<Part>,
+    tree: NamedFile<'_>,
+    trace: NamedFile<'_>,
+) {
+    match e.part {
+        Part::Tree => explain(errors, tree.name, false, tree.bytes, e.number, e.line),
+        Part::Trace => explain(errors, trace.name, true, trace.bytes, e.number, e.line),
+        Part::Accelerator => explain(errors, b"ACC", true, trace.bytes, e.number, e.line),
+        Part::Number => explain(errors, b"NUMBER", true, trace.bytes, e.number, e.line),
+    }
+}
+
+fn ask(
+    s: &Streams<impl Print, impl Print>,
+    x: Transaction,
+    tree: NamedFile<'_>,
+    trace: NamedFile<'_>,
+) {
     let mut list = [0u8; 65536];
     let reply = inquiry::inquire(
-        files.tree.bytes,
-        asked.channel,
-        files.trace.bytes,
-        asked.accelerator,
-        asked.number,
+        tree.bytes,
+        x.channel,
+        trace.bytes,
+        x.accelerator,
+        x.number,
         &mut list,
     );
-    let list = &list;
-    write_pages(
-        out,
-        errors,
-        inquiry::page_count(reply, list),
-        |page, text| inquiry::page_text(reply, list, page, text),
-    );
+    show(s, reply, &list);
     if let Err(e) = reply {
-        explain_part(errors, e, files);
+        explain_part(s.errors, e, tree, trace);
     }
 }
 
 fn ask_files(
-    rt: &(impl Files + Print),
+    s: &Streams<impl Files + Print, impl Print>,
     stdin: &mut impl Read,
-    errors: &impl Print,
-    asked: Transaction,
+    x: Transaction,
     tree_name: &[u8],
     trace_name: &[u8],
 ) {
-    let mut tree = [0u8; 65537];
-    let mut trace = [0u8; 65537];
-    let Some(files) = load_both(
-        tree_name, trace_name, rt, stdin, errors, &mut tree, &mut trace,
-    ) else {
+    let mut tree_bytes = [0u8; 65537];
+    let mut trace_bytes = [0u8; 65537];
+    let Some(tree) = load(s, stdin, tree_name, &mut tree_bytes) else {
         return;
     };
-    ask(rt, errors, asked, files);
+    let Some(trace) = load(s, stdin, trace_name, &mut trace_bytes) else {
+        return;
+    };
+    ask(s, x, tree, trace);
 }
 
 // What the first five words ask.
 fn main(rt: HostRuntime) {
-    let stdin = &mut rt.stdin();
-    let errors = &rt.stderr();
+    let s = &Streams {
+        out: &rt,
+        errors: &rt.stderr(),
+    };
     let mut first = [0u8; 131072];
     let mut second = [0u8; 131072];
     let mut third = [0u8; 131072];
     let mut fourth = [0u8; 131072];
     let mut fifth = [0u8; 131072];
-    let k = input::word(&rt, 1, &mut first);
-    let n = input::word(&rt, 2, &mut second);
-    let m = input::word(&rt, 3, &mut third);
-    let i = input::word(&rt, 4, &mut fourth);
-    let j = input::word(&rt, 5, &mut fifth);
-    let tree_name = &second[0..n];
-    let trace_name = &third[0..m];
-    let asked = inquiry::why_asked(
-        input::words(&rt),
-        &first[0..k],
-        tree_name,
-        trace_name,
-        &fourth[0..i],
-        &fifth[0..j],
-    );
+    let channel = input::word(&rt, 1, &mut first);
+    let tree = input::word(&rt, 2, &mut second);
+    let trace = input::word(&rt, 3, &mut third);
+    let acc = input::word(&rt, 4, &mut fourth);
+    let number = input::word(&rt, 5, &mut fifth);
+    let asked = inquiry::why_asked(input::words(&rt), channel, tree, trace, acc, number);
     match asked {
-        Asked::Usage => say_text(errors, usage::why_usage),
+        Asked::Usage => say_text(s, usage::why_usage),
         Asked::Help => {
-            write_text(&rt, errors, usage::why_help);
+            show_text(s, usage::why_help);
         }
-        Asked::Run(asked) => ask_files(&rt, stdin, errors, asked, tree_name, trace_name),
+        Asked::Run(x) => ask_files(s, &mut rt.stdin(), x, tree, trace),
     }
 }

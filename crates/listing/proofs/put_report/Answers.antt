@@ -22,7 +22,7 @@ returns-in_default c =
 
 pub loop-a-preserved : goal.loop-a-preserved
 loop-a-preserved c =
-    let m = row_made _ _ _ c.requires c.loop-a-test.true c.bound.ensures _ c.in-Bound.is in (
+    let m = row_made _ _ _ c.requires c.loop-a-test.true c.bound.ensures _ c.in-Ok.is in (
       lines_turn 0 174 [] (λ i. row_text i (analysis_of c.args.t i)) _ c.loop-a.invariant.0 (put_as (ap (row_text c.loop-a.a) m) c.put_row-next.ensures),
       omega (arith, c.loop-a-test.true),
       all_turn _ (λ i. (analysis_of c.args.t i).meets) _ _ c.loop-a.invariant.2 (ap (λ (r : Analysis). r.meets) m),

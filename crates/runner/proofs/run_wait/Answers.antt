@@ -1,6 +1,5 @@
 -- `run_wait` meets its contract: each return is the ending that the tests before it pick, and what is told is told by a run alone.
 use mathlib.Core.Path.{ap, sym, ◌∙◌}
-use Rattle.machine.specs.Answers.{fresh_means}
 use Rattle.trace.proofs.Traces.{reads_kept}
 use Rattle.runner.specs.Run.{start}
 use Rattle.runner.specs.Places.{left_at}
@@ -16,7 +15,7 @@ returns-in_default c =
     let fresh = c in
     let x = fresh.args in
     let u = c.untold.ensures in
-    let no = unbegun x.t x.channel _ _ fresh.fresh-start.ensures _ (ap fresh_means c.in_default.is) in
+    let no = unbegun x.t x.channel _ fresh.fresh.ensures _ c.in_default.is in
     let r = ran_broken x.t x.channel x.trace.now x.out.now no in record {
       answer = ap run_means u.answer ∙ r.0;
       bytes = r.1;
@@ -29,7 +28,7 @@ returns-then-out-gt65536 c =
     let fresh = large in
     let x = fresh.args in
     let u = c.untold-then-out-gt65536.ensures in
-    let g = begun x.t x.channel _ _ fresh.fresh-start.ensures (ap fresh_means large.in-Started.is) in
+    let g = begun x.t x.channel _ fresh.fresh.ensures _ large.in-Ok.is in
     let r = ran_size x.t x.channel x.trace.now x.out.now g.0 large.if-out-gt65536.true in record {
       answer = ap run_means u.answer ∙ r.0;
       bytes = r.1;
@@ -43,7 +42,7 @@ run_slots-requires c =
     let small = read in
     let fresh = small in
     let x = fresh.args in
-    let g = begun x.t x.channel _ _ fresh.fresh-start.ensures (ap fresh_means small.in-Started.is) in
+    let g = begun x.t x.channel _ fresh.fresh.ensures _ small.in-Ok.is in
     let y = sym (read.read_requests.ensures ∙ reads_kept x.t _ g.0) ∙ accepted.in-Accepted.is in
     (g.0, g.1, small.if-out-gt65536.false, accepts_start x.t x.trace.now y, asked_known x.t x.a x.k _ c.number_asked-number.ensures)
 
@@ -55,7 +54,7 @@ returns-in-Accepted c =
     let small = read in
     let fresh = small in
     let x = fresh.args in
-    let g = begun x.t x.channel _ _ fresh.fresh-start.ensures (ap fresh_means small.in-Started.is) in
+    let g = begun x.t x.channel _ fresh.fresh.ensures _ small.in-Ok.is in
     let y = sym (read.read_requests.ensures ∙ reads_kept x.t _ g.0) ∙ accepted.in-Accepted.is in
     let e = ran_read x.t x.channel x.trace.now x.out.now g.0 small.if-out-gt65536.false _ y in
     let w = told_read_lem x.t x.channel x.trace.now x.a x.k _ g.0 small.if-out-gt65536.false _ y in
@@ -75,7 +74,7 @@ returns-in-Refused c =
     let fresh = small in
     let x = fresh.args in
     let u = c.untold-in-Refused.ensures in
-    let g = begun x.t x.channel _ _ fresh.fresh-start.ensures (ap fresh_means small.in-Started.is) in
+    let g = begun x.t x.channel _ fresh.fresh.ensures _ small.in-Ok.is in
     let y = sym (read.read_requests.ensures ∙ reads_kept x.t _ g.0) ∙ why.in-Refused.is in
     let e = ran_read x.t x.channel x.trace.now x.out.now g.0 small.if-out-gt65536.false _ y in record {
       answer = ap run_means u.answer ∙ e.0;
@@ -91,7 +90,7 @@ returns-in-Broken c =
     let fresh = small in
     let x = fresh.args in
     let u = c.untold-in-Broken.ensures in
-    let g = begun x.t x.channel _ _ fresh.fresh-start.ensures (ap fresh_means small.in-Started.is) in
+    let g = begun x.t x.channel _ fresh.fresh.ensures _ small.in-Ok.is in
     let y = sym (read.read_requests.ensures ∙ reads_kept x.t _ g.0) ∙ broken.in-Broken.is in
     let e = ran_read x.t x.channel x.trace.now x.out.now g.0 small.if-out-gt65536.false _ y in record {
       answer = ap run_means u.answer ∙ e.0;
