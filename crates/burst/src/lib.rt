@@ -32,14 +32,7 @@ struct Lists {
 fn is_size(size: u32) -> bool
     ensures { result ≡ is_size size }
 {
-    (size == 1)
-        | (size == 2)
-        | (size == 4)
-        | (size == 8)
-        | (size == 16)
-        | (size == 32)
-        | (size == 64)
-        | (size == 128)
+    matches!(size, 1 | 2 | 4 | 8 | 16 | 32 | 64 | 128)
 }
 
 // Whether beats and beat size are those of a burst, which has at most `limit` beats.
@@ -128,11 +121,9 @@ fn lists_of(n: u32, b: Burst, k: u32) -> Lists
 {
     let mut starts = [0u32; 256];
     let mut beats = [0u32; 256];
-    let mut i: usize = 0;
-    while i < 256 {
+    for i in 0..256usize {
         starts[i] = start_entry(n, b, k, i as u32);
         beats[i] = beats_entry(n, b, k, i as u32);
-        i += 1;
     }
     Lists {
         starts: starts,

@@ -4,7 +4,7 @@
 
 ghost use Rattle.std.specs.Prelude.{◌≡◌, ◌≤◌, ◌*◌, length, take};
 ghost use Rattle.put.specs.Page.{Written};
-ghost use Rattle.put.specs.Put.{Put};
+ghost use Rattle.put.specs.Texts.{Puts};
 ghost use Rattle.reader.specs.TreeFile.{read_tree};
 ghost use Rattle.usage.specs.Usage.{channel_asked};
 ghost use Rattle.waits.specs.Answers.{why_means};
@@ -12,11 +12,10 @@ ghost use Rattle.razhikum.specs.Exports.{list_from};
 ghost use Rattle.inquiry.specs.Inquiry.{wait_asked, why_asked, refused, reply_of, reply_from};
 ghost use Rattle.inquiry.specs.Lines.{line_text, lines_text, count_text, wait_page, pages_of, reply_page};
 
-use answers::is_accepted;
 use lines::{answer_line, answer_number};
 use listing::refusal_text;
 use model::{Channel, number};
-use put::{put_bytes, put_field};
+use put::Text;
 use reader::read_tree;
 use usage::{Asked, Denied, asks_help, channel_asked, help_asked, number_asked, two_files};
 use waits::{WhyAnswer, why};
@@ -115,6 +114,7 @@ fn reply_of(answer: WhyAnswer) -> Result<Waited, Denied<Part>>
 
 // Why transaction k of accelerator a waited on a channel: the tree and the trace are read, and the list of its slots is put into `out`,
 // as far as it has room; a refusal leaves `out` as it was.
+#[tactic(auto, unfolding(crate::specs::Inquiry::reply_from))]
 pub fn inquire(
     tree: &[u8],
     channel: Channel,
@@ -126,66 +126,62 @@ pub fn inquire(
     ensures answer { result ≡ reply_from (read_tree tree.now) channel trace.now a k }
     ensures list { out.new ≡ list_from (read_tree tree.now) channel trace.now a k out.old }
 {
-    let x = read_tree(tree);
-    let answer = x.answer;
-    if !is_accepted(answer) {
-        return refused(Part::Tree, answer_number(answer), answer_line(answer));
+    match read_tree(tree) {
+        Ok(t) => reply_of(why(t, channel, trace, a, k, out)),
+        Err(e) => refused(Part::Tree, answer_number(Err(e)), answer_line(Err(e))),
     }
-    reply_of(why(x.tree, channel, trace, a, k, out))
 }
 
 // The line of a slot: its number, the accelerator served, and where the paths meet, 255 for own.
-fn put_line(out: &mut [u8], at: usize, slot: u64, served: u8, met: u8) -> usize
-    ensures { Put 63 out.old at (line_text slot served met) out.new result }
+fn put_line(text: &mut Text, slot: u64, served: u8, met: u8)
+    ensures { Puts 63 text.old (line_text slot served met) text.new }
 {
-    let next = put_field(out, at, slot, b'\t');
-    let next = put_field(out, next, served as u64, b'\t');
+    text.field(slot, b'\t');
+    text.field(served as u64, b'\t');
     if met == 255 {
-        return put_bytes(out, next, b"own\n");
+        text.bytes(b"own\n");
+    } else {
+        text.field(met as u64, b'\n');
     }
-    put_field(out, next, met as u64, b'\n')
 }
 
 // The lines of a page: `pairs` has two bytes for each slot listed, and `from` is the first one.
-fn put_lines(out: &mut [u8], from: u32, pairs: &[u8], page: u32) -> usize
-    ensures { Put 64512 out.old 0 (lines_text from pairs.now page) out.new result }
+fn put_lines(text: &mut Text, from: u32, pairs: &[u8], page: u32)
+    ensures { Puts 64512 text.old (lines_text from pairs.now page) text.new }
 {
     let first = 1024 * (page as usize);
-    let listed = pairs.len() / 2;
-    let mut next = 0;
-    let mut i = 0;
-    while i < 1024 && first + i < listed {
+    let left = (pairs.len() / 2).saturating_sub(first);
+    for i in 0..left.min(1024) {
         let j = first + i;
         let slot = from as u64 + j as u64;
-        next = put_line(out, next, slot, pairs[2 * j], pairs[2 * j + 1]);
-        i += 1;
+        put_line(text, slot, pairs[2 * j], pairs[2 * j + 1]);
     }
-    next
 }
 
 // The last line: the count of all slots waited.
-fn put_count(out: &mut [u8], at: usize, count: u64) -> usize
-    ensures { Put 28 out.old at (count_text count) out.new result }
+fn put_count(text: &mut Text, count: u64)
+    ensures { Puts 28 text.old (count_text count) text.new }
 {
-    let next = put_bytes(out, at, b"waited\t");
-    put_field(out, next, count, b'\n')
+    text.bytes(b"waited\t");
+    text.field(count, b'\n');
 }
 
-fn put_page(out: &mut [u8], from: u32, count: u32, pairs: &[u8], page: u32) -> usize
-    ensures { Put 64540 out.old 0 (wait_page from count pairs.now page) out.new result }
+fn put_page(text: &mut Text, from: u32, count: u32, pairs: &[u8], page: u32)
+    ensures { Puts 64540 text.old (wait_page from count pairs.now page) text.new }
 {
-    let next = put_lines(out, from, pairs, page);
+    put_lines(text, from, pairs, page);
     if page as usize == pairs.len() / 2 / 1024 {
-        return put_count(out, next, count as u64);
+        put_count(text, count as u64);
     }
-    next
 }
 
 // A page of the wait.
 fn wait_page(from: u32, count: u32, pairs: &[u8], page: u32, out: &mut [u8; 65536]) -> usize
     ensures { Written (wait_page from count pairs.now page) out.old out.new result }
 {
-    put_page(out, from, count, pairs, page)
+    let mut text = Text::new(out);
+    put_page(&mut text, from, count, pairs, page);
+    text.len()
 }
 
 // How many bytes of the list are pairs of slots: two for each, and at most all.
@@ -193,10 +189,7 @@ fn listed_length(count: u32, list: &[u8]) -> usize
     ensures { (result ≤ length list.now) × (take result list.now ≡ take (2 * count) list.now) }
 {
     let n = 2 * (count as usize);
-    if n <= list.len() {
-        return n;
-    }
-    list.len()
+    n.min(list.len())
 }
 
 // How many pages the text of a reply has; `list` is the buffer with the list.

@@ -14,7 +14,7 @@ ghost use Rattle.runner.specs.Wait.{no_wait, waits_after, used_by, told_of};
 ghost use Rattle.runner.specs.Places.{left_at, Accepts};
 
 use counts::tables::table_of;
-use lines::FileAnswer;
+use lines::FileError;
 use machine::fresh;
 use model::{Channel, Refusal, State, Tree};
 use steps::{after_slot, arrays_from, before_slot, below, home_of, is_done};
@@ -166,12 +166,12 @@ pub fn run_wait(t: Tree, channel: Channel, trace: &[u8], a: u8, k: u32, out: &mu
         return untold(RunAnswer::Refused(Refusal::Limit, 0));
     }
     match read_requests(t.accs, trace) {
-        FileAnswer::Accepted => {
+        Ok(()) => {
             let number = number_asked(t.accs, a, k);
             run_slots(t, channel, start, trace, a, number, out)
         }
-        FileAnswer::Refused(why, line) => untold(RunAnswer::Refused(why, line)),
-        FileAnswer::Broken => untold(RunAnswer::Broken),
+        Err(FileError::Refused(why, line)) => untold(RunAnswer::Refused(why, line)),
+        Err(FileError::Broken) => untold(RunAnswer::Broken),
     }
 }
 

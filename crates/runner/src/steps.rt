@@ -9,7 +9,7 @@ use crate::{DueLines, IDLE, NextLine, SlotEnd};
 use admit::Arrays;
 use counts::{Ports, Table};
 use rules::less_one;
-use trace::{NextRequest, request_at};
+use trace::request_at;
 
 // What an accelerator holds with a line's count added: no more than the type has.
 fn more_held(held: u32, count: u8) -> u32
@@ -35,7 +35,7 @@ fn take_due(trace: &[u8], slot: u32, line: NextLine, held: &mut [u32; 32]) -> Du
     }
     let mut place = line.at;
     while place < trace.len() {
-        let NextRequest::Due(request, next) = request_at(trace, place) else {
+        let Some((request, next)) = request_at(trace, place) else {
             return DueLines {
                 next: NextLine {
                     at: place,

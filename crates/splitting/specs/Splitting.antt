@@ -20,10 +20,8 @@ use Rattle.folds.specs.Fold.{pick, within}
 use Rattle.model.specs.declared.Tree.{Tree as Plan}
 use Rattle.model.specs.Tree.{beat_limit}
 use Rattle.text.specs.Text.{decimal}
-use Rattle.lines.specs.declared.FileAnswer.{FileAnswer}
-use Rattle.lines.specs.declared.FileAnswer.TheVariants.{Accepted, Refused as FileRefused, Broken}
-use Rattle.lines.specs.Answer.{answer_number, answer_line}
-use Rattle.placing.specs.declared.TreeRead.{TreeRead}
+use Rattle.lines.specs.Answer.{FileAnswer, Accepted, Refused as FileRefused, Broken, answer_number, answer_line}
+use Rattle.placing.specs.Placing.{TreeRead}
 use Rattle.usage.specs.declared.Asked.{Asked}
 use Rattle.usage.specs.declared.Asked.TheVariants.{Usage, Help, Run}
 use Rattle.usage.specs.declared.Denied.{Denied}

@@ -8,7 +8,7 @@ ghost use Rattle.put.specs.Page.{Written};
 ghost use Rattle.usage.specs.Usage.{asks_help, help_asked, is_option, is_dash, two_files, channel_asked, number_asked, address_asked, file_asked, report_usage, report_help, rewrite_usage, rewrite_help, simulate_usage, simulate_help, why_usage, why_help, split_usage, split_help};
 
 use model::Channel;
-use put::put_bytes;
+use put::put_text;
 use text::{Field, read_field, same_bytes};
 
 // What a program does by its words: it says its usage or its help, or runs as they ask.
@@ -144,20 +144,15 @@ pub fn file_asked(
 pub fn report_usage(out: &mut [u8; 65536]) -> usize
     ensures { Written report_usage out.old out.new result }
 {
-    put_bytes(
-        out,
-        0,
-        b"usage: report [FILE]\nexample: report scanner.tree\n",
-    )
+    put_text(out, b"usage: report [FILE]\nexample: report scanner.tree\n")
 }
 
 // What `report` says where help is asked for.
 pub fn report_help(out: &mut [u8; 65536]) -> usize
     ensures { Written report_help out.old out.new result }
 {
-    put_bytes(
+    put_text(
         out,
-        0,
         b"report [FILE]: from a tree file, whether each accelerator's job meets its period at worst.\n\
         FILE is a tree file; standard input without one, or with -.\n\
         Columns: accelerator, level, sr and sw (share of reads and of writes), yr and yw (interfering reads and writes),\n\
@@ -171,9 +166,8 @@ pub fn report_help(out: &mut [u8; 65536]) -> usize
 pub fn rewrite_usage(out: &mut [u8; 65536]) -> usize
     ensures { Written rewrite_usage out.old out.new result }
 {
-    put_bytes(
+    put_text(
         out,
-        0,
         b"usage: rewrite [FILE]\nexample: rewrite scanner.tree\n",
     )
 }
@@ -182,9 +176,8 @@ pub fn rewrite_usage(out: &mut [u8; 65536]) -> usize
 pub fn rewrite_help(out: &mut [u8; 65536]) -> usize
     ensures { Written rewrite_help out.old out.new result }
 {
-    put_bytes(
+    put_text(
         out,
-        0,
         b"rewrite [FILE]: writes the tree of a tree file back as text; two files of the same tree give the same text.\n\
         FILE is a tree file; standard input without one, or with -.\n\
         The bus or bus3 line, without a return delay of 0; the int lines by number; the acc lines by interconnect, then by port.\n\
@@ -198,9 +191,8 @@ pub fn rewrite_help(out: &mut [u8; 65536]) -> usize
 pub fn simulate_usage(out: &mut [u8; 65536]) -> usize
     ensures { Written simulate_usage out.old out.new result }
 {
-    put_bytes(
+    put_text(
         out,
-        0,
         b"usage: simulate CHANNEL TREE TRACE [SLOTS]\nexample: simulate read scanner.tree scanner.trace 100\n",
     )
 }
@@ -209,9 +201,8 @@ pub fn simulate_usage(out: &mut [u8; 65536]) -> usize
 pub fn simulate_help(out: &mut [u8; 65536]) -> usize
     ensures { Written simulate_help out.old out.new result }
 {
-    put_bytes(
+    put_text(
         out,
-        0,
         b"simulate CHANNEL TREE TRACE [SLOTS]: runs a trace of requests on a tree, and says who is served in each slot.\n\
         CHANNEL is read or write: reads and writes travel apart, and a trace is of one channel.\n\
         TREE and TRACE are files; one of the two may be -, standard input. SLOTS is 0 to 65536, or 65536 without one.\n\
@@ -226,9 +217,8 @@ pub fn simulate_help(out: &mut [u8; 65536]) -> usize
 pub fn why_usage(out: &mut [u8; 65536]) -> usize
     ensures { Written why_usage out.old out.new result }
 {
-    put_bytes(
+    put_text(
         out,
-        0,
         b"usage: why CHANNEL TREE TRACE ACC NUMBER\nexample: why read scanner.tree scanner.trace 1 3\n",
     )
 }
@@ -237,9 +227,8 @@ pub fn why_usage(out: &mut [u8; 65536]) -> usize
 pub fn why_help(out: &mut [u8; 65536]) -> usize
     ensures { Written why_help out.old out.new result }
 {
-    put_bytes(
+    put_text(
         out,
-        0,
         b"why CHANNEL TREE TRACE ACC NUMBER: runs a trace of requests on a tree, and says why a transaction waited.\n\
         CHANNEL is read or write: reads and writes travel apart, and a trace is of one channel.\n\
         TREE and TRACE are files; one of the two may be -, standard input. The run has 65536 slots at most.\n\
@@ -256,9 +245,8 @@ pub fn why_help(out: &mut [u8; 65536]) -> usize
 pub fn split_usage(out: &mut [u8; 65536]) -> usize
     ensures { Written split_usage out.old out.new result }
 {
-    put_bytes(
+    put_text(
         out,
-        0,
         b"usage: split TREE ADDRESS BEATS SIZE\nexample: split scanner.tree 4096 40 4\n",
     )
 }
@@ -267,9 +255,8 @@ pub fn split_usage(out: &mut [u8; 65536]) -> usize
 pub fn split_help(out: &mut [u8; 65536]) -> usize
     ensures { Written split_help out.old out.new result }
 {
-    put_bytes(
+    put_text(
         out,
-        0,
         b"split TREE ADDRESS BEATS SIZE: cuts a burst into pieces of the tree's burst length B.\n\
         TREE is a tree file, or -, standard input. The other words are decimal: ADDRESS is 0 to 4294967295, BEATS 1 to 256, or\n\
         to 16 where the first line of TREE is bus3, and SIZE, the bytes of a beat, 1, 2, 4, 8, 16, 32, 64 or 128.\n\

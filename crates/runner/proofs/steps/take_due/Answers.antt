@@ -31,29 +31,29 @@ returns-then-slot-request c =
     let k = c in
     let x = k.args in
     let l = k.loop-place in
-    let e = sym c.request_at.ensures ∙ c.in-Due.is in
+    let e = sym c.request_at.ensures ∙ c.in-Some.is in
     sym (left_later x.slot x.trace.now l.place l.held l.accelerators _ _ e c.if-slot-request.true) ∙ l.invariant
     ∙ sym (on_some x.slot x.trace.now x.line x.held.now (omega (arith, k.if-slot-line.false)))
 
 pub bounds-held-a : goal.bounds-held-a
 bounds-held-a c =
-    let e = sym c.request_at.ensures ∙ c.in-Due.is in
+    let e = sym c.request_at.ensures ∙ c.in-Some.is in
     omega (arith, (found _ _ _ _ e).known)
 
 pub bounds-held-a-in-loop-place : goal.bounds-held-a-in-loop-place
 bounds-held-a-in-loop-place c =
     let k = c in
-    omega (arith, (found _ _ _ _ (sym k.request_at.ensures ∙ k.in-Due.is)).known)
+    omega (arith, (found _ _ _ _ (sym k.request_at.ensures ∙ k.in-Some.is)).known)
 
 pub overflow_shl-accelerators : goal.overflow_shl-accelerators
 overflow_shl-accelerators c =
     let k = c in
-    (found _ _ _ _ (sym k.request_at.ensures ∙ k.in-Due.is)).known
+    (found _ _ _ _ (sym k.request_at.ensures ∙ k.in-Some.is)).known
 
 pub loop-place-smaller : goal.loop-place-smaller
 loop-place-smaller c =
     let k = c in
-    let F = found _ _ _ _ (sym k.request_at.ensures ∙ k.in-Due.is) in
+    let F = found _ _ _ _ (sym k.request_at.ensures ∙ k.in-Some.is) in
     omega (arith, F.later, F.inside)
 
 pub loop-place-preserved : goal.loop-place-preserved
@@ -61,9 +61,9 @@ loop-place-preserved c =
     let k = c in
     let x = k.args in
     let l = k.loop-place in
-    let e = sym k.request_at.ensures ∙ k.in-Due.is in
-    let r = k.in-Due.request in
-    let p = k.in-Due.next in
+    let e = sym k.request_at.ensures ∙ k.in-Some.is in
+    let r = k.in-Some.request in
+    let p = k.in-Some.next in
     let held = c.more_held.ensures in
     let due = c.if-slot-request.false in
     let one = shl_exact {a = 1} 1 r.accelerator 32 (lit< tt) (omega (arith, (found _ _ _ _ e).known)) ∙ one-mul (2 ^ r.accelerator) in

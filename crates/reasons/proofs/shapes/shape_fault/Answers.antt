@@ -1,4 +1,4 @@
--- `shape_row` meets its contract: its tests are those of the definition, in its order.
+-- `shape_fault` meets its contract: its tests are those of the definition, in its order.
 use mathlib.Core.Path.{ap, sym, ◌∙◌}
 use mathlib.Core.Bool.{◌&&◌}
 use Prim.Native.Nat.{ℕ}
@@ -8,7 +8,7 @@ use Rattle.folds.proofs.Folds.{picked, passed}
 use Rattle.lines.specs.declared.Line.{Line}
 use Rattle.reasons.specs.Reasons.{shape_row, record_fault}
 use Rattle.lines.proofs.Limits.{yes_not, no_not}
-use Rattle.reasons.proofs.shapes.shape_row.Goals as goal
+use Rattle.reasons.proofs.shapes.shape_fault.Goals as goal
 
 pub returns-then-line-first_byte : goal.returns-then-line-first_byte
 unfolding shape_row
