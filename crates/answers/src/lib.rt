@@ -18,7 +18,8 @@ use burst::joiner::{JoinReply, Progress};
 use lines::{FileError, answer_line, answer_number};
 use model::{Channel, Refusal, number};
 use runner::RunAnswer;
-use splitting::Reply;
+use splitting::Part;
+use usage::Denied;
 use waits::WhyAnswer;
 
 // What a reader answers. `file` says which file is refused: 0 neither, 1 the tree, 2 the trace.
@@ -284,16 +285,16 @@ pub fn row_of(answer: Result<Figures, Refusal>) -> Row
 }
 
 // How a burst is cut.
-pub fn cut_of(reply: Reply) -> Cut
+pub fn cut_of(reply: Result<u32, Denied<Part>>) -> Cut
     ensures { result ≡ cut_of reply }
 {
     match reply {
-        Reply::Refused(_, number, at) => Cut {
-            number: number,
-            line: at,
+        Err(e) => Cut {
+            number: e.number,
+            line: e.line,
             pieces: 0,
         },
-        Reply::Pieces(k) => Cut {
+        Ok(k) => Cut {
             number: 0,
             line: 0,
             pieces: k,

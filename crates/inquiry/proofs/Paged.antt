@@ -13,8 +13,8 @@ use Rattle.put.specs.declared.Text.{Text}
 use Rattle.put.specs.Texts.{Puts}
 use Rattle.put.proofs.Texts.{puts_as, puts_most}
 use Rattle.put.proofs.Pages.{pages_joined, puts_ends, puts_goes_on}
-use Rattle.inquiry.specs.declared.Reply.{Reply}
-use Rattle.inquiry.specs.declared.Reply.TheVariants.{Refused, Waited}
+use Rattle.std.specs.Prelude.{Ok, Err}
+use Rattle.inquiry.specs.Inquiry.{Reply}
 use Rattle.inquiry.specs.Lines.{pair_line, lines_text, count_text, wait_text, wait_page, listed, reply_text, pages_of, reply_page}
 
 -- "What does not fit the pairs of 65,536 bytes is counted, not listed": that many lines are printed of a wait of n slots
@@ -54,5 +54,5 @@ module _ (from n : ℕ) (ps : List ℕ) where
 -- the pages of a reply one after the other are its whole text
 pub pages_whole : (r : Reply) (bs : List ℕ) → joined (pages_of r bs) (reply_page r bs) ≡ reply_text r bs
 unfolding joined
-pages_whole (Refused p n l) bs = refl
-pages_whole (Waited n from) bs = wait_whole from n (listed n bs)
+pages_whole (Err e) bs = refl
+pages_whole (Ok w) bs = wait_whole w.admission w.count (listed w.count bs)

@@ -11,7 +11,7 @@ use input::{file_bytes, page_text};
 use plan::Printed;
 use std::io::{IsTerminal, Read};
 use std::rt::{Env, Files};
-use usage::Asked;
+use usage::{Asked, Source};
 
 // Standard output, with the system's files, and standard error.
 #[derive(Drop)]
@@ -159,7 +159,7 @@ pub fn run<
         Asked::Help => {
             show_text(s, help);
         }
-        Asked::Input => print_file(s, stdin, b"-", print),
-        Asked::File => print_file(s, stdin, name, print),
+        Asked::Run(Source::Input) => print_file(s, stdin, b"-", print),
+        Asked::Run(Source::File) => print_file(s, stdin, name, print),
     }
 }

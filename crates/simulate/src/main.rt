@@ -4,12 +4,12 @@
 #![tactic(auto)]
 
 use answers::{Outcome, channel_number};
-use model::Channel;
 use printing::{NamedFile, Streams, load, say_text, show_pages, show_text};
 use reasons::explain;
-use simulation::{Asked, Part};
+use simulation::{Part, Simulation};
 use std::io::Read;
 use std::rt::Files;
+use usage::Asked;
 
 // The pages of the outcome's text: a run has at most 65.
 fn show(s: &Streams<impl Print, impl Print>, o: Outcome, served: &[u8]) {
@@ -27,9 +27,10 @@ fn explain_outcome(
     tree: NamedFile<'_>,
     trace: NamedFile<'_>,
 ) {
-    let part = simulation::refused_part(o, slots);
+    let Some(part) = simulation::refused_part(o, slots) else {
+        return;
+    };
     match part {
-        Part::Nothing => {}
         Part::Tree => explain(errors, tree.name, false, tree.bytes, o.number, o.line),
         Part::Word => explain(errors, b"SLOTS", true, trace.bytes, o.number, o.line),
         Part::Trace => explain(errors, trace.name, true, trace.bytes, o.number, o.line),
@@ -40,11 +41,11 @@ fn explain_outcome(
 fn run_over(
     s: &Streams<impl Print, impl Print>,
     served: &mut [u8],
-    channel: Channel,
+    channel: u8,
     tree: NamedFile<'_>,
     trace: NamedFile<'_>,
 ) {
-    let o = razhikum::razhikum_run(tree.bytes, channel_number(channel), trace.bytes, served);
+    let o = razhikum::razhikum_run(tree.bytes, channel, trace.bytes, served);
     show(s, o, served);
     explain_outcome(s.errors, o, served.len(), tree, trace);
 }
@@ -52,22 +53,21 @@ fn run_over(
 // One slot more than a run may have shows that more were asked.
 fn run_slots(
     s: &Streams<impl Print, impl Print>,
-    channel: Channel,
-    slots: usize,
+    run: Simulation,
     tree: NamedFile<'_>,
     trace: NamedFile<'_>,
 ) {
     let mut served = [0u8; 65537];
-    if slots <= 65537 {
-        run_over(s, &mut served[..slots], channel, tree, trace);
+    if run.slots <= 65537 {
+        let channel = channel_number(run.channel);
+        run_over(s, &mut served[..run.slots], channel, tree, trace);
     }
 }
 
 fn run_files(
     s: &Streams<impl Files + Print, impl Print>,
     stdin: &mut impl Read,
-    channel: Channel,
-    slots: usize,
+    run: Simulation,
     tree_name: &[u8],
     trace_name: &[u8],
 ) {
@@ -79,7 +79,7 @@ fn run_files(
     let Some(trace) = load(s, stdin, trace_name, &mut trace_bytes) else {
         return;
     };
-    run_slots(s, channel, slots, tree, trace);
+    run_slots(s, run, tree, trace);
 }
 
 // What the first four words ask.
@@ -102,6 +102,6 @@ fn main(rt: HostRuntime) {
         Asked::Help => {
             show_text(s, usage::simulate_help);
         }
-        Asked::Run(channel, slots) => run_files(s, &mut rt.stdin(), channel, slots, tree, trace),
+        Asked::Run(run) => run_files(s, &mut rt.stdin(), run, tree, trace),
     }
 }

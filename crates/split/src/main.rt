@@ -5,18 +5,20 @@
 use burst::Burst;
 use printing::{NamedFile, Streams, load, say_text, show_text};
 use reasons::explain;
-use splitting::{Asked, Part, Reply};
+use splitting::Part;
 use std::io::Read;
 use std::rt::Files;
+use usage::{Asked, Denied};
 
-// What was refused, by this number at this line.
-fn explain_part(errors: &impl Print, part: Part, number: u8, line: u32, tree: NamedFile<'_>) {
-    match part {
-        Part::Tree => explain(errors, tree.name, false, tree.bytes, number, line),
-        Part::Address => explain(errors, b"ADDRESS", false, tree.bytes, number, line),
-        Part::Beats => explain(errors, b"BEATS", false, tree.bytes, number, line),
-        Part::Size => explain(errors, b"SIZE", false, tree.bytes, number, line),
-    }
+// What was refused, by which number and at which line.
+fn explain_part(errors: &impl Print, e: Denied<Part>, tree: NamedFile<'_>) {
+    let name = match e.part {
+        Part::Tree => tree.name,
+        Part::Address => b"ADDRESS",
+        Part::Beats => b"BEATS",
+        Part::Size => b"SIZE",
+    };
+    explain(errors, name, false, tree.bytes, e.number, e.line);
 }
 
 fn cut(s: &Streams<impl Print, impl Print>, b: Burst, tree: NamedFile<'_>) {
@@ -27,9 +29,8 @@ fn cut(s: &Streams<impl Print, impl Print>, b: Burst, tree: NamedFile<'_>) {
         s,
         |page| splitting::reply_text(reply, &starts, &beats, page),
     );
-    match reply {
-        Reply::Refused(part, number, line) => explain_part(s.errors, part, number, line, tree),
-        Reply::Pieces(_) => {}
+    if let Err(e) = reply {
+        explain_part(s.errors, e, tree);
     }
 }
 
@@ -66,6 +67,6 @@ fn main(rt: HostRuntime) {
         Asked::Help => {
             show_text(s, usage::split_help);
         }
-        Asked::Split(b) => cut_file(s, &mut rt.stdin(), b, tree),
+        Asked::Run(b) => cut_file(s, &mut rt.stdin(), b, tree),
     }
 }

@@ -6,15 +6,15 @@
 use answers::channel_number;
 use burst::Burst;
 use input::page_text;
-use inquiry::Reply;
 use model::Channel;
 use plan::Printed;
 use printing::put_text;
-use simulation::{Asked, Part};
+use simulation::{Part, Simulation};
 use std::io;
 use std::io::Read;
 use std::rt::Files;
 use text::same_bytes;
+use usage::{Asked, Denied, Source};
 
 fn say_line(out: &impl Print, line: &[u8]) {
     let _ = out.write_all(line);
@@ -74,10 +74,10 @@ fn report_does(out: &impl Print, words: &[u8], terminal: bool) {
         terminal,
     );
     match asked {
-        usage::Asked::Usage => say_line(out, b"report: usage\n"),
-        usage::Asked::Help => say_line(out, b"report: help\n"),
-        usage::Asked::Input => say_line(out, b"report: standard input\n"),
-        usage::Asked::File => say_line(out, b"report: the file\n"),
+        Asked::Usage => say_line(out, b"report: usage\n"),
+        Asked::Help => say_line(out, b"report: help\n"),
+        Asked::Run(Source::Input) => say_line(out, b"report: standard input\n"),
+        Asked::Run(Source::File) => say_line(out, b"report: the file\n"),
     }
 }
 
@@ -103,11 +103,11 @@ fn simulate_does(out: &impl Print, words: &[u8]) {
     match asked {
         Asked::Usage => say_line(out, b"simulate: usage\n"),
         Asked::Help => say_line(out, b"simulate: help\n"),
-        Asked::Run(channel, k) => {
+        Asked::Run(run) => {
             say_line(out, b"simulate: ");
-            say_channel(out, channel);
+            say_channel(out, run.channel);
             say_line(out, b", slots ");
-            say_number(out, k as u64);
+            say_number(out, run.slots as u64);
             say_line(out, b"\n");
         }
     }
@@ -128,15 +128,15 @@ fn why_does(out: &impl Print, words: &[u8]) {
         word(fifth),
     );
     match asked {
-        inquiry::Asked::Usage => say_line(out, b"why: usage\n"),
-        inquiry::Asked::Help => say_line(out, b"why: help\n"),
-        inquiry::Asked::Wait(channel, a, k) => {
+        Asked::Usage => say_line(out, b"why: usage\n"),
+        Asked::Help => say_line(out, b"why: help\n"),
+        Asked::Run(wait) => {
             say_line(out, b"why: ");
-            say_channel(out, channel);
+            say_channel(out, wait.channel);
             say_line(out, b", accelerator ");
-            say_number(out, a as u64);
+            say_number(out, wait.accelerator as u64);
             say_line(out, b", number ");
-            say_number(out, k as u64);
+            say_number(out, wait.number as u64);
             say_line(out, b"\n");
         }
     }
@@ -155,9 +155,9 @@ fn split_does(out: &impl Print, words: &[u8]) {
         word(fourth),
     );
     match asked {
-        splitting::Asked::Usage => say_line(out, b"split: usage\n"),
-        splitting::Asked::Help => say_line(out, b"split: help\n"),
-        splitting::Asked::Split(b) => {
+        Asked::Usage => say_line(out, b"split: usage\n"),
+        Asked::Help => say_line(out, b"split: help\n"),
+        Asked::Run(b) => {
             say_line(out, b"split: start ");
             say_number(out, b.start as u64);
             say_line(out, b", beats ");
@@ -651,22 +651,22 @@ fn run_over(out: &impl Print, served: &mut [u8], channel: Channel, tree: &[u8], 
     show(out, |page| simulation::page_text(o, served, 0, page));
     let part = simulation::refused_part(o, served.len());
     match part {
-        Part::Nothing => {}
-        Part::Tree => say_line(out, b"of the tree\n"),
-        Part::Word => say_line(out, b"of SLOTS\n"),
-        Part::Trace => say_line(out, b"of the trace\n"),
+        None => {}
+        Some(Part::Tree) => say_line(out, b"of the tree\n"),
+        Some(Part::Word) => say_line(out, b"of SLOTS\n"),
+        Some(Part::Trace) => say_line(out, b"of the trace\n"),
     }
 }
 
 fn simulate(out: &impl Print, channel: Channel, tree: &[u8], trace: &[u8], word: &[u8]) {
     let asked = simulation::slots_asked(channel, word);
-    let Asked::Run(c, k) = asked else {
+    let Asked::Run(Simulation { channel, slots }) = asked else {
         say_line(out, b"no number\n");
         return;
     };
     let mut served = [0u8; 65537];
-    if k <= 65537 {
-        run_over(out, &mut served[..k], c, tree, trace);
+    if slots <= 65537 {
+        run_over(out, &mut served[..slots], channel, tree, trace);
     }
 }
 
@@ -675,10 +675,10 @@ fn why(out: &impl Print, channel: Channel, tree: &[u8], trace: &[u8], a: u8, k: 
     let mut list = [0u8; 65536];
     let reply = inquiry::inquire(tree, channel, trace, a, k, &mut list);
     show(out, |page| inquiry::page_text(reply, &list, 0, page));
-    let Reply::Refused(part, _, _) = reply else {
+    let Err(e) = reply else {
         return;
     };
-    match part {
+    match e.part {
         inquiry::Part::Tree => say_line(out, b"of the tree\n"),
         inquiry::Part::Trace => say_line(out, b"of the trace\n"),
         inquiry::Part::Accelerator => say_line(out, b"of ACC\n"),
@@ -711,7 +711,12 @@ fn why_writes(out: &impl Print, tree: &[u8]) {
 }
 
 // The text of a reply to a burst, with these arrays.
-fn show_pieces(out: &impl Print, reply: splitting::Reply, starts: &[u32; 256], beats: &[u32; 256]) {
+fn show_pieces(
+    out: &impl Print,
+    reply: Result<u32, Denied<splitting::Part>>,
+    starts: &[u32; 256],
+    beats: &[u32; 256],
+) {
     show(
         out,
         |page| splitting::reply_text(reply, starts, beats, page),
@@ -725,10 +730,10 @@ fn split(out: &impl Print, tree: &[u8], start: u32, beats: u32, size: u32) {
     let mut lengths = [8u32; 256];
     let reply = splitting::split_file(tree, b, &mut starts, &mut lengths);
     show_pieces(out, reply, &starts, &lengths);
-    let splitting::Reply::Refused(part, _, _) = reply else {
+    let Err(e) = reply else {
         return;
     };
-    match part {
+    match e.part {
         splitting::Part::Tree => say_line(out, b"of the tree\n"),
         splitting::Part::Address => say_line(out, b"of ADDRESS\n"),
         splitting::Part::Beats => say_line(out, b"of BEATS\n"),
@@ -795,14 +800,9 @@ fn split_lengths(out: &impl Print) {
 fn split_arrays(out: &impl Print) {
     let starts = [4294967295u32; 256];
     let beats = [4294967295u32; 256];
-    show_pieces(out, splitting::Reply::Pieces(0), &starts, &beats);
-    show_pieces(out, splitting::Reply::Pieces(2), &starts, &beats);
-    show_pieces(
-        out,
-        splitting::Reply::Pieces(4294967295),
-        &[7u32; 256],
-        &[8u32; 256],
-    );
+    show_pieces(out, Ok(0), &starts, &beats);
+    show_pieces(out, Ok(2), &starts, &beats);
+    show_pieces(out, Ok(4294967295), &[7u32; 256], &[8u32; 256]);
 }
 
 // The texts of bursts cut into pieces.

@@ -3,7 +3,7 @@
 // `simulation`, `why` in `inquiry`, `split` in `splitting`.
 #![tactic(auto)]
 
-ghost use Rattle.std.specs.Prelude.{◌≡◌, min};
+ghost use Rattle.std.specs.Prelude.{◌≡◌};
 ghost use Rattle.put.specs.Page.{Written};
 ghost use Rattle.usage.specs.Usage.{asks_help, help_asked, is_option, is_dash, two_files, channel_asked, number_asked, address_asked, file_asked, report_usage, report_help, rewrite_usage, rewrite_help, simulate_usage, simulate_help, why_usage, why_help, split_usage, split_help};
 
@@ -11,27 +11,27 @@ use model::Channel;
 use put::put_text;
 use text::{Field, read_field, same_bytes};
 
-// What a program of one file does by its words.
+// What a program does by its words: it says its usage or its help, or runs as they ask.
 #[derive(Clone, Copy)]
-pub enum Asked {
+pub enum Asked<T> {
     Usage,
     Help,
+    Run(T),
+}
+
+// What a program of one file reads: standard input, or the file that its word names.
+#[derive(Clone, Copy)]
+pub enum Source {
     Input,
     File,
 }
 
-// What a word says that should name a channel: none, or which.
+// A refusal of a program: what it is of, by which number, and at which line, 0 for none.
 #[derive(Clone, Copy)]
-pub enum ChannelWord {
-    NoChannel,
-    Known(Channel),
-}
-
-// What a word says that should be a number: none, or which.
-#[derive(Clone, Copy)]
-pub enum NumberWord {
-    NoNumber,
-    Number(u32),
+pub struct Denied<P> {
+    pub part: P,
+    pub number: u8,
+    pub line: u32,
 }
 
 // Whether the word is -h or --help.
@@ -73,79 +73,56 @@ pub fn two_files(first: &[u8], second: &[u8]) -> bool
 }
 
 // The channel that the word names, `read` or `write`.
-pub fn channel_asked(word: &[u8]) -> ChannelWord
+pub fn channel_asked(word: &[u8]) -> Option<Channel>
     ensures { result ≡ channel_asked word.now }
 {
     if same_bytes(word, b"read") {
-        return ChannelWord::Known(Channel::Read);
+        return Some(Channel::Read);
     }
     if same_bytes(word, b"write") {
-        return ChannelWord::Known(Channel::Write);
+        return Some(Channel::Write);
     }
-    ChannelWord::NoChannel
-}
-
-// A number, or `most` if it is larger.
-fn capped(n: u64, most: u32) -> u64
-    ensures { result ≡ min n most }
-{
-    if n < most as u64 {
-        return n;
-    }
-    most as u64
-}
-
-fn wide(b: u8) -> u64
-    ensures { result ≡ b }
-{
-    b as u64
+    None
 }
 
 // The number that the word writes, or `most` if it is larger: a word has any number of digits.
-pub fn number_asked(word: &[u8], most: u32) -> NumberWord
+pub fn number_asked(word: &[u8], most: u32) -> Option<u32>
     ensures { result ≡ number_asked word.now most }
 {
-    if word.len() == 0 {
-        return NumberWord::NoNumber;
+    if word.is_empty() {
+        return None;
     }
-    if (word[0] == 48) & (word.len() != 1) {
-        return NumberWord::NoNumber;
+    if (word[0] == b'0') & (word.len() != 1) {
+        return None;
     }
     let mut value: u64 = 0;
-    let mut i = 0;
-    while i < word.len() {
-        let b = word[i];
-        if b < 48 {
-            return NumberWord::NoNumber;
+    for b in word {
+        if (*b < 48) | (57 < *b) {
+            return None;
         }
-        if 57 < b {
-            return NumberWord::NoNumber;
-        }
-        value = capped(value * 10 + wide(b - 48), most);
-        i += 1;
+        value = (value * 10 + (*b - 48) as u64).min(most as u64);
     }
-    NumberWord::Number(value as u32)
+    Some(value as u32)
 }
 
 // The address that the word writes, a number of 32 bits: a larger one is no address.
-pub fn address_asked(word: &[u8]) -> NumberWord
+pub fn address_asked(word: &[u8]) -> Option<u32>
     ensures { result ≡ address_asked word.now }
 {
-    let field = read_field(word);
-    match field {
-        Field::Malformed => NumberWord::NoNumber,
-        Field::Dash => NumberWord::NoNumber,
-        Field::Number(n) => {
-            if 4294967295 < n {
-                return NumberWord::NoNumber;
-            }
-            NumberWord::Number(n as u32)
-        }
+    match read_field(word) {
+        Field::Malformed | Field::Dash => None,
+        Field::Number(n) => u32::try_from(n).ok(),
     }
 }
 
 // What a program of one file does, started with `count` words, of which these are the first three; `terminal`: standard input is one.
-pub fn file_asked(count: usize, first: &[u8], second: &[u8], third: &[u8], terminal: bool) -> Asked
+pub fn file_asked(
+    count: usize,
+    first: &[u8],
+    second: &[u8],
+    third: &[u8],
+    terminal: bool,
+) -> Asked<Source>
     ensures { result ≡ file_asked count first.now second.now third.now terminal }
 {
     if help_asked(first, second, third) {
@@ -155,12 +132,12 @@ pub fn file_asked(count: usize, first: &[u8], second: &[u8], third: &[u8], termi
         return Asked::Usage;
     }
     if count == 1 {
-        return Asked::File;
+        return Asked::Run(Source::File);
     }
     if terminal {
         return Asked::Usage;
     }
-    Asked::Input
+    Asked::Run(Source::Input)
 }
 
 // What `report` says where its arguments are wrong.

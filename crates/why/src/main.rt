@@ -3,63 +3,65 @@
 // error.
 #![tactic(auto)]
 
-use inquiry::{Asked, Part, Reply};
-use model::Channel;
+use inquiry::{Part, Transaction, Waited};
 use printing::{NamedFile, Streams, load, say_text, show_pages, show_text};
 use reasons::explain;
 use std::io::Read;
 use std::rt::Files;
+use usage::{Asked, Denied};
 
 // The pages of the reply's text: 32,768 lines and the last have at most 33.
-fn show(s: &Streams<impl Print, impl Print>, reply: Reply, list: &[u8; 65536]) {
+fn show(
+    s: &Streams<impl Print, impl Print>,
+    reply: Result<Waited, Denied<Part>>,
+    list: &[u8; 65536],
+) {
     let count = inquiry::page_count(reply, list).min(33);
     show_pages(s, count as u32, |page, out| {
         inquiry::page_text(reply, list, page, out)
     });
 }
 
-// What was refused, by this number at this line.
+// What was refused, by which number and at which line.
 fn explain_part(
     errors: &impl Print,
-    part: Part,
-    number: u8,
-    line: u32,
+    e: Denied<Part>,
     tree: NamedFile<'_>,
     trace: NamedFile<'_>,
 ) {
-    match part {
-        Part::Tree => explain(errors, tree.name, false, tree.bytes, number, line),
-        Part::Trace => explain(errors, trace.name, true, trace.bytes, number, line),
-        Part::Accelerator => explain(errors, b"ACC", true, trace.bytes, number, line),
-        Part::Number => explain(errors, b"NUMBER", true, trace.bytes, number, line),
+    match e.part {
+        Part::Tree => explain(errors, tree.name, false, tree.bytes, e.number, e.line),
+        Part::Trace => explain(errors, trace.name, true, trace.bytes, e.number, e.line),
+        Part::Accelerator => explain(errors, b"ACC", true, trace.bytes, e.number, e.line),
+        Part::Number => explain(errors, b"NUMBER", true, trace.bytes, e.number, e.line),
     }
 }
 
 fn ask(
     s: &Streams<impl Print, impl Print>,
-    channel: Channel,
-    a: u8,
-    k: u32,
+    x: Transaction,
     tree: NamedFile<'_>,
     trace: NamedFile<'_>,
 ) {
     let mut list = [0u8; 65536];
-    let reply = inquiry::inquire(tree.bytes, channel, trace.bytes, a, k, &mut list);
+    let reply = inquiry::inquire(
+        tree.bytes,
+        x.channel,
+        trace.bytes,
+        x.accelerator,
+        x.number,
+        &mut list,
+    );
     show(s, reply, &list);
-    match reply {
-        Reply::Refused(part, number, line) => {
-            explain_part(s.errors, part, number, line, tree, trace)
-        }
-        Reply::Waited(_, _) => {}
+    if let Err(e) = reply {
+        explain_part(s.errors, e, tree, trace);
     }
 }
 
 fn ask_files(
     s: &Streams<impl Files + Print, impl Print>,
     stdin: &mut impl Read,
-    channel: Channel,
-    a: u8,
-    k: u32,
+    x: Transaction,
     tree_name: &[u8],
     trace_name: &[u8],
 ) {
@@ -71,7 +73,7 @@ fn ask_files(
     let Some(trace) = load(s, stdin, trace_name, &mut trace_bytes) else {
         return;
     };
-    ask(s, channel, a, k, tree, trace);
+    ask(s, x, tree, trace);
 }
 
 // What the first five words ask.
@@ -96,6 +98,6 @@ fn main(rt: HostRuntime) {
         Asked::Help => {
             show_text(s, usage::why_help);
         }
-        Asked::Wait(channel, a, k) => ask_files(s, &mut rt.stdin(), channel, a, k, tree, trace),
+        Asked::Run(x) => ask_files(s, &mut rt.stdin(), x, tree, trace),
     }
 }
