@@ -90,11 +90,11 @@ fn try_join(pieces: u32, answered: u32, number: u32, d: &mut [usize; 16384]) {
 fn try_pieces(pieces: u32, d: &mut [usize; 16384]) {
     for i in 0..NUMBERS {
         let answered = number_at(i);
-        try_join(pieces, answered, std::num::wrapping_add_u32(answered, 1), d);
+        try_join(pieces, answered, answered.wrapping_add(1), d);
         try_join(
             pieces,
             answered,
-            std::num::wrapping_add_u32(pieces, i % 2),
+            pieces.wrapping_add(i % 2),
             d,
         );
     }

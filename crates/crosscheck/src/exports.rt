@@ -1,5 +1,5 @@
 // What the static library exports, each field of each answer beside what `second` says of the same files.
-use crate::compare::{fill, second_run};
+use crate::compare::{over, second_run};
 use crate::results::{EXPORTS, NO_CHANNEL, REWRITINGS};
 use crate::whys::{Question, next_question, second_why};
 use crate::writings::{exported_written, next_size, second_written};
@@ -7,7 +7,7 @@ use answercheck::exported::{
     kind_of, kind_told, same_count, same_outcome, same_page, same_reading, same_row, same_wait,
 };
 use answercheck::{same_bytes, same_pages, same_slices, told_by};
-use answers::{Outcome, Wait, no_wait};
+use answers::{Outcome, Wait};
 use razhikum::{
     razhikum_bound, razhikum_count, razhikum_read_trace, razhikum_read_tree, razhikum_report,
     razhikum_run, razhikum_why,
@@ -181,42 +181,23 @@ fn exported_channel(channel: usize) -> u8 {
 }
 
 // The exported run on a channel over the first n bytes.
-fn exported_run(tree: &[u8], channel: usize, trace: &[u8], out: &mut [u8], n: usize) -> Outcome {
-    if out.len() < n {
-        return Outcome {
-            kind: 255,
-            number: 0,
-            line: 0,
-            slots: 0,
-        };
-    }
-    run_filled(tree, channel, trace, &mut out[0..n])
-}
-
-fn run_filled(tree: &[u8], channel: usize, trace: &[u8], out: &mut [u8]) -> Outcome {
-    fill(out);
-    razhikum_run(tree, exported_channel(channel), trace, out)
-}
-
-fn why_filled(tree: &[u8], trace: &[u8], q: Question, out: &mut [u8]) -> Wait {
-    fill(out);
-    razhikum_why(
-        tree,
-        exported_channel(q.channel),
-        trace,
-        q.accelerator,
-        q.number,
-        out,
-    )
+fn exported_run(
+    tree: &[u8],
+    channel: usize,
+    trace: &[u8],
+    out: &mut [u8; 131074],
+    n: usize,
+) -> Outcome {
+    let c = exported_channel(channel);
+    over(out, 0, n, |part| razhikum_run(tree, c, trace, part))
 }
 
 // The exported answer why a transaction waited, over the first bytes.
-fn exported_why(tree: &[u8], trace: &[u8], q: Question, out: &mut [u8]) -> Wait {
-    let n = q.size;
-    if out.len() < n {
-        return no_wait(255, 0, 0);
-    }
-    why_filled(tree, trace, q, &mut out[0..n])
+fn exported_why(tree: &[u8], trace: &[u8], q: Question, out: &mut [u8; 131074]) -> Wait {
+    let c = exported_channel(q.channel);
+    over(out, 0, q.size, |part| {
+        razhikum_why(tree, c, trace, q.accelerator, q.number, part)
+    })
 }
 
 // A question to accelerator a of the trace, which the tree may not have.

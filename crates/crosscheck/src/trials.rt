@@ -10,7 +10,7 @@ use crate::walked::same_requests;
 use crate::whys::try_whys;
 use crate::writings::{try_writings, try_written};
 use alter::altered;
-use alter::tangle::{WAYS, tangled};
+use alter::tangle::{some_way, tangled};
 use answercheck::{same_bytes, same_end, same_flag, same_said};
 use callcheck::{busy_state, try_other};
 use generator::number_below;
@@ -43,20 +43,16 @@ fn count_delay(delay: u8, d: &mut [usize; 16384]) {
 
 // What the job of accelerator a has: 0 reads and writes, 1 writes only, 2 reads only, 3 neither.
 fn job_kind(d: &[usize; 16384], a: usize) -> usize {
+    let no_reads = is_jobless(d, a, READ, NO_WRONG_RULE);
     let no_writes = is_jobless(d, a, WRITE, NO_WRONG_RULE);
-    if !is_jobless(d, a, READ, NO_WRONG_RULE) {
-        return if no_writes { 2 } else { 0 };
-    }
-    if no_writes { 3 } else { 1 }
+    no_reads as usize + 2 * (no_writes as usize)
 }
 
 // The jobs of an accepted tree.
 fn count_jobs(accs: usize, d: &mut [usize; 16384]) {
-    for a in 0..32 {
-        if a < accs {
-            let kind = job_kind(d, a);
-            add(d, JOBS, kind, 1);
-        }
+    for a in 0..accs.min(32) {
+        let kind = job_kind(d, a);
+        add(d, JOBS, kind, 1);
     }
 }
 
@@ -105,7 +101,7 @@ fn try_content(t: Tree, d: &mut [usize; 16384]) {
 fn count_zero(s: &[u8], delay: u8, d: &mut [usize; 16384]) {
     let n = text_size(d);
     if s.len() != n {
-        let two_more = s.len() == std::num::wrapping_add_usize(n, 2);
+        let two_more = s.len() == n.wrapping_add(2);
         note(d, DIFFERENCES, 0, two_more & (delay == 0));
         add(d, ZEROS, 0, 1);
     }
@@ -336,8 +332,8 @@ pub fn try_altered(
     out: &mut [u8; 131074],
 ) {
     try_other_tree(t, altered(t, d), channel, s, d, out);
-    let way = number_below(d, WAYS);
+    let way = some_way(d);
     if !try_other_tree(t, tangled(t, way, d), channel, s, d, out) {
-        add(d, TANGLED, way, 1);
+        add(d, TANGLED, way as usize, 1);
     }
 }

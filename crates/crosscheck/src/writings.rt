@@ -1,6 +1,6 @@
 // A tree written back: the library's answer and every byte of its buffer, beside those of `second`; and other texts of the tree, which
 // are read as the same tree and written as the same text.
-use crate::compare::fill;
+use crate::compare::over;
 use crate::results::{TEXTS, WRITING_TURNS, WRITINGS, WRITTEN};
 use answercheck::exported::same_page;
 use answercheck::{OURS, same_bytes, same_said, same_slices, same_written, written_by, written_of};
@@ -10,62 +10,29 @@ use razhikum::{Page, razhikum_rewrite};
 use reader::read_tree;
 use second::written::{Written, text_size, write_back};
 use second::{AS_READ, LONG_FIRST, NAME_LOST, NO_WRONG_RULE, Said, WRITTEN_SHORT};
-use store::{DIFFERENCES, WRONG, add, get, least, note};
+use store::{DIFFERENCES, WRONG, add, get, note};
 use treecheck::same_tree;
 use writer::write_tree;
 
-fn write_library(t: Tree, out: &mut [u8]) -> Written {
-    fill(out);
-    written_of(write_tree(t, out))
-}
-
 // The library's writing, over n bytes from a place on.
-fn library_written(t: Tree, out: &mut [u8], from: usize, n: usize) -> Written {
-    let at = from % 65538;
-    let to = at + n % 65538;
-    if out.len() < to {
-        return written_by(0, 0, 0);
-    }
-    write_library(t, &mut out[at..to])
-}
-
-fn rewrite(tree: &[u8], out: &mut [u8]) -> Page {
-    fill(out);
-    razhikum_rewrite(tree, out)
+fn library_written(t: Tree, out: &mut [u8; 131074], from: usize, n: usize) -> Written {
+    over(out, from, n, |part| written_of(write_tree(t, part)))
 }
 
 // The exported writing, over n bytes from a place on.
-pub fn exported_written(tree: &[u8], out: &mut [u8], from: usize, n: usize) -> Page {
-    let at = from % 65538;
-    let to = at + n % 65538;
-    if out.len() < to {
-        return Page {
-            bytes: 0,
-            number: 255,
-            line: 0,
-        };
-    }
-    rewrite(tree, &mut out[at..to])
-}
-
-fn write_second(tree: Said, d: &[usize; 16384], out: &mut [u8], wrong: usize) -> Written {
-    fill(out);
-    write_back(tree, d, out, wrong)
+pub fn exported_written(tree: &[u8], out: &mut [u8; 131074], from: usize, n: usize) -> Page {
+    over(out, from, n, |part| razhikum_rewrite(tree, part))
 }
 
 // The second writing, over n bytes from OURS on.
 pub fn second_written(
     tree: Said,
     d: &[usize; 16384],
-    out: &mut [u8],
+    out: &mut [u8; 131074],
     n: usize,
     wrong: usize,
 ) -> Written {
-    let to = OURS + n % 65538;
-    if out.len() < to {
-        return written_by(0, 0, 0);
-    }
-    write_second(tree, d, &mut out[OURS..to], wrong)
+    over(out, OURS, n, |part| write_back(tree, d, part, wrong))
 }
 
 fn accepted() -> Said {
@@ -111,11 +78,11 @@ fn try_writing(
 
 // The sizes of buffers for a text of n bytes: 0, short, one byte less, one byte more, larger, and at the size limit.
 fn size_in_turn(turn: usize, n: usize) -> usize {
-    let text = least(n, 4096);
+    let text = n.min(4096);
     match turn % 7 {
         0 => 0,
         1 => text / 2,
-        2 => std::num::wrapping_sub_usize(text, 1) % 4096,
+        2 => text.wrapping_sub(1) % 4096,
         3 => text + 1,
         4 => text + 40,
         5 => 65536,
@@ -166,7 +133,7 @@ pub fn try_writings(t: Tree, d: &mut [usize; 16384], out: &mut [u8; 131074]) {
     let n = text_size(d) % 4096;
     let right = try_writing(t, d, out, n, AS_READ, LONG_FIRST);
     try_wrong_writings(d, out, right, n, NAME_LOST, NAME_LOST + 1);
-    let short = std::num::wrapping_sub_usize(n, 1) % 4096;
+    let short = n.wrapping_sub(1) % 4096;
     try_writing(t, d, out, short, LONG_FIRST, WRITTEN_SHORT + 1);
     let size = next_size(d, n);
     try_writing(t, d, out, size, LONG_FIRST, WRITTEN_SHORT + 1);

@@ -5,12 +5,13 @@
 // bytes the file has. A trace is read on the first tree of document 01's report. Files near the size limit are made here.
 #![tactic(auto)]
 
-ghost use Rattle.std.specs.Prelude.{◌≡◌, ◌≤◌, length};
+ghost use Rattle.std.specs.Prelude.{◌≡◌, length};
 
+use input::{Input, read_all};
 use lines::FileAnswer;
 use model::{Bus, Tree};
 use reader::read_tree;
-use std::io::Read;
+use std::io::{Error, ErrorKind};
 use text::{Field, part_end, read_field};
 use trace::{NextRequest, read_trace, request_at};
 
@@ -260,27 +261,14 @@ fn try_broken(out: &impl Print) {
     try_trace(out, b"broken tree", no_tree, b"");
 }
 
-// Reads until the buffer is full, the input ends or a read fails, and answers how many bytes were read.
-fn read_full(from: &mut impl Read, buf: &mut [u8]) -> usize
-    ensures { result ≤ length buf.new }
-{
-    let mut done = 0;
-    while done < buf.len() {
-        let more = from.read(&mut buf[done..]).unwrap_or(0);
-        if more == 0 {
-            return done;
-        }
-        done += more;
-    }
-    done
-}
-
 fn main(rt: HostRuntime) {
     let out = &rt;
     let t = report_tree();
     let mut input = [0u8; 65536];
-    let n = read_full(&mut rt.stdin(), &mut input);
-    try_files(out, t, &input[..n]);
+    let mut cause = Error::from(ErrorKind::Other);
+    if let Input::Bytes(n) = read_all(&mut rt.stdin(), &mut input, &mut cause) {
+        try_files(out, t, &input[..n]);
+    }
     long_tree(out, b"65536 bytes", 65536);
     long_tree(out, b"65537 bytes", 65537);
     long_totals(out, t);

@@ -8,7 +8,7 @@ use crate::{
     FROM_FIRST, LAST_FULL, NO_WRONG_RULE, NOT_ROUNDED, ONE_OFFER, PAGE_FIRST, REFUSED_COUNTED,
     THREE_BYTES,
 };
-use store::{add, clear, least, put};
+use store::{add, clear, put};
 
 // Of each piece the start address,
 pub const STARTS: usize = 6144;
@@ -61,7 +61,7 @@ struct Walk {
 
 // A power of two has no bit in common with the number below it. A wrong rule takes 3 too.
 fn is_size(size: usize, wrong: usize) -> bool {
-    let below = std::num::wrapping_sub_usize(size, 1);
+    let below = size.wrapping_sub(1);
     let power = (size != 0) & (size < 129) & (size & below == 0);
     power | ((size == 3) & (wrong == THREE_BYTES))
 }
@@ -71,8 +71,8 @@ fn after_beat(at: usize, size: usize) -> usize {
     if size == 0 {
         return at;
     }
-    let down = std::num::wrapping_sub_usize(at, at % size);
-    std::num::wrapping_add_usize(down, size)
+    let down = at.wrapping_sub(at % size);
+    down.wrapping_add(size)
 }
 
 // Has a beat a byte past the block of 4,096 bytes in which the burst starts? A wrong rule asks for the byte after the beat.
@@ -80,17 +80,15 @@ fn leaves_block(b: Asked, wrong: usize) -> bool {
     let last = b.start | 4095;
     let beats = b.beats;
     let mut at = b.start;
-    let mut j = 0;
-    while j < beats {
+    for _ in 0..beats {
         at = after_beat(at, b.size);
-        let mut byte = std::num::wrapping_sub_usize(at, 1);
+        let mut byte = at.wrapping_sub(1);
         if wrong == END_CROSSES {
             byte = at;
         }
         if last < byte {
             return true;
         }
-        j += 1;
     }
     false
 }
@@ -156,7 +154,7 @@ fn skew(w: Walk, b: Asked, wrong: usize) -> usize {
 
 // A piece begins with the next beat. A wrong rule gives it all n beats at once.
 fn begin_piece(w: Walk, b: Asked, n: usize, d: &mut [usize; 16384], wrong: usize) {
-    let start = std::num::wrapping_add_usize(w.at, skew(w, b, wrong));
+    let start = w.at.wrapping_add(skew(w, b, wrong));
     put(d, STARTS, w.pieces % ENTRIES, start);
     let mut beats = 0;
     if wrong == LAST_FULL {
@@ -172,15 +170,15 @@ fn walk_beat(w: Walk, b: Asked, n: usize, d: &mut [usize; 16384], wrong: usize) 
     if left == 0 {
         begin_piece(w, b, n, d, wrong);
         left = n;
-        pieces = std::num::wrapping_add_usize(pieces, 1);
+        pieces = pieces.wrapping_add(1);
     }
     if wrong != LAST_FULL {
-        let here = std::num::wrapping_sub_usize(pieces, 1) % ENTRIES;
+        let here = pieces.wrapping_sub(1) % ENTRIES;
         add(d, BEATS, here, 1);
     }
     Walk {
         at: after_beat(w.at, b.size),
-        left: std::num::wrapping_sub_usize(left, 1),
+        left: left.wrapping_sub(1),
         pieces: pieces,
     }
 }
@@ -218,9 +216,9 @@ pub fn split_one(b: Asked, d: &mut [usize; 16384], wrong: usize) -> Split {
 
 // The answer of the piece of this number. A wrong rule says done one answer early, or takes the one after the last.
 pub fn join_one(pieces: usize, answered: usize, number: usize, wrong: usize) -> Joined {
-    let open = std::num::wrapping_sub_usize(pieces, answered);
+    let open = pieces.wrapping_sub(answered);
     let keeps = (pieces != 0) & (pieces < 257) & (open <= pieces);
-    let due = std::num::wrapping_add_usize(number, open) == std::num::wrapping_add_usize(pieces, 1);
+    let due = number.wrapping_add(open) == pieces.wrapping_add(1);
     if !(keeps & due & ((open != 0) | (wrong == AFTER_LAST))) {
         return Joined {
             code: 11,
@@ -238,34 +236,33 @@ pub fn join_one(pieces: usize, answered: usize, number: usize, wrong: usize) -> 
 
 // Offers n transactions of accelerator a, until one is refused. A wrong rule counts that one among those admitted.
 fn offer_pieces(d: &mut [usize; 16384], a: usize, n: usize, wrong: usize) -> Offered {
-    let mut admitted = 0;
-    while admitted < n {
+    for admitted in 0..n {
         let number = offer_one(d, a, NO_WRONG_RULE);
         if number != 0 {
-            if wrong == REFUSED_COUNTED {
-                admitted += 1;
-            }
             return Offered {
                 number: number,
-                admitted: admitted,
+                admitted: if wrong == REFUSED_COUNTED {
+                    admitted + 1
+                } else {
+                    admitted
+                },
             };
         }
-        admitted += 1;
     }
     Offered {
         number: 0,
-        admitted: admitted,
+        admitted: n,
     }
 }
 
 // How many of the pieces are offered: those from one on, counted from 0. A wrong rule begins with the first, or offers the burst as one.
 fn pieces_from(pieces: usize, from: usize, wrong: usize) -> usize {
-    let mut left = std::num::wrapping_sub_usize(pieces, least(from, pieces));
+    let mut left = pieces.saturating_sub(from);
     if wrong == FROM_FIRST {
         left = pieces;
     }
     if wrong == ONE_OFFER {
-        left = least(left, 1);
+        left = left.min(1);
     }
     left
 }

@@ -12,7 +12,7 @@ use crate::queues::{
 use crate::{
     BUDGET_FIRST, JOB_FIRST, JOB_LAST, JOBLESS_KEPT, LAST_FIRST, NO_WRONG_RULE, UNKNOWN_FIRST,
 };
-use store::{get, least, put};
+use store::{get, put};
 
 // The parts of a state that are altered: for each accelerator what waits,
 pub const WAITS: usize = 0;
@@ -70,10 +70,10 @@ pub fn left(d: &[usize; 16384], i: usize) -> usize
 fn queue_up(d: &mut [usize; 16384], a: usize, n: usize) {
     let first = get(d, SERVED, a);
     for k in 0..16usize {
-        let ticket = std::num::wrapping_add_usize(first, k);
+        let ticket = first.wrapping_add(k);
         put(d, QUEUE, place_in_queue(a, ticket), ticket);
     }
-    put(d, ADMITTED, a, std::num::wrapping_add_usize(first, n));
+    put(d, ADMITTED, a, first.wrapping_add(n));
 }
 
 // Sets entry i of a part of the state to n; the channel is one entry.
@@ -124,19 +124,12 @@ fn turn_keeps(d: &[usize; 16384], i: usize) -> bool {
     if ints(d) <= i {
         return (last == 0) & (allowance == 0);
     }
-    let most = least(cell(d, int_row(i), 3), waits(d, i, last));
+    let most = cell(d, int_row(i), 3).min(waits(d, i, last));
     (last < 8) & (allowance <= most)
 }
 
 fn state_keeps(d: &[usize; 16384], wrong: usize) -> bool {
-    let mut keeps = true;
-    for a in 0..32 {
-        keeps = keeps & acc_keeps(d, a, wrong);
-        if a < 15 {
-            keeps = keeps & turn_keeps(d, a);
-        }
-    }
-    keeps
+    (0..32).all(|a| acc_keeps(d, a, wrong)) && (0..15).all(|i| turn_keeps(d, i))
 }
 
 // Is the configuration, or the state, against its rules? A wrong rule keeps a state with a return due now, or one in which transactions of
@@ -220,7 +213,7 @@ pub fn slot_refusal(d: &[usize; 16384], wrong: usize) -> usize {
 pub fn slot_one(d: &mut [usize; 16384], wrong: usize) -> usize {
     let refusal = slot_refusal(d, wrong);
     if refusal != 0 {
-        return std::num::wrapping_add_usize(256, refusal);
+        return refusal.wrapping_add(256);
     }
     let a = one_slot(d, wrong);
     advance(d, wrong);

@@ -1,8 +1,7 @@
 // Why a transaction waited, by the tickets: a run is kept slot by slot, each as who is served and the slot in which the ticket of that
 // transaction was put into its queue.
 use crate::book::{acc_row, accs, cell, int_row};
-use crate::queues::{nothing_left, run_refusal, run_slot, said, since, start};
-use crate::requests::lines;
+use crate::queues::{run_over, run_refusal, said, since};
 use crate::{
     ADMITTED_LATE, HALF_PAIR, NO_WRONG_RULE, NUMBER_FIRST, OWN_MEETS, ROOT_MEETS, SERVICE_LISTED,
     Said,
@@ -31,47 +30,32 @@ fn admitted_in(x: usize) -> usize {
 
 // Runs the lines of the log on a channel over as many slots as the past has places, and keeps each slot; how many are used.
 pub fn keep_run(d: &mut [usize; 16384], channel: usize, past: &mut [usize]) -> usize {
-    let lines = lines(d);
-    start(d, channel);
-    let mut used = 0;
-    while used < past.len() {
-        if nothing_left(d, lines, NO_WRONG_RULE) {
-            return used;
-        }
-        let a = run_slot(d, lines, NO_WRONG_RULE);
-        past[used] = packed(a, since(d, a));
-        used += 1;
-    }
-    used
+    run_over(
+        d,
+        channel,
+        past,
+        NO_WRONG_RULE,
+        |d, a| packed(a, since(d, a)),
+    )
 }
 
 // How many transactions of accelerator a are served.
 pub fn services(past: &[usize], a: usize) -> usize {
-    let mut n = 0;
-    let mut s = 0;
-    while s < past.len() {
-        if served_in(past[s]) == a {
-            n = std::num::wrapping_add_usize(n, 1);
-        }
-        s += 1;
-    }
-    n
+    past.iter().filter(|x| served_in(**x) == a).count()
 }
 
-// The slot that serves transaction k of accelerator a, the first at 1; the number of slots if none does.
-fn service(past: &[usize], a: usize, k: usize) -> usize {
-    let mut n = 0;
-    let mut s = 0;
-    while s < past.len() {
-        if served_in(past[s]) == a {
-            n = std::num::wrapping_add_usize(n, 1);
+// The slot that serves transaction k of accelerator a, the first at 1.
+fn service(past: &[usize], a: usize, k: usize) -> Option<usize> {
+    let mut n = 0usize;
+    for (s, x) in past.iter().enumerate() {
+        if served_in(*x) == a {
+            n = n.wrapping_add(1);
             if n == k {
-                return s;
+                return Some(s);
             }
         }
-        s += 1;
     }
-    s
+    None
 }
 
 // The deepest interconnect on the ways of accelerators a and b. A parent has the lower number: of two interconnects, the one with
@@ -122,7 +106,7 @@ fn write_list(
 ) {
     let n = out.len();
     for p in 0..n {
-        let s = std::num::wrapping_add_usize(from, p / 2);
+        let s = from.wrapping_add(p / 2);
         if past.len() <= s {
             return;
         }
@@ -174,10 +158,10 @@ fn list(d: &[usize; 16384], past: &[usize], s: usize, out: &mut [u8], wrong: usi
     let mut from = admitted_in(x);
     let mut until = s;
     if wrong == ADMITTED_LATE {
-        from = std::num::wrapping_add_usize(from, 1);
+        from = from.wrapping_add(1);
     }
     if wrong == SERVICE_LISTED {
-        until = std::num::wrapping_add_usize(s, 1);
+        until = s.wrapping_add(1);
     }
     write_list(d, past, served_in(x), from, until, out, wrong);
     if until < from {
@@ -196,10 +180,10 @@ pub fn why(
     out: &mut [u8],
     wrong: usize,
 ) -> Told {
-    let s = service(past, a, k);
-    let r = refusal(trace, d, out.len(), a, s < past.len(), wrong);
-    if r.number != 0 {
-        return tell(r, 0, 0);
+    let service = service(past, a, k);
+    let r = refusal(trace, d, out.len(), a, service.is_some(), wrong);
+    match service {
+        Some(s) if r.number == 0 => list(d, past, s, out, wrong),
+        _ => tell(r, 0, 0),
     }
-    list(d, past, s, out, wrong)
 }

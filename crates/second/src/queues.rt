@@ -10,7 +10,7 @@ use crate::{
     DONE_AT_HOME, DONE_HOLDING, FROM_ZERO, GROWING, HOME_AT_WINDOW, JOBLESS_ADMITTED, LOWER_RESET,
     NO_WRONG_RULE, SIZE_FIRST, Said, TRACE_FIRST, WHOLE_RUN,
 };
-use store::{add, clear, get, least, put};
+use store::{add, clear, get, put};
 
 // For each accelerator how many transactions were requested since the start,
 const REQUESTED: usize = 2048;
@@ -74,11 +74,11 @@ pub(crate) fn is_idle(d: &[usize; 16384], a: usize, wrong: usize) -> bool {
 pub(crate) fn queued(d: &[usize; 16384], a: usize) -> usize
     ensures { result ≡ queued_of d.now a }
 {
-    std::num::wrapping_sub_usize(get(d, ADMITTED, a), get(d, SERVED, a))
+    get(d, ADMITTED, a).wrapping_sub(get(d, SERVED, a))
 }
 
 fn held(d: &[usize; 16384], a: usize) -> usize {
-    std::num::wrapping_sub_usize(get(d, REQUESTED, a), get(d, ADMITTED, a))
+    get(d, REQUESTED, a).wrapping_sub(get(d, ADMITTED, a))
 }
 
 pub(crate) fn place_in_queue(a: usize, ticket: usize) -> usize {
@@ -106,7 +106,7 @@ fn pop(d: &mut [usize; 16384], a: usize, wrong: usize) -> bool {
 
 // The slot in which the transaction of accelerator a that was served last had been admitted.
 pub(crate) fn since(d: &[usize; 16384], a: usize) -> usize {
-    let ticket = std::num::wrapping_sub_usize(get(d, SERVED, a), 1);
+    let ticket = get(d, SERVED, a).wrapping_sub(1);
     get(d, SINCE, place_in_queue(a, ticket))
 }
 
@@ -126,30 +126,34 @@ pub(crate) fn passes(d: &[usize; 16384], a: usize, i: usize, p: usize) -> bool {
     false
 }
 
-// How many transactions wait under the port p of interconnect i.
-pub(crate) fn waits(d: &[usize; 16384], i: usize, p: usize) -> usize {
-    let mut sum = 0;
+// The sum of what each accelerator has; it goes round.
+pub(crate) fn total<F: Fn(usize) -> usize>(of: F) -> usize
+    requires { F.IsAlwaysCallable of }
+{
+    let mut sum = 0usize;
     for a in 0..32 {
-        let n = queued(d, a);
-        if n != 0 {
-            if passes(d, a, i, p) {
-                sum = std::num::wrapping_add_usize(sum, n);
-            }
-        }
+        sum = sum.wrapping_add(of(a));
     }
     sum
 }
 
+// How many transactions of accelerator a wait under the port p of interconnect i.
+fn waiting_under(d: &[usize; 16384], a: usize, i: usize, p: usize) -> usize {
+    let n = queued(d, a);
+    if (n != 0) && passes(d, a, i, p) { n } else { 0 }
+}
+
+// How many transactions wait under the port p of interconnect i.
+pub(crate) fn waits(d: &[usize; 16384], i: usize, p: usize) -> usize {
+    total(|a| waiting_under(d, a, i, p))
+}
+
 // The first port after `last`, going round, under which something waits; `last` itself comes last.
 fn seek(d: &[usize; 16384], i: usize, last: usize) -> usize {
-    let mut p = last % 8;
-    for _ in 0..8usize {
-        p = (p + 1) % 8;
-        if waits(d, i, p) != 0 {
-            return p;
-        }
-    }
-    p
+    (1..8)
+        .map(|k| (last % 8 + k) % 8)
+        .find(|p| waits(d, i, *p) != 0)
+        .unwrap_or(last % 8)
 }
 
 // A new turn at interconnect i, on the port sought. A wrong rule has the circle begin at port 0, or the allowance g.
@@ -160,7 +164,7 @@ fn new_turn(d: &mut [usize; 16384], i: usize, wrong: usize) {
     }
     let p = seek(d, i, last);
     let grain = cell(d, int_row(i), 3);
-    let mut allowance = least(grain, waits(d, i, p));
+    let mut allowance = grain.min(waits(d, i, p));
     if wrong == GROWING {
         allowance = grain;
     }
@@ -182,7 +186,7 @@ fn turn(d: &mut [usize; 16384], i: usize, wrong: usize) -> usize {
     if over {
         new_turn(d, i, wrong);
     }
-    let left = std::num::wrapping_sub_usize(get(d, ALLOWANCE, i), 1);
+    let left = get(d, ALLOWANCE, i).wrapping_sub(1);
     put(d, ALLOWANCE, i, left);
     get(d, LAST, i)
 }
@@ -202,29 +206,19 @@ fn choose(d: &mut [usize; 16384], wrong: usize) -> usize {
 }
 
 fn all_queued(d: &[usize; 16384]) -> usize {
-    let mut sum = 0;
-    for a in 0..32 {
-        sum = std::num::wrapping_add_usize(sum, queued(d, a));
-    }
-    sum
+    total(|a| queued(d, a))
 }
 
-// Is what accelerator a holds left to do? A wrong rule leaves out what those without a job hold.
-fn is_left(d: &[usize; 16384], a: usize, wrong: usize) -> bool {
-    if wrong == DONE_HOLDING {
-        return !is_idle(d, a, wrong);
+// What accelerator a holds that is left to do. A wrong rule leaves out what those without a job hold.
+fn held_to_do(d: &[usize; 16384], a: usize, wrong: usize) -> usize {
+    if (wrong == DONE_HOLDING) && is_idle(d, a, wrong) {
+        return 0;
     }
-    true
+    held(d, a)
 }
 
 fn all_held(d: &[usize; 16384], wrong: usize) -> usize {
-    let mut sum = 0;
-    for a in 0..32 {
-        if is_left(d, a, wrong) {
-            sum = std::num::wrapping_add_usize(sum, held(d, a));
-        }
-    }
-    sum
+    total(|a| held_to_do(d, a, wrong))
 }
 
 // Is a request held of an accelerator without a job on the channel? It stays held.
@@ -235,16 +229,14 @@ pub fn is_stuck(d: &[usize; 16384]) -> bool {
 // The lines whose slot has come are requested.
 fn take_due(d: &mut [usize; 16384], lines: usize) {
     let now = get(d, SLOT, 0);
-    let mut next = get(d, NEXT, 0);
-    while next < lines {
+    for next in get(d, NEXT, 0)..lines {
         let x = get(d, LOG, next % 8192);
         if now < slot_in(x) {
-            break;
+            return;
         }
         add(d, REQUESTED, acc_in(x) % 32, count_in(x));
-        next += 1;
+        put(d, NEXT, 0, next + 1);
     }
-    put(d, NEXT, 0, next);
 }
 
 // Has accelerator a a transaction to offer, and room for it: fewer than phi are outstanding and its budget is not used?
@@ -333,10 +325,8 @@ pub(crate) fn clear_state(d: &mut [usize; 16384], channel: usize) {
 // The state of a channel in which the last port of each interconnect is 7, and all else is 0.
 pub fn start(d: &mut [usize; 16384], channel: usize) {
     clear_state(d, channel);
-    for i in 0..15 {
-        if i < ints(d) {
-            put(d, LAST, i, 7);
-        }
+    for i in 0..ints(d).min(15) {
+        put(d, LAST, i, 7);
     }
 }
 
@@ -358,20 +348,33 @@ pub fn refused(number: usize, line: usize) -> Ended {
     }
 }
 
-// Runs the lines of the log on a channel of the tree in the rows.
-fn run_log(d: &mut [usize; 16384], channel: usize, out: &mut [u8], wrong: usize) -> Ended {
+// Runs the lines of the log on a channel of the tree in the rows, a slot to each place, which is given what `of` says of the accelerator
+// served; how many are used.
+pub(crate) fn run_over<T: Copy, F: Fn(&[usize; 16384], usize) -> T>(
+    d: &mut [usize; 16384],
+    channel: usize,
+    places: &mut [T],
+    wrong: usize,
+    of: F,
+) -> usize
+    requires { F.IsAlwaysCallable of }
+{
     let lines = get(d, LINES, 0);
+    let n = places.len();
     start(d, channel);
-    let mut used = 0;
-    while used < out.len() {
+    for (used, place) in places.iter_mut().enumerate() {
         if nothing_left(d, lines, wrong) {
-            return run_end(true, used);
+            return used;
         }
         let a = run_slot(d, lines, wrong);
-        out[used] = (a % 256) as u8;
-        used += 1;
+        *place = of(d, a);
     }
-    run_end(nothing_left(d, lines, wrong), used)
+    n
+}
+
+fn run_log(d: &mut [usize; 16384], channel: usize, out: &mut [u8], wrong: usize) -> Ended {
+    let used = run_over(d, channel, out, wrong, |_, a| (a % 256) as u8);
+    run_end(nothing_left(d, get(d, LINES, 0), wrong), used)
 }
 
 pub(crate) fn said(number: usize, line: usize) -> Said {

@@ -3,11 +3,10 @@
 use crate::book::{
     NOTHING, READ, WRITE, acc_row, accs, carried, cell, int_row, is_broken, is_jobless, level,
 };
-use crate::queues::passes;
+use crate::queues::{passes, total};
 use crate::{
     BOTH_COUNT, EMPTY_WINDOW, NESTED, NO_WINDOWS, OTHER_SLOT, OWN_PORT, ROUNDED_DOWN, UNKNOWN_FIRST,
 };
-use store::least;
 
 // The figures of an accelerator: of the shares and the transactions of others that of reads first.
 #[derive(Clone, Copy)]
@@ -22,23 +21,13 @@ pub struct Row {
     pub meets: bool,
 }
 
+// Both go round at 2 to the 64th power.
 fn sum(x: usize, y: usize) -> usize {
-    std::num::wrapping_add_usize(x, y)
+    x.wrapping_add(y)
 }
 
-// The product, by doubling; it goes round at 2 to the 64th power.
 fn times(x: usize, y: usize) -> usize {
-    let mut product = 0;
-    let mut doubled = x;
-    let mut left = y;
-    while 0 < left {
-        if left % 2 == 1 {
-            product = std::num::wrapping_add_usize(product, doubled);
-        }
-        doubled = std::num::wrapping_add_usize(doubled, doubled);
-        left = left / 2;
-    }
-    product
+    x.wrapping_mul(y)
 }
 
 // What accelerator a counts on a channel: phi, or nothing without a job there. A wrong rule counts phi on both.
@@ -50,24 +39,24 @@ fn weight(d: &[usize; 16384], a: usize, channel: usize, wrong: usize) -> usize {
 }
 
 fn capacity(d: &[usize; 16384], i: usize, p: usize, channel: usize, wrong: usize) -> usize {
-    let mut found = 0;
-    for a in 0..32 {
-        if a < accs(d) {
-            if passes(d, a, i, p) {
-                found = sum(found, weight(d, a, channel, wrong));
-            }
+    total(|a| {
+        if (a < accs(d)) && passes(d, a, i, p) {
+            weight(d, a, channel, wrong)
+        } else {
+            0
         }
-    }
-    found
+    })
 }
 
-// The sum over the ports of interconnect i, but `own`, of the smaller of g and the capacity on a channel.
-fn others(d: &[usize; 16384], i: usize, own: usize, channel: usize, wrong: usize) -> usize {
+// The sum over the ports of interconnect i, but `own`, of the smaller of g and the capacity of the port.
+fn others<F: Fn(usize) -> usize>(d: &[usize; 16384], i: usize, own: usize, capacity: F) -> usize
+    requires { F.IsAlwaysCallable capacity }
+{
     let grain = cell(d, int_row(i), 3);
     let mut found = 0;
     for p in 0..8 {
         if p != own {
-            found = sum(found, least(grain, capacity(d, i, p, channel, wrong)));
+            found = sum(found, grain.min(capacity(p)));
         }
     }
     found
@@ -77,37 +66,19 @@ fn others(d: &[usize; 16384], i: usize, own: usize, channel: usize, wrong: usize
 fn nested_capacity(d: &[usize; 16384], i: usize, p: usize, channel: usize) -> usize {
     let below = carried(d, i, p);
     if (31 < below) & (below != NOTHING) {
-        return others(
-            d,
-            std::num::wrapping_sub_usize(below, 32),
-            8,
-            channel,
-            NESTED,
-        );
+        let j = below.wrapping_sub(32);
+        return others(d, j, 8, |q| capacity(d, j, q, channel, NESTED));
     }
     capacity(d, i, p, channel, NESTED)
-}
-
-fn nested_others(d: &[usize; 16384], i: usize, own: usize, channel: usize) -> usize {
-    let grain = cell(d, int_row(i), 3);
-    let mut found = 0;
-    for p in 0..8 {
-        if p != own {
-            found = sum(found, least(grain, nested_capacity(d, i, p, channel)));
-        }
-    }
-    found
 }
 
 // D at interconnect i, entered by port p, on a channel.
 fn rivals(d: &[usize; 16384], i: usize, p: usize, channel: usize, wrong: usize) -> usize {
     if wrong == NESTED {
-        return nested_others(d, i, p, channel);
+        return others(d, i, p, |q| nested_capacity(d, i, q, channel));
     }
-    if wrong == OWN_PORT {
-        return others(d, i, 8, channel, wrong);
-    }
-    others(d, i, p, channel, wrong)
+    let own = if wrong == OWN_PORT { 8 } else { p };
+    others(d, i, own, |q| capacity(d, i, q, channel, wrong))
 }
 
 // The product of 1 + D on the way from accelerator a up to the root.
@@ -131,10 +102,6 @@ fn bus(d: &[usize; 16384], column: usize) -> usize {
     cell(d, 0, column)
 }
 
-fn larger(x: usize, y: usize) -> usize {
-    if x < y { y } else { x }
-}
-
 // Reads: tA + pR + B x tD.
 fn read_slot(d: &[usize; 16384]) -> usize {
     sum(sum(bus(d, 1), bus(d, 5)), times(bus(d, 9), bus(d, 7)))
@@ -152,7 +119,7 @@ fn read_alone(d: &[usize; 16384], levels: usize) -> usize {
 }
 
 fn write_alone(d: &[usize; 16384], levels: usize) -> usize {
-    let there = larger(bus(d, 2), bus(d, 3));
+    let there = bus(d, 2).max(bus(d, 3));
     sum(write_slot(d), times(levels, sum(there, bus(d, 4))))
 }
 
@@ -217,8 +184,8 @@ pub fn figures(d: &[usize; 16384], a: usize, wrong: usize) -> Row {
     let sw = share(d, a, WRITE, wrong);
     let reads = cell(d, row, 5);
     let writes = cell(d, row, 6);
-    let others_read = times(reads, std::num::wrapping_sub_usize(sr, 1));
-    let others_write = times(writes, std::num::wrapping_sub_usize(sw, 1));
+    let others_read = times(reads, sr.wrapping_sub(1));
+    let others_write = times(writes, sw.wrapping_sub(1));
     let alone = sum(
         times(reads, read_alone(d, levels)),
         times(writes, write_alone(d, levels)),
