@@ -4,12 +4,12 @@ use bounds::BoundAnswer;
 use callcheck::channel_of;
 use model::Tree;
 use runner::RunAnswer;
-use second::Said;
 use second::queues::{Ended, refused, run_end, run_trace};
 use second::response::{bound_refusal, figures};
+use second::{Said, Wrong};
 
 // The bound of accelerator a, which may be one that the tree has not.
-pub fn same_bound(t: Tree, a: u8, d: &[usize; 16384], wrong: usize) -> bool {
+pub fn same_bound(t: Tree, a: u8, d: &[usize; 16384], wrong: Wrong) -> bool {
     let refusal = bound_refusal(d, a as usize, wrong);
     match bounds::bound(t, a) {
         BoundAnswer::Refused(r) => model::number(r) as usize == refusal,
@@ -23,7 +23,7 @@ pub fn same_bound(t: Tree, a: u8, d: &[usize; 16384], wrong: usize) -> bool {
 }
 
 // Whether every bound of the tree agrees.
-pub fn same_bounds(t: Tree, d: &[usize; 16384], wrong: usize) -> bool {
+pub fn same_bounds(t: Tree, d: &[usize; 16384], wrong: Wrong) -> bool {
     (0..33u8).all(|a| (t.accs < a) || same_bound(t, a, d, wrong))
 }
 
@@ -77,7 +77,7 @@ pub fn second_run(
     channel: usize,
     out: &mut [u8; 131074],
     n: usize,
-    wrong: usize,
+    wrong: Wrong,
 ) -> Ended {
     over(out, OURS, n, |part| {
         run_trace(trace, d, channel, part, wrong)

@@ -9,7 +9,7 @@ use generator::pages::long_file;
 use generator::{file_in, made, size};
 use lines::FileAnswer;
 use reader::read_tree;
-use second::NO_WRONG_RULE;
+use second::Wrong;
 use second::book::{READ, read_book};
 use store::{add, get};
 
@@ -28,7 +28,7 @@ fn try_on(
     out: &mut [u8; 131074],
     size: usize,
 ) {
-    read_book(tree, d, NO_WRONG_RULE);
+    read_book(tree, d, Wrong::Nothing);
     let r = read_tree(tree);
     try_file_runs(tree, r.tree, channel, s, d, out, size);
 }

@@ -18,7 +18,7 @@ use second::queues::refused;
 use second::response::{bound_refusal, figures, no_figures};
 use second::sheet::write_report;
 use second::written::text_size;
-use second::{NO_WRONG_RULE, Said};
+use second::{Said, Wrong};
 use store::{DIFFERENCES, add, get, note};
 
 // The number of accelerators, none where the tree is refused.
@@ -37,7 +37,7 @@ fn bound_said(s: Said, a: u8, d: &[usize; 16384]) -> Said {
         return s;
     }
     Said {
-        number: bound_refusal(d, a as usize, NO_WRONG_RULE),
+        number: bound_refusal(d, a as usize, Wrong::Nothing),
         line: 0,
     }
 }
@@ -47,7 +47,7 @@ fn try_bound(tree: &[u8], a: u8, s: Said, d: &mut [usize; 16384]) {
     let said = bound_said(s, a, d);
     let mut expected = no_figures();
     if said.number == 0 {
-        expected = figures(d, a as usize, NO_WRONG_RULE);
+        expected = figures(d, a as usize, Wrong::Nothing);
     }
     note(d, DIFFERENCES, 0, same_row(x, said, expected));
     add(d, EXPORTS, 1, 1);
@@ -86,7 +86,7 @@ fn try_report(tree: &[u8], s: Said, d: &mut [usize; 16384]) {
 // The tree written back over n bytes; one that is refused leaves them, whatever their number.
 fn try_rewriting(tree: &[u8], s: Said, d: &mut [usize; 16384], out: &mut [u8; 131074], n: usize) {
     let x = exported_written(tree, out, 0, n);
-    let w = second_written(s, d, out, n, NO_WRONG_RULE);
+    let w = second_written(s, d, out, n, Wrong::Nothing);
     let said = Said {
         number: w.number,
         line: w.line,
@@ -214,7 +214,7 @@ fn try_wait(
     let turn = get(d, EXPORTS, 6);
     let q = next_question(channel, d, past, a, turn, out);
     let x = exported_why(tree, trace, q, out);
-    let w = second_why(s, d, past, q, out, NO_WRONG_RULE);
+    let w = second_why(s, d, past, q, out, Wrong::Nothing);
     note(
         d,
         DIFFERENCES,
@@ -271,7 +271,7 @@ pub fn try_trace_exports(
     note(d, DIFFERENCES, 0, same_reading(reading, 2, s));
     add(d, EXPORTS, 0, 1);
     let x = exported_run(tree, channel, trace, out, n);
-    let e = second_run(s, d, channel, out, n, NO_WRONG_RULE);
+    let e = second_run(s, d, channel, out, n, Wrong::Nothing);
     note(
         d,
         DIFFERENCES,

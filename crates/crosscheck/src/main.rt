@@ -19,8 +19,8 @@ use crate::results::show;
 use crate::trials::{try_altered, try_file_runs, try_tree};
 use callcheck::try_machine;
 use generator::{buffer_size, file_in, made, number_below, start, trace_file, tree_file};
-use lines::FileAnswer;
 use input::{Input, read_all};
+use lines::FileAnswer;
 use std::io::{Error, ErrorKind};
 
 // A generated tree, in w, and, if it is accepted, a generated trace for one of the channels, in v.

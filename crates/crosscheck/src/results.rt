@@ -1,101 +1,16 @@
 // The counts that the program keeps in the store, and their labels.
 use alter::tangle::Way;
 use burstcheck::joins::JOINS;
-use burstcheck::offers::ADMITTED;
-use burstcheck::offers::IN_PART;
-use burstcheck::offers::OFFERED;
-use burstcheck::offers::OVER_16_OFFERED;
-use burstcheck::offers::RESUMED;
-use burstcheck::splits::AT_END;
-use burstcheck::splits::OLDER as OLDER_SPLITS;
-use burstcheck::splits::OVER_16;
-use burstcheck::splits::PIECES;
-use burstcheck::splits::SPLITS;
-use callcheck::BROKEN;
-use callcheck::CHANGED;
-use callcheck::HELD_BACK;
-use callcheck::JOBLESS_AS_KEPT;
-use callcheck::JOBLESS_BROKEN;
-use callcheck::KEPT;
-use callcheck::OFFERS;
-use callcheck::SLOTS as SLOT_CALLS;
-use callcheck::STARTS;
-use callcheck::WRITE_STARTS;
-use callcheck::returns::AT_ONCE;
-use callcheck::returns::EARLIER;
-use callcheck::returns::IN_EACH;
-use callcheck::returns::ONE_MORE;
-use callcheck::returns::TOO_FAR;
-use callcheck::returns::UNUSED;
-use callcheck::states::BUDGET_PASSED;
-use callcheck::states::BUDGET_USED;
-use callcheck::states::ONE_RETURNS;
-use callcheck::states::ONE_WAITS;
-use second::ADMITTED_LATE;
-use second::AFTER_LAST;
-use second::AS_READ;
-use second::BEATS_16;
-use second::BEATS_256;
-use second::BOTH_COUNT;
-use second::BUDGET_FIRST;
-use second::BURST_FIRST;
-use second::BY_LENGTH;
-use second::BY_NUMBER;
-use second::DONE_AT_HOME;
-use second::DONE_EARLY;
-use second::DONE_HOLDING;
-use second::DUE_NOW;
-use second::EMPTY_WINDOW;
-use second::END_CROSSES;
-use second::ENTRIES_LEFT;
-use second::FALLING_FIRST;
-use second::FROM_FIRST;
-use second::FROM_ZERO;
-use second::GROWING;
-use second::HALF_PAIR;
-use second::HOME_AT_WINDOW;
-use second::HOME_EARLY;
-use second::HOME_LATE;
-use second::JOB_FIRST;
-use second::JOB_LAST;
-use second::JOBLESS_ADMITTED;
-use second::JOBLESS_KEPT;
-use second::LAST_FIRST;
-use second::LAST_FULL;
-use second::LONG_FIRST;
-use second::LONG_LET_IN;
-use second::LONG_REFUSED;
-use second::LOWER_RESET;
-use second::NAME_LOST;
-use second::NESTED;
-use second::NO_PORT_7;
-use second::NO_WINDOWS;
-use second::NOT_OUTSTANDING;
-use second::NOT_ROUNDED;
-use second::NUMBER_FIRST;
-use second::ONE_OFFER;
-use second::ORDER_FIRST;
-use second::OTHER_CHANNEL;
-use second::OTHER_NAME;
-use second::OTHER_SLOT;
-use second::OWN_MEETS;
-use second::OWN_PORT;
-use second::PAGE_FIRST;
-use second::REFUSED_COUNTED;
-use second::ROOT_MEETS;
-use second::ROUNDED_DOWN;
-use second::SERVICE_LISTED;
-use second::SHORT_FIRST;
-use second::SIZE_FIRST;
-use second::THREE_BYTES;
-use second::TRACE_FIRST;
-use second::UNKNOWN_FIRST;
-use second::WHOLE_RUN;
-use second::WRITTEN_SHORT;
-use second::ZERO_WRITTEN;
-use store::DIFFERENCES;
-use store::WRONG;
-use store::get;
+use burstcheck::offers::{ADMITTED, IN_PART, OFFERED, OVER_16_OFFERED, RESUMED};
+use burstcheck::splits::{AT_END, OLDER as OLDER_SPLITS, OVER_16, PIECES, SPLITS};
+use callcheck::returns::{AT_ONCE, EARLIER, IN_EACH, ONE_MORE, TOO_FAR, UNUSED};
+use callcheck::states::{BUDGET_PASSED, BUDGET_USED, ONE_RETURNS, ONE_WAITS};
+use callcheck::{
+    BROKEN, CHANGED, HELD_BACK, JOBLESS_AS_KEPT, JOBLESS_BROKEN, KEPT, OFFERS, SLOTS as SLOT_CALLS,
+    STARTS, WRITE_STARTS,
+};
+use second::Wrong;
+use store::{DIFFERENCES, WRONG, get};
 
 // The counts. Trees by the number of their answer, 0 where accepted.
 pub const TREES: usize = 3072;
@@ -290,25 +205,61 @@ const LINES: [(&str, usize); 209] = [
     ("their bounds given", BOUND_ANSWERS),
     ("their bounds refused by 7", BOUND_ANSWERS + 7),
     ("their bounds refused by 11", BOUND_ANSWERS + 11),
-    ("altered: an interconnect names one above it", TANGLED + Way::Cycle as usize),
-    ("altered: an interconnect and its parent name each other", TANGLED + Way::EachOther as usize),
-    ("altered: two ports name an accelerator", TANGLED + Way::AcceleratorTwice as usize),
-    ("altered: two ports name an interconnect", TANGLED + Way::InterconnectTwice as usize),
-    ("altered: a number in an unused interconnect", TANGLED + Way::UnusedInterconnect as usize),
-    ("altered: a number in an unused accelerator", TANGLED + Way::UnusedAccelerator as usize),
-    ("altered: a port of an unused interconnect", TANGLED + Way::UnusedPort as usize),
+    (
+        "altered: an interconnect names one above it",
+        TANGLED + Way::Cycle as usize,
+    ),
+    (
+        "altered: an interconnect and its parent name each other",
+        TANGLED + Way::EachOther as usize,
+    ),
+    (
+        "altered: two ports name an accelerator",
+        TANGLED + Way::AcceleratorTwice as usize,
+    ),
+    (
+        "altered: two ports name an interconnect",
+        TANGLED + Way::InterconnectTwice as usize,
+    ),
+    (
+        "altered: a number in an unused interconnect",
+        TANGLED + Way::UnusedInterconnect as usize,
+    ),
+    (
+        "altered: a number in an unused accelerator",
+        TANGLED + Way::UnusedAccelerator as usize,
+    ),
+    (
+        "altered: a port of an unused interconnect",
+        TANGLED + Way::UnusedPort as usize,
+    ),
     ("returns put in: one more, state kept", KEPT + ONE_MORE),
-    ("returns put in: one in each slot, state kept", KEPT + IN_EACH),
+    (
+        "returns put in: one in each slot, state kept",
+        KEPT + IN_EACH,
+    ),
     ("returns put in: one more, above phi", BROKEN + ONE_MORE),
-    ("returns put in: one in each slot, above phi", BROKEN + IN_EACH),
+    (
+        "returns put in: one in each slot, above phi",
+        BROKEN + IN_EACH,
+    ),
     ("returns put in: one due now", BROKEN + AT_ONCE),
     ("returns put in: one due earlier", BROKEN + EARLIER),
     ("returns put in: one due too far ahead", BROKEN + TOO_FAR),
-    ("returns put in: one of an unused accelerator", BROKEN + UNUSED),
+    (
+        "returns put in: one of an unused accelerator",
+        BROKEN + UNUSED,
+    ),
     ("channel changed, state kept", CHANGED + 1),
     ("channel changed, state broken", CHANGED),
-    ("without a job: its budget used, state kept", JOBLESS_AS_KEPT + BUDGET_USED),
-    ("without a job: above its budget", JOBLESS_BROKEN + BUDGET_PASSED),
+    (
+        "without a job: its budget used, state kept",
+        JOBLESS_AS_KEPT + BUDGET_USED,
+    ),
+    (
+        "without a job: above its budget",
+        JOBLESS_BROKEN + BUDGET_PASSED,
+    ),
     ("without a job: one waiting", JOBLESS_BROKEN + ONE_WAITS),
     ("without a job: one returning", JOBLESS_BROKEN + ONE_RETURNS),
     ("requests looked up line by line", REQUESTS),
@@ -352,7 +303,10 @@ const LINES: [(&str, usize); 209] = [
     ("bursts offered, refused by 11", OFFERED + 11),
     ("bursts offered, refused by 14", OFFERED + 14),
     ("bursts offered, refused by 15", OFFERED + 15),
-    ("bursts offered, refused by 15, bus3 and 17 to 256 beats", OVER_16_OFFERED),
+    (
+        "bursts offered, refused by 15, bus3 and 17 to 256 beats",
+        OVER_16_OFFERED,
+    ),
     ("bursts offered, refused by 16", OFFERED + 16),
     ("exports: readings", EXPORTS),
     ("exports: bounds", EXPORTS + 1),
@@ -372,68 +326,254 @@ const LINES: [(&str, usize); 209] = [
     ("exports: bursts refused by 16", CUTS + 16),
     ("exports: bursts refused by the tree", CUTS + 1),
     ("exports: answers to a joiner", JOINED),
-    ("wrong: 3 tested before 2, trees seen", WRONG + ORDER_FIRST),
-    ("wrong: 6 tested before 7, traces seen", WRONG + FALLING_FIRST),
-    ("wrong: budgets over the whole run, runs seen", WRONG + WHOLE_RUN),
-    ("wrong: circle restarted at port 0, runs seen", WRONG + FROM_ZERO),
-    ("wrong: allowance grows in its turn, runs seen", WRONG + GROWING),
-    ("wrong: lower turn reset by its parent, runs seen", WRONG + LOWER_RESET),
-    ("wrong: D counts the own port, trees seen", WRONG + OWN_PORT),
-    ("wrong: capacity through a lower g, trees seen", WRONG + NESTED),
-    ("wrong: 9 tested before 8, offers seen", WRONG + BUDGET_FIRST),
-    ("wrong: 7 tested before 11, offers and bounds seen", WRONG + UNKNOWN_FIRST),
-    ("wrong: 10 tested before 11, slots seen", WRONG + LAST_FIRST),
-    ("wrong: buffer tested before 11, runs seen", WRONG + SIZE_FIRST),
-    ("wrong: trace tested before the buffer, runs seen", WRONG + TRACE_FIRST),
-    ("wrong: the slot of service listed, waits seen", WRONG + SERVICE_LISTED),
-    ("wrong: admission one slot late, waits seen", WRONG + ADMITTED_LATE),
-    ("wrong: the root for the meeting point, waits seen", WRONG + ROOT_MEETS),
-    ("wrong: own told as an interconnect, waits seen", WRONG + OWN_MEETS),
-    ("wrong: half a pair written, waits seen", WRONG + HALF_PAIR),
-    ("wrong: 12 tested before 7, waits seen", WRONG + NUMBER_FIRST),
-    ("wrong: returns not outstanding, runs seen", WRONG + NOT_OUTSTANDING),
-    ("wrong: home one slot late, runs seen", WRONG + HOME_LATE),
-    ("wrong: home one slot early, runs seen", WRONG + HOME_EARLY),
-    ("wrong: home when a window opens, runs seen", WRONG + HOME_AT_WINDOW),
-    ("wrong: done only when all are home, runs seen", WRONG + DONE_AT_HOME),
-    ("wrong: a return due now kept, offers and slots seen", WRONG + DUE_NOW),
-    ("wrong: acc lines as the file has them, trees seen", WRONG + AS_READ),
-    ("wrong: acc lines by number, trees seen", WRONG + BY_NUMBER),
-    ("wrong: acc lines at port 7 left out, trees seen", WRONG + NO_PORT_7),
-    ("wrong: a return delay of 0 written, trees seen", WRONG + ZERO_WRITTEN),
-    ("wrong: 2 tested before 11, writings seen", WRONG + LONG_FIRST),
-    ("wrong: 13 tested before 11, writings seen", WRONG + SHORT_FIRST),
-    ("wrong: written and then refused by 13, writings seen", WRONG + WRITTEN_SHORT),
-    ("wrong: phi counted on both channels, trees seen", WRONG + BOTH_COUNT),
-    ("wrong: 14 tested after 8, offers seen", WRONG + JOB_LAST),
-    ("wrong: 14 tested before 7, offers seen", WRONG + JOB_FIRST),
-    ("wrong: one waiting without a job kept, offers and slots seen", WRONG + JOBLESS_KEPT),
-    ("wrong: the other channel's job, offers and runs seen", WRONG + OTHER_CHANNEL),
-    ("wrong: admitted without a job, runs seen", WRONG + JOBLESS_ADMITTED),
-    ("wrong: done though held without a job, runs seen", WRONG + DONE_HOLDING),
-    ("wrong: the last piece with B beats, bursts seen", WRONG + LAST_FULL),
-    ("wrong: a later start not rounded down, bursts seen", WRONG + NOT_ROUNDED),
-    ("wrong: a page test by length only, bursts seen", WRONG + BY_LENGTH),
-    ("wrong: ending on the last byte of a page refused, bursts seen", WRONG + END_CROSSES),
-    ("wrong: 16 tested before 15, bursts seen", WRONG + PAGE_FIRST),
-    ("wrong: 15 and 16 tested before 11, bursts seen", WRONG + BURST_FIRST),
-    ("wrong: beats of 3 bytes, bursts seen", WRONG + THREE_BYTES),
-    ("wrong: entries past the last piece left, bursts seen", WRONG + ENTRIES_LEFT),
-    ("wrong: done one answer early, answers seen", WRONG + DONE_EARLY),
-    ("wrong: the answer after the last taken, answers seen", WRONG + AFTER_LAST),
-    ("wrong: a burst offered as one, bursts seen", WRONG + ONE_OFFER),
-    ("wrong: begun with the first piece, bursts seen", WRONG + FROM_FIRST),
-    ("wrong: the refused piece counted, bursts seen", WRONG + REFUSED_COUNTED),
-    ("wrong: B up to 256 on a bus3 line, trees seen", WRONG + LONG_LET_IN),
-    ("wrong: B up to 16 only on a bus line, trees seen", WRONG + LONG_REFUSED),
-    ("wrong: a second bus line of the other name passed over, trees seen", WRONG + OTHER_NAME),
-    ("wrong: bus3 written as bus, trees seen", WRONG + NAME_LOST),
-    ("wrong: up to 256 beats on every tree, bursts seen", WRONG + BEATS_256),
-    ("wrong: up to 16 beats on every tree, bursts seen", WRONG + BEATS_16),
-    ("wrong: windows rounded down, trees seen", WRONG + ROUNDED_DOWN),
-    ("wrong: no wait for new windows, trees seen", WRONG + NO_WINDOWS),
-    ("wrong: windows in the other channel's slot time, trees seen", WRONG + OTHER_SLOT),
-    ("wrong: a window for 0 transactions, trees seen", WRONG + EMPTY_WINDOW),
+    (
+        "wrong: 3 tested before 2, trees seen",
+        WRONG + Wrong::OrderFirst as usize,
+    ),
+    (
+        "wrong: 6 tested before 7, traces seen",
+        WRONG + Wrong::FallingFirst as usize,
+    ),
+    (
+        "wrong: budgets over the whole run, runs seen",
+        WRONG + Wrong::WholeRun as usize,
+    ),
+    (
+        "wrong: circle restarted at port 0, runs seen",
+        WRONG + Wrong::FromZero as usize,
+    ),
+    (
+        "wrong: allowance grows in its turn, runs seen",
+        WRONG + Wrong::Growing as usize,
+    ),
+    (
+        "wrong: lower turn reset by its parent, runs seen",
+        WRONG + Wrong::LowerReset as usize,
+    ),
+    (
+        "wrong: D counts the own port, trees seen",
+        WRONG + Wrong::OwnPort as usize,
+    ),
+    (
+        "wrong: capacity through a lower g, trees seen",
+        WRONG + Wrong::Nested as usize,
+    ),
+    (
+        "wrong: 9 tested before 8, offers seen",
+        WRONG + Wrong::BudgetFirst as usize,
+    ),
+    (
+        "wrong: 7 tested before 11, offers and bounds seen",
+        WRONG + Wrong::UnknownFirst as usize,
+    ),
+    (
+        "wrong: 10 tested before 11, slots seen",
+        WRONG + Wrong::LastFirst as usize,
+    ),
+    (
+        "wrong: buffer tested before 11, runs seen",
+        WRONG + Wrong::SizeFirst as usize,
+    ),
+    (
+        "wrong: trace tested before the buffer, runs seen",
+        WRONG + Wrong::TraceFirst as usize,
+    ),
+    (
+        "wrong: the slot of service listed, waits seen",
+        WRONG + Wrong::ServiceListed as usize,
+    ),
+    (
+        "wrong: admission one slot late, waits seen",
+        WRONG + Wrong::AdmittedLate as usize,
+    ),
+    (
+        "wrong: the root for the meeting point, waits seen",
+        WRONG + Wrong::RootMeets as usize,
+    ),
+    (
+        "wrong: own told as an interconnect, waits seen",
+        WRONG + Wrong::OwnMeets as usize,
+    ),
+    (
+        "wrong: half a pair written, waits seen",
+        WRONG + Wrong::HalfPair as usize,
+    ),
+    (
+        "wrong: 12 tested before 7, waits seen",
+        WRONG + Wrong::NumberFirst as usize,
+    ),
+    (
+        "wrong: returns not outstanding, runs seen",
+        WRONG + Wrong::NotOutstanding as usize,
+    ),
+    (
+        "wrong: home one slot late, runs seen",
+        WRONG + Wrong::HomeLate as usize,
+    ),
+    (
+        "wrong: home one slot early, runs seen",
+        WRONG + Wrong::HomeEarly as usize,
+    ),
+    (
+        "wrong: home when a window opens, runs seen",
+        WRONG + Wrong::HomeAtWindow as usize,
+    ),
+    (
+        "wrong: done only when all are home, runs seen",
+        WRONG + Wrong::DoneAtHome as usize,
+    ),
+    (
+        "wrong: a return due now kept, offers and slots seen",
+        WRONG + Wrong::DueNow as usize,
+    ),
+    (
+        "wrong: acc lines as the file has them, trees seen",
+        WRONG + Wrong::AsRead as usize,
+    ),
+    (
+        "wrong: acc lines by number, trees seen",
+        WRONG + Wrong::ByNumber as usize,
+    ),
+    (
+        "wrong: acc lines at port 7 left out, trees seen",
+        WRONG + Wrong::NoPort7 as usize,
+    ),
+    (
+        "wrong: a return delay of 0 written, trees seen",
+        WRONG + Wrong::ZeroWritten as usize,
+    ),
+    (
+        "wrong: 2 tested before 11, writings seen",
+        WRONG + Wrong::LongFirst as usize,
+    ),
+    (
+        "wrong: 13 tested before 11, writings seen",
+        WRONG + Wrong::ShortFirst as usize,
+    ),
+    (
+        "wrong: written and then refused by 13, writings seen",
+        WRONG + Wrong::WrittenShort as usize,
+    ),
+    (
+        "wrong: phi counted on both channels, trees seen",
+        WRONG + Wrong::BothCount as usize,
+    ),
+    (
+        "wrong: 14 tested after 8, offers seen",
+        WRONG + Wrong::JobLast as usize,
+    ),
+    (
+        "wrong: 14 tested before 7, offers seen",
+        WRONG + Wrong::JobFirst as usize,
+    ),
+    (
+        "wrong: one waiting without a job kept, offers and slots seen",
+        WRONG + Wrong::JoblessKept as usize,
+    ),
+    (
+        "wrong: the other channel's job, offers and runs seen",
+        WRONG + Wrong::OtherChannel as usize,
+    ),
+    (
+        "wrong: admitted without a job, runs seen",
+        WRONG + Wrong::JoblessAdmitted as usize,
+    ),
+    (
+        "wrong: done though held without a job, runs seen",
+        WRONG + Wrong::DoneHolding as usize,
+    ),
+    (
+        "wrong: the last piece with B beats, bursts seen",
+        WRONG + Wrong::LastFull as usize,
+    ),
+    (
+        "wrong: a later start not rounded down, bursts seen",
+        WRONG + Wrong::NotRounded as usize,
+    ),
+    (
+        "wrong: a page test by length only, bursts seen",
+        WRONG + Wrong::ByLength as usize,
+    ),
+    (
+        "wrong: ending on the last byte of a page refused, bursts seen",
+        WRONG + Wrong::EndCrosses as usize,
+    ),
+    (
+        "wrong: 16 tested before 15, bursts seen",
+        WRONG + Wrong::PageFirst as usize,
+    ),
+    (
+        "wrong: 15 and 16 tested before 11, bursts seen",
+        WRONG + Wrong::BurstFirst as usize,
+    ),
+    (
+        "wrong: beats of 3 bytes, bursts seen",
+        WRONG + Wrong::ThreeBytes as usize,
+    ),
+    (
+        "wrong: entries past the last piece left, bursts seen",
+        WRONG + Wrong::EntriesLeft as usize,
+    ),
+    (
+        "wrong: done one answer early, answers seen",
+        WRONG + Wrong::DoneEarly as usize,
+    ),
+    (
+        "wrong: the answer after the last taken, answers seen",
+        WRONG + Wrong::AfterLast as usize,
+    ),
+    (
+        "wrong: a burst offered as one, bursts seen",
+        WRONG + Wrong::OneOffer as usize,
+    ),
+    (
+        "wrong: begun with the first piece, bursts seen",
+        WRONG + Wrong::FromFirst as usize,
+    ),
+    (
+        "wrong: the refused piece counted, bursts seen",
+        WRONG + Wrong::RefusedCounted as usize,
+    ),
+    (
+        "wrong: B up to 256 on a bus3 line, trees seen",
+        WRONG + Wrong::LongLetIn as usize,
+    ),
+    (
+        "wrong: B up to 16 only on a bus line, trees seen",
+        WRONG + Wrong::LongRefused as usize,
+    ),
+    (
+        "wrong: a second bus line of the other name passed over, trees seen",
+        WRONG + Wrong::OtherName as usize,
+    ),
+    (
+        "wrong: bus3 written as bus, trees seen",
+        WRONG + Wrong::NameLost as usize,
+    ),
+    (
+        "wrong: up to 256 beats on every tree, bursts seen",
+        WRONG + Wrong::Beats256 as usize,
+    ),
+    (
+        "wrong: up to 16 beats on every tree, bursts seen",
+        WRONG + Wrong::Beats16 as usize,
+    ),
+    (
+        "wrong: windows rounded down, trees seen",
+        WRONG + Wrong::RoundedDown as usize,
+    ),
+    (
+        "wrong: no wait for new windows, trees seen",
+        WRONG + Wrong::NoWindows as usize,
+    ),
+    (
+        "wrong: windows in the other channel's slot time, trees seen",
+        WRONG + Wrong::OtherSlot as usize,
+    ),
+    (
+        "wrong: a window for 0 transactions, trees seen",
+        WRONG + Wrong::EmptyWindow as usize,
+    ),
     ("differences", DIFFERENCES),
 ];
 

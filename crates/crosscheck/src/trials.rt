@@ -23,11 +23,7 @@ use second::queues::{Ended, is_stuck, run_refusal};
 use second::requests::{lines, read_log};
 use second::response::bound_refusal;
 use second::written::text_size;
-use second::{
-    BOTH_COUNT, DONE_HOLDING, DUE_NOW, EMPTY_WINDOW, FALLING_FIRST, LONG_LET_IN, LONG_REFUSED,
-    NESTED, NO_WINDOWS, NO_WRONG_RULE, NOT_OUTSTANDING, ORDER_FIRST, OTHER_CHANNEL, OTHER_NAME,
-    OTHER_SLOT, OWN_PORT, ROUNDED_DOWN, SIZE_FIRST, Said, TRACE_FIRST, UNKNOWN_FIRST, WHOLE_RUN,
-};
+use second::{Said, Wrong};
 use store::{DIFFERENCES, WRONG, add, note};
 use trace::read_trace;
 use treecheck::{is_empty, judge, same_tree};
@@ -43,8 +39,8 @@ fn count_delay(delay: u8, d: &mut [usize; 16384]) {
 
 // What the job of accelerator a has: 0 reads and writes, 1 writes only, 2 reads only, 3 neither.
 fn job_kind(d: &[usize; 16384], a: usize) -> usize {
-    let no_reads = is_jobless(d, a, READ, NO_WRONG_RULE);
-    let no_writes = is_jobless(d, a, WRITE, NO_WRONG_RULE);
+    let no_reads = is_jobless(d, a, READ, Wrong::Nothing);
+    let no_writes = is_jobless(d, a, WRITE, Wrong::Nothing);
     no_reads as usize + 2 * (no_writes as usize)
 }
 
@@ -57,22 +53,22 @@ fn count_jobs(accs: usize, d: &mut [usize; 16384]) {
 }
 
 // Does a wrong rule change a bound of the tree?
-fn note_bounds(t: Tree, d: &mut [usize; 16384], wrong: usize) {
+fn note_bounds(t: Tree, d: &mut [usize; 16384], wrong: Wrong) {
     let same = same_bounds(t, d, wrong);
-    note(d, WRONG, wrong, same);
+    note(d, WRONG, wrong as usize, same);
 }
 
 // The bounds of an accepted tree.
 fn try_bounds(t: Tree, d: &mut [usize; 16384]) {
-    let right = same_bounds(t, d, NO_WRONG_RULE);
+    let right = same_bounds(t, d, Wrong::Nothing);
     note(d, DIFFERENCES, 0, right);
-    note_bounds(t, d, OWN_PORT);
-    note_bounds(t, d, NESTED);
-    note_bounds(t, d, BOTH_COUNT);
-    note_bounds(t, d, ROUNDED_DOWN);
-    note_bounds(t, d, NO_WINDOWS);
-    note_bounds(t, d, OTHER_SLOT);
-    note_bounds(t, d, EMPTY_WINDOW);
+    note_bounds(t, d, Wrong::OwnPort);
+    note_bounds(t, d, Wrong::Nested);
+    note_bounds(t, d, Wrong::BothCount);
+    note_bounds(t, d, Wrong::RoundedDown);
+    note_bounds(t, d, Wrong::NoWindows);
+    note_bounds(t, d, Wrong::OtherSlot);
+    note_bounds(t, d, Wrong::EmptyWindow);
     add(d, BOUNDS, 0, t.accs as usize + 1);
 }
 
@@ -108,20 +104,20 @@ fn count_zero(s: &[u8], delay: u8, d: &mut [usize; 16384]) {
 }
 
 // Does a wrong rule change the answer on a tree file?
-fn note_reading(s: &[u8], answer: FileAnswer, d: &mut [usize; 16384], wrong: usize) {
+fn note_reading(s: &[u8], answer: FileAnswer, d: &mut [usize; 16384], wrong: Wrong) {
     let said = read_book(s, d, wrong);
-    note(d, WRONG, wrong, same_said(answer, said));
+    note(d, WRONG, wrong as usize, same_said(answer, said));
 }
 
 // A tree file. The rows are left with the second reader's tree.
 pub fn try_tree(s: &[u8], d: &mut [usize; 16384], out: &mut [u8; 131074]) -> TreeRead {
     let r = read_tree(s);
     let answer = r.answer;
-    note_reading(s, answer, d, ORDER_FIRST);
-    note_reading(s, answer, d, LONG_LET_IN);
-    note_reading(s, answer, d, LONG_REFUSED);
-    note_reading(s, answer, d, OTHER_NAME);
-    let said = read_book(s, d, NO_WRONG_RULE);
+    note_reading(s, answer, d, Wrong::OrderFirst);
+    note_reading(s, answer, d, Wrong::LongLetIn);
+    note_reading(s, answer, d, Wrong::LongRefused);
+    note_reading(s, answer, d, Wrong::OtherName);
+    let said = read_book(s, d, Wrong::Nothing);
     note(d, DIFFERENCES, 0, same_said(answer, said));
     add(d, TREES, said.number, 1);
     if said.number == 0 {
@@ -139,9 +135,14 @@ pub fn try_tree(s: &[u8], d: &mut [usize; 16384], out: &mut [u8; 131074]) -> Tre
 // A trace file, on the tree that the rows have too. The log is left with its lines.
 fn try_trace(t: Tree, s: &[u8], d: &mut [usize; 16384]) -> Said {
     let answer = read_trace(t, s);
-    let wrongly = read_log(s, d, FALLING_FIRST);
-    note(d, WRONG, FALLING_FIRST, same_said(answer, wrongly));
-    let said = read_log(s, d, NO_WRONG_RULE);
+    let wrongly = read_log(s, d, Wrong::FallingFirst);
+    note(
+        d,
+        WRONG,
+        Wrong::FallingFirst as usize,
+        same_said(answer, wrongly),
+    );
+    let said = read_log(s, d, Wrong::Nothing);
     note(d, DIFFERENCES, 0, same_said(answer, said));
     add(d, TRACES, said.number, 1);
     if said.number == 0 {
@@ -173,7 +174,23 @@ fn count_run(e: Ended, d: &mut [usize; 16384]) {
     }
 }
 
-// A run over n bytes by each of the wrong rules from one on to another, against what the library did.
+// The wrong rules of a run that is not refused.
+const RULES: [Wrong; 12] = [
+    Wrong::WholeRun,
+    Wrong::FromZero,
+    Wrong::Growing,
+    Wrong::LowerReset,
+    Wrong::NotOutstanding,
+    Wrong::HomeLate,
+    Wrong::HomeEarly,
+    Wrong::HomeAtWindow,
+    Wrong::DoneAtHome,
+    Wrong::OtherChannel,
+    Wrong::JoblessAdmitted,
+    Wrong::DoneHolding,
+];
+
+// A run over n bytes by each of these rules, against what the library did.
 fn try_wrong_runs(
     said: Said,
     d: &mut [usize; 16384],
@@ -181,22 +198,25 @@ fn try_wrong_runs(
     out: &mut [u8; 131074],
     right: Ended,
     n: usize,
-    from: usize,
-    to: usize,
 ) {
-    for wrong in from..to {
+    for wrong in RULES {
         let e = second_run(said, d, channel, out, n, wrong);
-        note(d, WRONG, wrong, same_end(e, right) & same_bytes(out, n));
+        note(
+            d,
+            WRONG,
+            wrong as usize,
+            same_end(e, right) & same_bytes(out, n),
+        );
     }
 }
 
 // A run over n bytes that the library ends so: is an order of its tests seen that is wrong?
-fn note_order(said: Said, d: &mut [usize; 16384], right: Ended, n: usize, wrong: usize) {
+fn note_order(said: Said, d: &mut [usize; 16384], right: Ended, n: usize, wrong: Wrong) {
     let r = run_refusal(said, d, n, wrong);
     note(
         d,
         WRONG,
-        wrong,
+        wrong as usize,
         (r.number == right.number) & (r.line == right.line),
     );
 }
@@ -212,7 +232,7 @@ fn same_run(
     n: usize,
 ) -> Ended {
     let right = library_run(t, channel, s, out, n);
-    let e = second_run(said, d, channel, out, n, NO_WRONG_RULE);
+    let e = second_run(said, d, channel, out, n, Wrong::Nothing);
     note(d, DIFFERENCES, 0, same_end(e, right) & same_bytes(out, n));
     count_run(e, d);
     add(d, WRITE_RUNS, 0, channel);
@@ -231,13 +251,10 @@ fn try_run(
     n: usize,
 ) -> usize {
     let right = same_run(t, channel, s, said, d, out, n);
-    note_order(said, d, right, n, SIZE_FIRST);
-    note_order(said, d, right, n, TRACE_FIRST);
+    note_order(said, d, right, n, Wrong::SizeFirst);
+    note_order(said, d, right, n, Wrong::TraceFirst);
     if said.number == 0 {
-        try_wrong_runs(said, d, channel, out, right, n, WHOLE_RUN, OWN_PORT);
-        try_wrong_runs(said, d, channel, out, right, n, NOT_OUTSTANDING, DUE_NOW);
-        let to = DONE_HOLDING + 1;
-        try_wrong_runs(said, d, channel, out, right, n, OTHER_CHANNEL, to);
+        try_wrong_runs(said, d, channel, out, right, n);
     }
     if right.done { right.slots } else { 0 }
 }
@@ -285,11 +302,11 @@ pub fn try_file_runs(
 
 // A bound of accelerator a, which the tree may not have.
 fn try_bound(t: Tree, a: u8, d: &mut [usize; 16384]) {
-    let same = same_bound(t, a, d, NO_WRONG_RULE);
+    let same = same_bound(t, a, d, Wrong::Nothing);
     note(d, DIFFERENCES, 0, same);
-    let wrongly = same_bound(t, a, d, UNKNOWN_FIRST);
-    note(d, WRONG, UNKNOWN_FIRST, wrongly);
-    let refusal = bound_refusal(d, a as usize, NO_WRONG_RULE);
+    let wrongly = same_bound(t, a, d, Wrong::UnknownFirst);
+    note(d, WRONG, Wrong::UnknownFirst as usize, wrongly);
+    let refusal = bound_refusal(d, a as usize, Wrong::Nothing);
     add(d, BOUND_ANSWERS, refusal, 1);
 }
 

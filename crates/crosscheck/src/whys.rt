@@ -7,7 +7,7 @@ use answercheck::{OURS, same_bytes, same_told, told_of};
 use callcheck::channel_of;
 use model::Tree;
 use second::past::{Told, keep_run, services, why};
-use second::{NO_WRONG_RULE, NOT_OUTSTANDING, SERVICE_LISTED, Said};
+use second::{Said, Wrong};
 use store::{DIFFERENCES, WRONG, add, get, note};
 
 // A question: a channel, an accelerator, the number of one of its transactions, and the size of the buffer that is lent.
@@ -34,7 +34,7 @@ pub fn second_why(
     past: &[usize],
     q: Question,
     out: &mut [u8; 131074],
-    wrong: usize,
+    wrong: Wrong,
 ) -> Told {
     let a = q.accelerator as usize;
     let k = q.number as usize;
@@ -58,6 +58,16 @@ fn count_why(w: Told, size: usize, d: &mut [usize; 16384]) {
     }
 }
 
+// The wrong rules of a question.
+const RULES: [Wrong; 6] = [
+    Wrong::ServiceListed,
+    Wrong::AdmittedLate,
+    Wrong::RootMeets,
+    Wrong::OwnMeets,
+    Wrong::HalfPair,
+    Wrong::NumberFirst,
+];
+
 // The question by each wrong rule, against what the library answered.
 fn try_wrong_whys(
     said: Said,
@@ -67,12 +77,12 @@ fn try_wrong_whys(
     out: &mut [u8; 131074],
     right: Told,
 ) {
-    for wrong in SERVICE_LISTED..NOT_OUTSTANDING {
+    for wrong in RULES {
         let w = second_why(said, d, past, q, out, wrong);
         note(
             d,
             WRONG,
-            wrong,
+            wrong as usize,
             same_told(w, right) & same_bytes(out, q.size),
         );
     }
@@ -88,7 +98,7 @@ fn try_why(
     out: &mut [u8; 131074],
 ) {
     let right = library_why(t, s, q, out);
-    let w = second_why(said, d, past, q, out, NO_WRONG_RULE);
+    let w = second_why(said, d, past, q, out, Wrong::Nothing);
     note(
         d,
         DIFFERENCES,
@@ -150,7 +160,7 @@ pub fn next_question(
     let k = number_asked(i % 6, services(past, a as usize));
     let said = Said { number: 0, line: 0 };
     let q = question_of(channel, a, k, 0);
-    let w = second_why(said, d, past, q, out, NO_WRONG_RULE);
+    let w = second_why(said, d, past, q, out, Wrong::Nothing);
     let turn = get(d, WHYS_ASKED, 0);
     add(d, WHYS_ASKED, 0, 1);
     question_of(channel, a, k, size_lent(turn % 7, w.count))

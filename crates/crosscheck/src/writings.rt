@@ -9,7 +9,7 @@ use model::Tree;
 use razhikum::{Page, razhikum_rewrite};
 use reader::read_tree;
 use second::written::{Written, text_size, write_back};
-use second::{AS_READ, LONG_FIRST, NAME_LOST, NO_WRONG_RULE, Said, WRITTEN_SHORT};
+use second::{Said, Wrong};
 use store::{DIFFERENCES, WRONG, add, get, note};
 use treecheck::same_tree;
 use writer::write_tree;
@@ -30,7 +30,7 @@ pub fn second_written(
     d: &[usize; 16384],
     out: &mut [u8; 131074],
     n: usize,
-    wrong: usize,
+    wrong: Wrong,
 ) -> Written {
     over(out, OURS, n, |part| write_back(tree, d, part, wrong))
 }
@@ -39,32 +39,42 @@ fn accepted() -> Said {
     Said { number: 0, line: 0 }
 }
 
-// A writing over n bytes by each of the wrong rules from one on to another, against what the library did.
+// The wrong rules of a text,
+const OF_TEXT: [Wrong; 5] = [
+    Wrong::AsRead,
+    Wrong::ByNumber,
+    Wrong::NoPort7,
+    Wrong::ZeroWritten,
+    Wrong::NameLost,
+];
+
+// and those of its refusals.
+const OF_REFUSALS: [Wrong; 3] = [Wrong::LongFirst, Wrong::ShortFirst, Wrong::WrittenShort];
+
+// A writing over n bytes by each of these wrong rules, against what the library did.
 fn try_wrong_writings(
     d: &mut [usize; 16384],
     out: &mut [u8; 131074],
     right: Written,
     n: usize,
-    from: usize,
-    to: usize,
+    rules: &[Wrong],
 ) {
-    for wrong in from..to {
+    for rule in rules {
+        let wrong = *rule;
         let w = second_written(accepted(), d, out, n, wrong);
-        note(d, WRONG, wrong, same_written(w, right) & same_bytes(out, n));
+        note(
+            d,
+            WRONG,
+            wrong as usize,
+            same_written(w, right) & same_bytes(out, n),
+        );
     }
 }
 
-// A writing over n bytes of each buffer, and by those wrong rules; what the library answers.
-fn try_writing(
-    t: Tree,
-    d: &mut [usize; 16384],
-    out: &mut [u8; 131074],
-    n: usize,
-    from: usize,
-    to: usize,
-) -> Written {
+// A writing over n bytes of each buffer, and by these wrong rules.
+fn try_writing(t: Tree, d: &mut [usize; 16384], out: &mut [u8; 131074], n: usize, rules: &[Wrong]) {
     let right = library_written(t, out, 0, n);
-    let w = second_written(accepted(), d, out, n, NO_WRONG_RULE);
+    let w = second_written(accepted(), d, out, n, Wrong::Nothing);
     note(
         d,
         DIFFERENCES,
@@ -72,8 +82,7 @@ fn try_writing(
         same_written(w, right) & same_bytes(out, n),
     );
     add(d, WRITINGS, w.number, 1);
-    try_wrong_writings(d, out, right, n, from, to);
-    right
+    try_wrong_writings(d, out, right, n, rules);
 }
 
 // The sizes of buffers for a text of n bytes: 0, short, one byte less, one byte more, larger, and at the size limit.
@@ -131,12 +140,11 @@ fn try_order(t: Tree, d: &mut [usize; 16384], out: &mut [u8; 131074], n: usize, 
 // A configuration, of which the rows say whether it keeps its rules: over just enough bytes, one byte less, and a buffer in its turn.
 pub fn try_writings(t: Tree, d: &mut [usize; 16384], out: &mut [u8; 131074]) {
     let n = text_size(d) % 4096;
-    let right = try_writing(t, d, out, n, AS_READ, LONG_FIRST);
-    try_wrong_writings(d, out, right, n, NAME_LOST, NAME_LOST + 1);
+    try_writing(t, d, out, n, &OF_TEXT);
     let short = n.wrapping_sub(1) % 4096;
-    try_writing(t, d, out, short, LONG_FIRST, WRITTEN_SHORT + 1);
+    try_writing(t, d, out, short, &OF_REFUSALS);
     let size = next_size(d, n);
-    try_writing(t, d, out, size, LONG_FIRST, WRITTEN_SHORT + 1);
+    try_writing(t, d, out, size, &OF_REFUSALS);
 }
 
 // A tree that keeps its rules, and its texts: the written one, and another.

@@ -4,12 +4,9 @@ ghost use Rattle.std.specs.Prelude.{◌≡◌};
 ghost use Rattle.second.specs.Rows.{cell_of, rows_of, ints_of, accs_of, is_older, int_row, acc_row, is_on, block_of, carried_of};
 
 use crate::scan::{
-    ACC, BUS, BUS3, INT, Scan, answer, any_dash, begun, field, is_dash, read_lines, set_field,
-    within,
+    ACC, BUS, BUS3, INT, Scan, any_dash, begun, field, is_dash, read_lines, set_field, within,
 };
-use crate::{
-    LONG_LET_IN, LONG_REFUSED, NO_WRONG_RULE, ORDER_FIRST, OTHER_CHANNEL, OTHER_NAME, Said,
-};
+use crate::{Said, Wrong, answer};
 use store::{add, clear, get, put};
 
 // How many rows there are, how many of them are int lines and acc lines, and for each accelerator its row.
@@ -27,12 +24,12 @@ const BROKEN: usize = 531;
 // 1 if the first line is named bus3.
 const OLDER: usize = 532;
 
-// The channels.
+// The channels: numbers and no enum, since the store has the channel of the state, and the tests draw it and count by it.
 pub const READ: usize = 0;
 
 pub const WRITE: usize = 1;
 
-// What a port carries: an accelerator's number, 32 + an interconnect's number, or nothing.
+// What a port carries: an accelerator's number, 32 + an interconnect's number, or nothing; one number, of which `carried_of` speaks.
 pub const NOTHING: usize = 255;
 
 // The number in a column of a row.
@@ -99,8 +96,8 @@ pub fn other(channel: usize) -> usize {
 }
 
 // Has the job of accelerator a no transactions on a channel? A wrong rule looks at the other one.
-pub fn is_jobless(d: &[usize; 16384], a: usize, channel: usize, wrong: usize) -> bool {
-    if wrong == OTHER_CHANNEL {
+pub fn is_jobless(d: &[usize; 16384], a: usize, channel: usize, wrong: Wrong) -> bool {
+    if wrong == Wrong::OtherChannel {
         return job(d, a, other(channel)) == 0;
     }
     job(d, a, channel) == 0
@@ -225,11 +222,11 @@ fn shaped(s: Scan, d: &[usize; 16384]) -> bool {
 }
 
 // The most that B may be on a line of this name. A wrong rule has one limit for both names.
-fn longest(name: usize, wrong: usize) -> usize {
-    if wrong == LONG_LET_IN {
+fn longest(name: usize, wrong: Wrong) -> usize {
+    if wrong == Wrong::LongLetIn {
         return most_beats(false);
     }
-    if wrong == LONG_REFUSED {
+    if wrong == Wrong::LongRefused {
         return most_beats(true);
     }
     most_beats(name == BUS3)
@@ -258,7 +255,7 @@ fn acc_limits(d: &[usize; 16384]) -> bool {
     place & limits & job & within(d, 8, 0, 4294967295) & within(d, 9, 1, 4294967295)
 }
 
-fn limits(name: usize, d: &[usize; 16384], wrong: usize) -> bool {
+fn limits(name: usize, d: &[usize; 16384], wrong: Wrong) -> bool {
     if is_bus(name) {
         return bus_limits(d, longest(name, wrong));
     }
@@ -334,7 +331,7 @@ fn misplaced(name: usize, d: &[usize; 16384]) -> usize {
 
 // A line of the right shape: is it accepted? Then it is in its row.
 pub(crate) fn fits(name: usize, d: &mut [usize; 16384]) -> bool {
-    if !limits(name, d, NO_WRONG_RULE) {
+    if !limits(name, d, Wrong::Nothing) {
         return false;
     }
     if !in_order(name, d) {
@@ -363,19 +360,19 @@ fn is_other(name: usize, d: &[usize; 16384]) -> bool {
 }
 
 // The refusal of a line, or 0 and the line is in its row; by a wrong rule a second bus line may be in none.
-fn judge(s: Scan, d: &mut [usize; 16384], wrong: usize) -> usize {
+fn judge(s: Scan, d: &mut [usize; 16384], wrong: Wrong) -> usize {
     let name = s.name;
     if !shaped(s, d) {
         return 1;
     }
     fill_in(s, d);
-    if (wrong == ORDER_FIRST) & !in_order(name, d) {
+    if (wrong == Wrong::OrderFirst) & !in_order(name, d) {
         return 3;
     }
     if !limits(name, d, wrong) {
         return 2;
     }
-    if (wrong == OTHER_NAME) & is_other(name, d) {
+    if (wrong == Wrong::OtherName) & is_other(name, d) {
         return 0;
     }
     if !in_order(name, d) {
@@ -404,7 +401,7 @@ fn at_end(s: Scan, d: &[usize; 16384]) -> Said {
 }
 
 // Reads a tree file into the rows.
-pub fn read_book(s: &[u8], d: &mut [usize; 16384], wrong: usize) -> Said {
+pub fn read_book(s: &[u8], d: &mut [usize; 16384], wrong: Wrong) -> Said {
     clear(d, 0, 1024);
     if 65536 < s.len() {
         return answer(2, 0);

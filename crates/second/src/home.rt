@@ -3,9 +3,9 @@
 ghost use Rattle.std.specs.Prelude.{◌≡◌};
 ghost use Rattle.second.specs.Machine.{returning_of, due_of, is_due};
 
+use crate::Wrong;
 use crate::book::delay;
 use crate::queues::{SERVED, SLOT, queued, total};
-use crate::{DUE_NOW, HOME_EARLY, HOME_LATE, NOT_OUTSTANDING};
 use store::{add, get, put};
 
 // For each accelerator how many of those served are home.
@@ -42,8 +42,8 @@ pub fn is_due(d: &[usize; 16384], a: usize, n: usize) -> bool
 }
 
 // What counts against phi: what waits and what returns. A wrong rule leaves out what returns.
-pub(crate) fn outstanding(d: &[usize; 16384], a: usize, wrong: usize) -> usize {
-    if wrong == NOT_OUTSTANDING {
+pub(crate) fn outstanding(d: &[usize; 16384], a: usize, wrong: Wrong) -> usize {
+    if wrong == Wrong::NotOutstanding {
         return queued(d, a);
     }
     queued(d, a).wrapping_add(returning(d, a))
@@ -55,19 +55,19 @@ fn place_of(a: usize, ticket: usize) -> usize {
 }
 
 // The slot in which one that is served now comes home. A wrong rule has it come a slot early or late.
-fn home_slot(d: &[usize; 16384], wrong: usize) -> usize {
+fn home_slot(d: &[usize; 16384], wrong: Wrong) -> usize {
     let r = get(d, SLOT, 0).wrapping_add(delay(d));
-    if wrong == HOME_EARLY {
+    if wrong == Wrong::HomeEarly {
         return r;
     }
-    if wrong == HOME_LATE {
+    if wrong == Wrong::HomeLate {
         return r.wrapping_add(2);
     }
     r.wrapping_add(1)
 }
 
 // The transaction of accelerator a that has this ticket is served now.
-pub(crate) fn send_home(d: &mut [usize; 16384], a: usize, ticket: usize, wrong: usize) {
+pub(crate) fn send_home(d: &mut [usize; 16384], a: usize, ticket: usize, wrong: Wrong) {
     let slot = home_slot(d, wrong);
     put(d, DUE, place_of(a, ticket), slot);
 }
@@ -100,13 +100,13 @@ pub fn put_return(d: &mut [usize; 16384], a: usize, n: usize) {
 }
 
 // Is slot n one of the r slots after this one? An earlier slot is very far ahead, going round. A wrong rule lets it be this one.
-fn is_ahead(d: &[usize; 16384], n: usize, wrong: usize) -> bool {
+fn is_ahead(d: &[usize; 16384], n: usize, wrong: Wrong) -> bool {
     let ahead = n.wrapping_sub(get(d, SLOT, 0));
-    (ahead <= delay(d)) & ((ahead != 0) | (wrong == DUE_NOW))
+    (ahead <= delay(d)) & ((ahead != 0) | (wrong == Wrong::DueNow))
 }
 
 // Does each of accelerator a's returning transactions come home in one of the next r slots?
-pub(crate) fn returns_keep(d: &[usize; 16384], a: usize, wrong: usize) -> bool {
+pub(crate) fn returns_keep(d: &[usize; 16384], a: usize, wrong: Wrong) -> bool {
     (0..returning(d, a).min(32)).all(|k| is_ahead(d, due(d, a, k), wrong))
 }
 

@@ -1,13 +1,10 @@
 // Why a transaction waited, by the tickets: a run is kept slot by slot, each as who is served and the slot in which the ticket of that
 // transaction was put into its queue.
 use crate::book::{acc_row, accs, cell, int_row};
-use crate::queues::{run_over, run_refusal, said, since};
-use crate::{
-    ADMITTED_LATE, HALF_PAIR, NO_WRONG_RULE, NUMBER_FIRST, OWN_MEETS, ROOT_MEETS, SERVICE_LISTED,
-    Said,
-};
+use crate::queues::{run_over, run_refusal, since};
+use crate::{Said, Wrong, answer};
 
-// What is said of a transaction: the number and line of a refusal, or 0; how many slots it waited, and the slot of its admission.
+// What is answer of a transaction: the number and line of a refusal, or 0; how many slots it waited, and the slot of its admission.
 #[derive(Clone, Copy)]
 pub struct Told {
     pub number: usize,
@@ -34,7 +31,7 @@ pub fn keep_run(d: &mut [usize; 16384], channel: usize, past: &mut [usize]) -> u
         d,
         channel,
         past,
-        NO_WRONG_RULE,
+        Wrong::Nothing,
         |d, a| packed(a, since(d, a)),
     )
 }
@@ -75,18 +72,18 @@ fn meeting(d: &[usize; 16384], a: usize, b: usize) -> usize {
 
 // What is told beside an accelerator b that is served while one of a waits. A wrong rule names the root, or an interconnect for a's
 // own.
-fn met(d: &[usize; 16384], a: usize, b: usize, wrong: usize) -> usize {
-    if (a == b) & (wrong != OWN_MEETS) {
+fn met(d: &[usize; 16384], a: usize, b: usize, wrong: Wrong) -> usize {
+    if (a == b) & (wrong != Wrong::OwnMeets) {
         return 255;
     }
-    if wrong == ROOT_MEETS {
+    if wrong == Wrong::RootMeets {
         return 0;
     }
     meeting(d, a, b)
 }
 
 // Byte p of a list, where slot x is told of: whom it serves if p is even, and else where the paths meet.
-fn byte_of(d: &[usize; 16384], a: usize, x: usize, p: usize, wrong: usize) -> u8 {
+fn byte_of(d: &[usize; 16384], a: usize, x: usize, p: usize, wrong: Wrong) -> u8 {
     let b = served_in(x);
     if p % 2 == 0 {
         return (b % 256) as u8;
@@ -102,7 +99,7 @@ fn write_list(
     from: usize,
     until: usize,
     out: &mut [u8],
-    wrong: usize,
+    wrong: Wrong,
 ) {
     let n = out.len();
     for p in 0..n {
@@ -110,7 +107,7 @@ fn write_list(
         if past.len() <= s {
             return;
         }
-        if (until <= s) | ((p % 2 == 0) & (n - p == 1) & (wrong != HALF_PAIR)) {
+        if (until <= s) | ((p % 2 == 0) & (n - p == 1) & (wrong != Wrong::HalfPair)) {
             return;
         }
         out[p] = byte_of(d, a, past[s], p, wrong);
@@ -124,20 +121,20 @@ fn refusal(
     n: usize,
     a: usize,
     served: bool,
-    wrong: usize,
+    wrong: Wrong,
 ) -> Said {
-    let r = run_refusal(trace, d, n, NO_WRONG_RULE);
+    let r = run_refusal(trace, d, n, Wrong::Nothing);
     if r.number != 0 {
         return r;
     }
     let unknown = accs(d) <= a;
-    if !served & (!unknown | (wrong == NUMBER_FIRST)) {
-        return said(12, 0);
+    if !served & (!unknown | (wrong == Wrong::NumberFirst)) {
+        return answer(12, 0);
     }
     if unknown {
-        return said(7, 0);
+        return answer(7, 0);
     }
-    said(0, 0)
+    answer(0, 0)
 }
 
 fn tell(r: Said, count: usize, slot: usize) -> Told {
@@ -150,24 +147,24 @@ fn tell(r: Said, count: usize, slot: usize) -> Told {
 }
 
 // Lists the slots that the transaction served in slot s waited. A wrong rule begins one slot late, or lists slot s too.
-fn list(d: &[usize; 16384], past: &[usize], s: usize, out: &mut [u8], wrong: usize) -> Told {
+fn list(d: &[usize; 16384], past: &[usize], s: usize, out: &mut [u8], wrong: Wrong) -> Told {
     if past.len() <= s {
-        return tell(said(0, 0), 0, 0);
+        return tell(answer(0, 0), 0, 0);
     }
     let x = past[s];
     let mut from = admitted_in(x);
     let mut until = s;
-    if wrong == ADMITTED_LATE {
+    if wrong == Wrong::AdmittedLate {
         from = from.wrapping_add(1);
     }
-    if wrong == SERVICE_LISTED {
+    if wrong == Wrong::ServiceListed {
         until = s.wrapping_add(1);
     }
     write_list(d, past, served_in(x), from, until, out, wrong);
     if until < from {
-        return tell(said(0, 0), 0, from);
+        return tell(answer(0, 0), 0, from);
     }
-    tell(said(0, 0), until - from, from)
+    tell(answer(0, 0), until - from, from)
 }
 
 // Why transaction k of accelerator a waited, in the run whose slots the past has; the trace is refused so, or accepted.
@@ -178,7 +175,7 @@ pub fn why(
     a: usize,
     k: usize,
     out: &mut [u8],
-    wrong: usize,
+    wrong: Wrong,
 ) -> Told {
     let service = service(past, a, k);
     let r = refusal(trace, d, out.len(), a, service.is_some(), wrong);

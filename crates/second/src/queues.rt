@@ -6,10 +6,7 @@ ghost use Rattle.second.specs.Machine.{queued_of, channel_of};
 use crate::book::{acc_row, carried, cell, int_row, ints, is_broken, is_jobless};
 use crate::home::{all_returning, forget_returns, outstanding, send_home, take_home};
 use crate::requests::{LINES, LOG, acc_in, count_in, slot_in};
-use crate::{
-    DONE_AT_HOME, DONE_HOLDING, FROM_ZERO, GROWING, HOME_AT_WINDOW, JOBLESS_ADMITTED, LOWER_RESET,
-    NO_WRONG_RULE, SIZE_FIRST, Said, TRACE_FIRST, WHOLE_RUN,
-};
+use crate::{Said, Wrong, answer};
 use store::{add, clear, get, put};
 
 // For each accelerator how many transactions were requested since the start,
@@ -66,7 +63,7 @@ pub fn set_channel(d: &mut [usize; 16384], channel: usize) {
 }
 
 // Has accelerator a no transactions on the channel of the state?
-pub(crate) fn is_idle(d: &[usize; 16384], a: usize, wrong: usize) -> bool {
+pub(crate) fn is_idle(d: &[usize; 16384], a: usize, wrong: Wrong) -> bool {
     is_jobless(d, a, channel(d), wrong)
 }
 
@@ -96,7 +93,7 @@ pub(crate) fn push(d: &mut [usize; 16384], a: usize) {
 }
 
 // Takes the first ticket of the queue, to come home later. Is it the oldest that is not served?
-fn pop(d: &mut [usize; 16384], a: usize, wrong: usize) -> bool {
+fn pop(d: &mut [usize; 16384], a: usize, wrong: Wrong) -> bool {
     let oldest = get(d, SERVED, a);
     let ticket = get(d, QUEUE, place_in_queue(a, oldest));
     send_home(d, a, oldest, wrong);
@@ -157,30 +154,30 @@ fn seek(d: &[usize; 16384], i: usize, last: usize) -> usize {
 }
 
 // A new turn at interconnect i, on the port sought. A wrong rule has the circle begin at port 0, or the allowance g.
-fn new_turn(d: &mut [usize; 16384], i: usize, wrong: usize) {
+fn new_turn(d: &mut [usize; 16384], i: usize, wrong: Wrong) {
     let mut last = get(d, LAST, i);
-    if wrong == FROM_ZERO {
+    if wrong == Wrong::FromZero {
         last = 7;
     }
     let p = seek(d, i, last);
     let grain = cell(d, int_row(i), 3);
     let mut allowance = grain.min(waits(d, i, p));
-    if wrong == GROWING {
+    if wrong == Wrong::Growing {
         allowance = grain;
     }
     put(d, LAST, i, p);
     put(d, ALLOWANCE, i, allowance);
     let below = carried(d, i, p);
-    if (wrong == LOWER_RESET) & (31 < below) {
+    if (wrong == Wrong::LowerReset) & (31 < below) {
         put(d, LAST, below % 16, 7);
         put(d, ALLOWANCE, below % 16, 0);
     }
 }
 
 // The port that interconnect i goes on with, one taken off its allowance.
-fn turn(d: &mut [usize; 16384], i: usize, wrong: usize) -> usize {
+fn turn(d: &mut [usize; 16384], i: usize, wrong: Wrong) -> usize {
     let mut over = get(d, ALLOWANCE, i) == 0;
-    if wrong == GROWING {
+    if wrong == Wrong::Growing {
         over = over | (waits(d, i, get(d, LAST, i)) == 0);
     }
     if over {
@@ -192,7 +189,7 @@ fn turn(d: &mut [usize; 16384], i: usize, wrong: usize) -> usize {
 }
 
 // The accelerator that is served, from the root down.
-fn choose(d: &mut [usize; 16384], wrong: usize) -> usize {
+fn choose(d: &mut [usize; 16384], wrong: Wrong) -> usize {
     let mut i = 0;
     for _ in 0..4usize {
         let p = turn(d, i, wrong);
@@ -210,20 +207,20 @@ fn all_queued(d: &[usize; 16384]) -> usize {
 }
 
 // What accelerator a holds that is left to do. A wrong rule leaves out what those without a job hold.
-fn held_to_do(d: &[usize; 16384], a: usize, wrong: usize) -> usize {
-    if (wrong == DONE_HOLDING) && is_idle(d, a, wrong) {
+fn held_to_do(d: &[usize; 16384], a: usize, wrong: Wrong) -> usize {
+    if (wrong == Wrong::DoneHolding) && is_idle(d, a, wrong) {
         return 0;
     }
     held(d, a)
 }
 
-fn all_held(d: &[usize; 16384], wrong: usize) -> usize {
+fn all_held(d: &[usize; 16384], wrong: Wrong) -> usize {
     total(|a| held_to_do(d, a, wrong))
 }
 
 // Is a request held of an accelerator without a job on the channel? It stays held.
 pub fn is_stuck(d: &[usize; 16384]) -> bool {
-    all_held(d, NO_WRONG_RULE) != all_held(d, DONE_HOLDING)
+    all_held(d, Wrong::Nothing) != all_held(d, Wrong::DoneHolding)
 }
 
 // The lines whose slot has come are requested.
@@ -240,7 +237,7 @@ fn take_due(d: &mut [usize; 16384], lines: usize) {
 }
 
 // Has accelerator a a transaction to offer, and room for it: fewer than phi are outstanding and its budget is not used?
-fn may_offer(d: &[usize; 16384], a: usize, wrong: usize) -> bool {
+fn may_offer(d: &[usize; 16384], a: usize, wrong: Wrong) -> bool {
     let row = acc_row(d, a);
     let room = (outstanding(d, a, wrong) < cell(d, row, 3)) & (get(d, USED, a) < cell(d, row, 4));
     room & (held(d, a) != 0)
@@ -248,8 +245,8 @@ fn may_offer(d: &[usize; 16384], a: usize, wrong: usize) -> bool {
 
 // Accelerator a offers until it holds none, phi of it are outstanding or its budget is used; without a job, all stay held. A wrong rule
 // does not ask for the job.
-fn offer(d: &mut [usize; 16384], a: usize, wrong: usize) {
-    if is_idle(d, a, wrong) & (wrong != JOBLESS_ADMITTED) {
+fn offer(d: &mut [usize; 16384], a: usize, wrong: Wrong) {
+    if is_idle(d, a, wrong) & (wrong != Wrong::JoblessAdmitted) {
         return;
     }
     for _ in 0..16usize {
@@ -259,7 +256,7 @@ fn offer(d: &mut [usize; 16384], a: usize, wrong: usize) {
     }
 }
 
-fn offer_all(d: &mut [usize; 16384], wrong: usize) {
+fn offer_all(d: &mut [usize; 16384], wrong: Wrong) {
     for a in 0..32 {
         if held(d, a) != 0 {
             offer(d, a, wrong);
@@ -268,10 +265,10 @@ fn offer_all(d: &mut [usize; 16384], wrong: usize) {
 }
 
 // The budgets begin anew. A wrong rule has every transaction come home.
-fn reopen(d: &mut [usize; 16384], wrong: usize) {
+fn reopen(d: &mut [usize; 16384], wrong: Wrong) {
     for a in 0..32 {
         put(d, USED, a, 0);
-        if wrong == HOME_AT_WINDOW {
+        if wrong == Wrong::HomeAtWindow {
             forget_returns(d, a);
         }
     }
@@ -279,19 +276,19 @@ fn reopen(d: &mut [usize; 16384], wrong: usize) {
 
 // The slot count rises; those that are due then are home, and where that opens a window the budgets begin anew. A wrong rule keeps
 // the budgets for the whole run.
-pub(crate) fn advance(d: &mut [usize; 16384], wrong: usize) {
+pub(crate) fn advance(d: &mut [usize; 16384], wrong: Wrong) {
     add(d, SLOT, 0, 1);
     take_home(d);
     let window = cell(d, 0, 0);
     if window != 0 {
-        if (get(d, SLOT, 0) % window == 0) & (wrong != WHOLE_RUN) {
+        if (get(d, SLOT, 0) % window == 0) & (wrong != Wrong::WholeRun) {
             reopen(d, wrong);
         }
     }
 }
 
 // One slot: what it serves, or 255.
-pub(crate) fn one_slot(d: &mut [usize; 16384], wrong: usize) -> usize {
+pub(crate) fn one_slot(d: &mut [usize; 16384], wrong: Wrong) -> usize {
     if all_queued(d) == 0 {
         return 255;
     }
@@ -300,7 +297,7 @@ pub(crate) fn one_slot(d: &mut [usize; 16384], wrong: usize) -> usize {
 }
 
 // One slot of a run over the lines of the log, its offers first.
-pub(crate) fn run_slot(d: &mut [usize; 16384], lines: usize, wrong: usize) -> usize {
+pub(crate) fn run_slot(d: &mut [usize; 16384], lines: usize, wrong: Wrong) -> usize {
     take_due(d, lines);
     offer_all(d, wrong);
     let a = one_slot(d, wrong);
@@ -309,8 +306,8 @@ pub(crate) fn run_slot(d: &mut [usize; 16384], lines: usize, wrong: usize) -> us
 }
 
 // Is the run done? What returns is not asked, except by a wrong rule.
-pub(crate) fn nothing_left(d: &[usize; 16384], lines: usize, wrong: usize) -> bool {
-    if (wrong == DONE_AT_HOME) & (all_returning(d) != 0) {
+pub(crate) fn nothing_left(d: &[usize; 16384], lines: usize, wrong: Wrong) -> bool {
+    if (wrong == Wrong::DoneAtHome) & (all_returning(d) != 0) {
         return false;
     }
     (lines <= get(d, NEXT, 0)) & (all_held(d, wrong) == 0) & (all_queued(d) == 0)
@@ -354,7 +351,7 @@ pub(crate) fn run_over<T: Copy, F: Fn(&[usize; 16384], usize) -> T>(
     d: &mut [usize; 16384],
     channel: usize,
     places: &mut [T],
-    wrong: usize,
+    wrong: Wrong,
     of: F,
 ) -> usize
     requires { F.IsAlwaysCallable of }
@@ -372,30 +369,23 @@ pub(crate) fn run_over<T: Copy, F: Fn(&[usize; 16384], usize) -> T>(
     n
 }
 
-fn run_log(d: &mut [usize; 16384], channel: usize, out: &mut [u8], wrong: usize) -> Ended {
+fn run_log(d: &mut [usize; 16384], channel: usize, out: &mut [u8], wrong: Wrong) -> Ended {
     let used = run_over(d, channel, out, wrong, |_, a| (a % 256) as u8);
     run_end(nothing_left(d, get(d, LINES, 0), wrong), used)
 }
 
-pub(crate) fn said(number: usize, line: usize) -> Said {
-    Said {
-        number: number,
-        line: line,
-    }
-}
-
 // The refusal of a run over n bytes: 11, the buffer's size, the trace; or 0. A wrong rule tests the size first, or the trace
 // before the size.
-pub fn run_refusal(trace: Said, d: &[usize; 16384], n: usize, wrong: usize) -> Said {
+pub fn run_refusal(trace: Said, d: &[usize; 16384], n: usize, wrong: Wrong) -> Said {
     let large = 65536 < n;
-    if large & (wrong == SIZE_FIRST) {
-        return said(2, 0);
+    if large & (wrong == Wrong::SizeFirst) {
+        return answer(2, 0);
     }
     if is_broken(d) {
-        return said(11, 0);
+        return answer(11, 0);
     }
-    if large & ((trace.number == 0) | (wrong != TRACE_FIRST)) {
-        return said(2, 0);
+    if large & ((trace.number == 0) | (wrong != Wrong::TraceFirst)) {
+        return answer(2, 0);
     }
     trace
 }
@@ -406,7 +396,7 @@ pub fn run_trace(
     d: &mut [usize; 16384],
     channel: usize,
     out: &mut [u8],
-    wrong: usize,
+    wrong: Wrong,
 ) -> Ended {
     let r = run_refusal(trace, d, out.len(), wrong);
     if r.number != 0 {

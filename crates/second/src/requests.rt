@@ -1,7 +1,7 @@
 // The second reader of a trace. Each line goes into a log.
 use crate::book::{accs, is_broken};
-use crate::scan::{OFFER, Scan, answer, any_dash, begun, field, read_lines, within};
-use crate::{FALLING_FIRST, Said};
+use crate::scan::{OFFER, Scan, any_dash, begun, field, read_lines, within};
+use crate::{Said, Wrong, answer};
 use store::{add, clear, get, put};
 
 // The total of each accelerator's counts, the slot of the line before, and how many lines are in the log.
@@ -55,7 +55,7 @@ fn falls(d: &[usize; 16384]) -> bool {
 }
 
 // The refusal of a line, or 0.
-fn fault(s: Scan, d: &[usize; 16384], known: usize, wrong: usize) -> usize {
+fn fault(s: Scan, d: &[usize; 16384], known: usize, wrong: Wrong) -> usize {
     if s.bad | (s.name != OFFER) | (s.fields != 4) {
         return 1;
     }
@@ -65,7 +65,7 @@ fn fault(s: Scan, d: &[usize; 16384], known: usize, wrong: usize) -> usize {
     if !within(d, 1, 0, 4294967294) | !within(d, 3, 1, 16) {
         return 2;
     }
-    if (wrong == FALLING_FIRST) & falls(d) {
+    if (wrong == Wrong::FallingFirst) & falls(d) {
         return 6;
     }
     let a = field(d, 2);
@@ -93,7 +93,7 @@ fn enter(d: &mut [usize; 16384]) {
 }
 
 // The refusal of a line, or 0 and the line is in the log.
-fn judge(s: Scan, d: &mut [usize; 16384], known: usize, wrong: usize) -> usize {
+fn judge(s: Scan, d: &mut [usize; 16384], known: usize, wrong: Wrong) -> usize {
     let number = fault(s, d, known, wrong);
     if number == 0 {
         enter(d);
@@ -101,7 +101,7 @@ fn judge(s: Scan, d: &mut [usize; 16384], known: usize, wrong: usize) -> usize {
     number
 }
 
-fn read_requests(s: &[u8], d: &mut [usize; 16384], wrong: usize) -> Said {
+fn read_requests(s: &[u8], d: &mut [usize; 16384], wrong: Wrong) -> Said {
     clear(d, TOTAL, 64);
     if 65536 < s.len() {
         return answer(2, 0);
@@ -115,7 +115,7 @@ fn read_requests(s: &[u8], d: &mut [usize; 16384], wrong: usize) -> Said {
 }
 
 // Reads a trace file, for the tree in the rows, into the log.
-pub fn read_log(s: &[u8], d: &mut [usize; 16384], wrong: usize) -> Said {
+pub fn read_log(s: &[u8], d: &mut [usize; 16384], wrong: Wrong) -> Said {
     if is_broken(d) {
         return answer(11, 0);
     }

@@ -1,12 +1,10 @@
 // The second bounds: the capacity of a port on a channel is the sum over the accelerators whose way up enters by it and whose job has
 // transactions there.
+use crate::Wrong;
 use crate::book::{
     NOTHING, READ, WRITE, acc_row, accs, carried, cell, int_row, is_broken, is_jobless, level,
 };
 use crate::queues::{passes, total};
-use crate::{
-    BOTH_COUNT, EMPTY_WINDOW, NESTED, NO_WINDOWS, OTHER_SLOT, OWN_PORT, ROUNDED_DOWN, UNKNOWN_FIRST,
-};
 
 // The figures of an accelerator: of the shares and the transactions of others that of reads first.
 #[derive(Clone, Copy)]
@@ -31,14 +29,14 @@ fn times(x: usize, y: usize) -> usize {
 }
 
 // What accelerator a counts on a channel: phi, or nothing without a job there. A wrong rule counts phi on both.
-fn weight(d: &[usize; 16384], a: usize, channel: usize, wrong: usize) -> usize {
-    if is_jobless(d, a, channel, wrong) & (wrong != BOTH_COUNT) {
+fn weight(d: &[usize; 16384], a: usize, channel: usize, wrong: Wrong) -> usize {
+    if is_jobless(d, a, channel, wrong) & (wrong != Wrong::BothCount) {
         return 0;
     }
     cell(d, acc_row(d, a), 3)
 }
 
-fn capacity(d: &[usize; 16384], i: usize, p: usize, channel: usize, wrong: usize) -> usize {
+fn capacity(d: &[usize; 16384], i: usize, p: usize, channel: usize, wrong: Wrong) -> usize {
     total(|a| {
         if (a < accs(d)) && passes(d, a, i, p) {
             weight(d, a, channel, wrong)
@@ -67,22 +65,22 @@ fn nested_capacity(d: &[usize; 16384], i: usize, p: usize, channel: usize) -> us
     let below = carried(d, i, p);
     if (31 < below) & (below != NOTHING) {
         let j = below.wrapping_sub(32);
-        return others(d, j, 8, |q| capacity(d, j, q, channel, NESTED));
+        return others(d, j, 8, |q| capacity(d, j, q, channel, Wrong::Nested));
     }
-    capacity(d, i, p, channel, NESTED)
+    capacity(d, i, p, channel, Wrong::Nested)
 }
 
 // D at interconnect i, entered by port p, on a channel.
-fn rivals(d: &[usize; 16384], i: usize, p: usize, channel: usize, wrong: usize) -> usize {
-    if wrong == NESTED {
+fn rivals(d: &[usize; 16384], i: usize, p: usize, channel: usize, wrong: Wrong) -> usize {
+    if wrong == Wrong::Nested {
         return others(d, i, p, |q| nested_capacity(d, i, q, channel));
     }
-    let own = if wrong == OWN_PORT { 8 } else { p };
+    let own = if wrong == Wrong::OwnPort { 8 } else { p };
     others(d, i, own, |q| capacity(d, i, q, channel, wrong))
 }
 
 // The product of 1 + D on the way from accelerator a up to the root.
-fn share(d: &[usize; 16384], a: usize, channel: usize, wrong: usize) -> usize {
+fn share(d: &[usize; 16384], a: usize, channel: usize, wrong: Wrong) -> usize {
     let mut row = acc_row(d, a);
     let mut product = 1;
     let mut over = false;
@@ -125,35 +123,35 @@ fn write_alone(d: &[usize; 16384], levels: usize) -> usize {
 
 // The windows for n transactions with a budget: those that use it up, and one more for what is left. A wrong rule leaves that one out,
 // another has one where there are no transactions.
-fn windows(n: usize, budget: usize, wrong: usize) -> usize {
+fn windows(n: usize, budget: usize, wrong: Wrong) -> usize {
     if budget == 0 {
         return 0;
     }
     let left = n % budget != 0;
     let empty = n == 0;
-    let more = (left & (wrong != ROUNDED_DOWN)) | (empty & (wrong == EMPTY_WINDOW));
+    let more = (left & (wrong != Wrong::RoundedDown)) | (empty & (wrong == Wrong::EmptyWindow));
     sum(n / budget, more as usize)
 }
 
 // The wait of the job in an acc row for new windows, P slots for each. A wrong rule leaves it out, another takes the other channel's
 // slot time.
-fn window_wait(d: &[usize; 16384], row: usize, wrong: usize) -> usize {
-    if wrong == NO_WINDOWS {
+fn window_wait(d: &[usize; 16384], row: usize, wrong: Wrong) -> usize {
+    if wrong == Wrong::NoWindows {
         return 0;
     }
     let budget = cell(d, row, 4);
     let reads = times(windows(cell(d, row, 5), budget, wrong), bus(d, 0));
     let writes = times(windows(cell(d, row, 6), budget, wrong), bus(d, 0));
-    if wrong == OTHER_SLOT {
+    if wrong == Wrong::OtherSlot {
         return sum(times(reads, write_slot(d)), times(writes, read_slot(d)));
     }
     sum(times(reads, read_slot(d)), times(writes, write_slot(d)))
 }
 
 // The refusal of a bound, or 0: 11, then 7. A wrong rule tests 7 first.
-pub fn bound_refusal(d: &[usize; 16384], a: usize, wrong: usize) -> usize {
+pub fn bound_refusal(d: &[usize; 16384], a: usize, wrong: Wrong) -> usize {
     let unknown = accs(d) <= a;
-    if unknown & (wrong == UNKNOWN_FIRST) {
+    if unknown & (wrong == Wrong::UnknownFirst) {
         return 7;
     }
     if is_broken(d) {
@@ -177,7 +175,7 @@ pub fn no_figures() -> Row {
 }
 
 // The figures of accelerator a of the tree in the rows.
-pub fn figures(d: &[usize; 16384], a: usize, wrong: usize) -> Row {
+pub fn figures(d: &[usize; 16384], a: usize, wrong: Wrong) -> Row {
     let row = acc_row(d, a);
     let levels = level(d, cell(d, row, 1));
     let sr = share(d, a, READ, wrong);

@@ -1,6 +1,6 @@
 // The second reader's first half: a file is taken byte by byte. What has been seen of the current line is a Scan, and the
 // fields that are closed stand in the store, as numbers.
-use crate::Said;
+use crate::{Said, answer};
 use store::{get, put};
 
 // A record name is held as one number, and no enum, since this reader takes a line byte by byte: a 1 and then its bytes, in base 256.
@@ -30,13 +30,6 @@ pub struct Scan {
     pub number: usize,
     pub dash: bool,
     pub bad: bool,
-}
-
-pub fn answer(number: usize, line: usize) -> Said {
-    Said {
-        number: number,
-        line: line,
-    }
 }
 
 pub fn line_start(line: usize) -> Scan {

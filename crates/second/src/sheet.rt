@@ -1,5 +1,5 @@
 // The second report: the text of document 01, with document 02's two shares, for the tree in the rows, from the second bounds.
-use crate::NO_WRONG_RULE;
+use crate::Wrong;
 use crate::book::accs;
 use crate::response::{Row, figures};
 use std::io::Write;
@@ -59,7 +59,7 @@ pub fn write_report(d: &[usize; 16384], page: &mut [u8; 65536]) -> usize {
     );
     let mut all = true;
     for a in 0..accs(d).min(32) {
-        let r = figures(d, a, NO_WRONG_RULE);
+        let r = figures(d, a, Wrong::Nothing);
         next = line(page, next, a, r);
         all = all & r.meets;
     }

@@ -197,7 +197,12 @@ fn put_bus(b: Bus, d: &mut [usize; 16384]) -> bool {
 
 // The line of interconnect i; that of the root has "-" for parent and port.
 fn put_int(x: Interconnect, i: usize, d: &mut [usize; 16384]) -> bool {
-    let numbers = [i, x.parent as usize, x.port as usize, x.granularity as usize];
+    let numbers = [
+        i,
+        x.parent as usize,
+        x.port as usize,
+        x.granularity as usize,
+    ];
     put_numbers(numbers, d);
     if i == 0 {
         put_dash(d, 2);

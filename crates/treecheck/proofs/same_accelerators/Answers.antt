@@ -12,5 +12,5 @@ loop-a-init c = sym (all_none _)
 pub loop-a-preserved : goal.loop-a-preserved
 loop-a-preserved c =
     let a = c.args in
-      all_turn _ (λ b. same_acc (accelerator_of a.t b) b a.d.now) _ _ c.loop-a.invariant
-          (c.same_acc-same.ensures ∙ ap (λ (x : Accelerator). same_acc x c.loop-a.a a.d.now) c.accelerator_at.ensures)
+    all_turn _ (λ b. same_acc (accelerator_of a.t b) b a.d.now) _ _ c.loop-a.invariant
+    (c.same_acc-same.ensures ∙ ap (λ (x : Accelerator). same_acc x c.loop-a.a a.d.now) c.accelerator_at.ensures)

@@ -15,6 +15,6 @@ pub loop-p-preserved : goal.loop-p-preserved
 loop-p-preserved c =
     let a = c.args in
     let l = c.loop-p in
-      all_turn _ (λ q. eqb (code_of (port_of a.t a.i q)) (carried_of a.d.now a.i q)) _ _ l.invariant
-          (ap (eqb _) c.carried.ensures
-          ∙ ap (λ (x : ℕ). eqb x (carried_of a.d.now a.i l.p)) (c.code.ensures ∙ ap code_of c.port_at.ensures))
+    all_turn _ (λ q. eqb (code_of (port_of a.t a.i q)) (carried_of a.d.now a.i q)) _ _ l.invariant
+    (ap (eqb _) c.carried.ensures
+    ∙ ap (λ (x : ℕ). eqb x (carried_of a.d.now a.i l.p)) (c.code.ensures ∙ ap code_of c.port_at.ensures))
