@@ -6,10 +6,11 @@
 pub mod exported;
 
 ghost use Rattle.std.specs.Prelude.{◌≡◌};
+ghost use Rattle.lines.specs.Answer.{file_answer};
 ghost use Rattle.answercheck.specs.Same.{same_flag, same_said, same_request, same_end, same_figures, told_by, told_of, same_told, written_by, written_of, same_written, same_slices, same_bytes};
 
 use bounds::Figures;
-use lines::{FileAnswer, answer_line, answer_number};
+use lines::{FileError, answer_line, answer_number};
 use model::number;
 use second::Said;
 use second::past::Told;
@@ -18,7 +19,7 @@ use second::response::Row;
 use second::written::Written;
 use trace::Request;
 use waits::WhyAnswer;
-use writer::WriteAnswer;
+use writer::WriteError;
 
 // Two buffers stand in one array: the library's at its start, and ours from here on.
 pub const OURS: usize = 65537;
@@ -33,8 +34,8 @@ pub fn same_flag(x: bool, y: bool) -> bool
     !y
 }
 
-pub fn same_said(answer: FileAnswer, s: Said) -> bool
-    ensures { result ≡ same_said answer s }
+pub fn same_said(answer: Result<(), FileError>, s: Said) -> bool
+    ensures { result ≡ same_said (file_answer answer) s }
 {
     (answer_number(answer) as usize == s.number) & (answer_line(answer) as usize == s.line)
 }
@@ -111,14 +112,14 @@ pub fn written_by(number: usize, line: usize, bytes: usize) -> Written
 }
 
 // The library's answer in the second implementation's terms.
-pub fn written_of(x: WriteAnswer) -> Written
+pub fn written_of(x: Result<usize, WriteError>) -> Written
     ensures { result ≡ written_of x }
 {
     match x {
-        WriteAnswer::Broken => written_by(11, 0, 0),
-        WriteAnswer::TooLong => written_by(2, 0, 0),
-        WriteAnswer::TooShort => written_by(13, 0, 0),
-        WriteAnswer::Wrote(bytes) => written_by(0, 0, bytes),
+        Err(WriteError::Broken) => written_by(11, 0, 0),
+        Err(WriteError::TooLong) => written_by(2, 0, 0),
+        Err(WriteError::TooShort) => written_by(13, 0, 0),
+        Ok(bytes) => written_by(0, 0, bytes),
     }
 }
 

@@ -10,14 +10,16 @@ ghost use Rattle.runner.specs.Answers.{run_means};
 ghost use Rattle.waits.specs.Answers.{why_means};
 ghost use Rattle.bounds.specs.Bounds.{meaning_of};
 ghost use Rattle.burst.specs.Answers.{join_outcome};
-ghost use Rattle.answers.specs.Numbers.{channel_number, channel_of, is_accepted, file_refused, reading_of, accepted_count, count_of, outcome_of, refused_by, tree_refused, no_wait, wait_of, row_of, unbounded, cut_of, joined_of};
+ghost use Rattle.lines.specs.Answer.{file_answer};
+ghost use Rattle.answers.specs.Numbers.{channel_number, channel_of, file_refused, reading_of, accepted_count, count_of, outcome_of, refused_by, tree_refused, no_wait, wait_of, row_of, unbounded, cut_of, joined_of};
 
 use bounds::Figures;
 use burst::joiner::{JoinReply, Progress};
-use lines::{FileAnswer, answer_line, answer_number};
+use lines::{FileError, answer_line, answer_number};
 use model::{Channel, Refusal, number};
 use runner::RunAnswer;
-use splitting::Reply;
+use splitting::Part;
+use usage::Denied;
 use waits::WhyAnswer;
 
 // What a reader answers. `file` says which file is refused: 0 neither, 1 the tree, 2 the trace.
@@ -118,30 +120,19 @@ pub fn channel_of(number: u8) -> Channel
     Channel::Write
 }
 
-// Whether the file is accepted.
-pub fn is_accepted(answer: FileAnswer) -> bool
-    ensures { result ≡ is_accepted answer }
-{
-    match answer {
-        FileAnswer::Accepted => true,
-        FileAnswer::Refused(_, _) => false,
-        FileAnswer::Broken => false,
-    }
-}
-
 // Which file is refused: `file`, or 0 where it is accepted.
-fn file_refused(file: u8, answer: FileAnswer) -> u8
-    ensures { result ≡ file_refused file answer }
+fn file_refused(file: u8, answer: Result<(), FileError>) -> u8
+    ensures { result ≡ file_refused file (file_answer answer) }
 {
-    if is_accepted(answer) {
+    if answer.is_ok() {
         return 0;
     }
     file
 }
 
 // What a reader answers of that file.
-pub fn reading_of(file: u8, answer: FileAnswer) -> Reading
-    ensures { result ≡ reading_of file answer }
+pub fn reading_of(file: u8, answer: Result<(), FileError>) -> Reading
+    ensures { result ≡ reading_of file (file_answer answer) }
 {
     Reading {
         file: file_refused(file, answer),
@@ -151,18 +142,18 @@ pub fn reading_of(file: u8, answer: FileAnswer) -> Reading
 }
 
 // How many accelerators an accepted tree has.
-fn accepted_count(answer: FileAnswer, accelerators: u8) -> u8
-    ensures { result ≡ accepted_count answer accelerators }
+fn accepted_count(answer: Result<(), FileError>, accelerators: u8) -> u8
+    ensures { result ≡ accepted_count (file_answer answer) accelerators }
 {
-    if is_accepted(answer) {
+    if answer.is_ok() {
         return accelerators;
     }
     0
 }
 
 // How many accelerators the tree of that answer has.
-pub fn count_of(answer: FileAnswer, accelerators: u8) -> Count
-    ensures { result ≡ count_of answer accelerators }
+pub fn count_of(answer: Result<(), FileError>, accelerators: u8) -> Count
+    ensures { result ≡ count_of (file_answer answer) accelerators }
 {
     Count {
         number: answer_number(answer),
@@ -216,8 +207,8 @@ pub fn refused_by(kind: u8, number: u8, at: u32) -> Outcome
 }
 
 // A run that does not begin, because the tree is refused.
-pub fn tree_refused(answer: FileAnswer) -> Outcome
-    ensures { result ≡ tree_refused answer }
+pub fn tree_refused(answer: Result<(), FileError>) -> Outcome
+    ensures { result ≡ tree_refused (file_answer answer) }
 {
     refused_by(2, answer_number(answer), answer_line(answer))
 }
@@ -294,16 +285,16 @@ pub fn row_of(answer: Result<Figures, Refusal>) -> Row
 }
 
 // How a burst is cut.
-pub fn cut_of(reply: Reply) -> Cut
+pub fn cut_of(reply: Result<u32, Denied<Part>>) -> Cut
     ensures { result ≡ cut_of reply }
 {
     match reply {
-        Reply::Refused(_, number, at) => Cut {
-            number: number,
-            line: at,
+        Err(e) => Cut {
+            number: e.number,
+            line: e.line,
             pieces: 0,
         },
-        Reply::Pieces(k) => Cut {
+        Ok(k) => Cut {
             number: 0,
             line: 0,
             pieces: k,

@@ -1,5 +1,6 @@
 // Bursts: split, joined and offered, by the library, and split and joined by its exports.
 use crate::results::{CUTS, JOINED};
+use crate::trials::tree_of;
 use alter::altered;
 use answercheck::exported::{same_cut, same_joined};
 use burst::Burst;
@@ -10,13 +11,12 @@ use burstcheck::splits::{
     try_lengths, try_older_lengths, try_some, with_some_length,
 };
 use generator::{made, tree_file};
-use lines::FileAnswer;
 use model::Tree;
 use razhikum::{razhikum_join, razhikum_split};
 use reader::read_tree;
 use second::book::read_book;
 use second::bursts::join_one;
-use second::{NO_WRONG_RULE, Said};
+use second::{Said, Wrong};
 use store::{DIFFERENCES, add, note};
 use treecheck::judge;
 
@@ -46,7 +46,7 @@ fn try_exported(
     let mut said = s;
     let mut n = 0;
     if s.number == 0 {
-        let y = second_split(b, d, NO_WRONG_RULE);
+        let y = second_split(b, d, Wrong::Nothing);
         said.number = y.number;
         n = y.pieces;
         add(d, CUTS, y.number, 1);
@@ -66,7 +66,7 @@ fn try_exports(
     starts: &mut [u32; 256],
     beats: &mut [u32; 256],
 ) {
-    let s = read_book(tree, d, NO_WRONG_RULE);
+    let s = read_book(tree, d, Wrong::Nothing);
     for _ in 0..8usize {
         let b = some_burst(t, d);
         try_exported(tree, b, s, d, starts, beats);
@@ -80,7 +80,7 @@ fn try_join(pieces: u32, answered: u32, number: u32, d: &mut [usize; 16384]) {
         pieces as usize,
         answered as usize,
         number as usize,
-        NO_WRONG_RULE,
+        Wrong::Nothing,
     );
     note(d, DIFFERENCES, 0, same_joined(x, y));
     add(d, JOINED, 0, 1);
@@ -90,13 +90,8 @@ fn try_join(pieces: u32, answered: u32, number: u32, d: &mut [usize; 16384]) {
 fn try_pieces(pieces: u32, d: &mut [usize; 16384]) {
     for i in 0..NUMBERS {
         let answered = number_at(i);
-        try_join(pieces, answered, std::num::wrapping_add_u32(answered, 1), d);
-        try_join(
-            pieces,
-            answered,
-            std::num::wrapping_add_u32(pieces, i % 2),
-            d,
-        );
+        try_join(pieces, answered, answered.wrapping_add(1), d);
+        try_join(pieces, answered, pieces.wrapping_add(i % 2), d);
     }
 }
 
@@ -116,28 +111,27 @@ fn try_file(
 ) {
     tree_file(w, d);
     let r = read_tree(made(w, d));
-    try_exports(made(w, d), r.tree, d, starts, beats);
-    let answer = r.answer;
-    let FileAnswer::Accepted = answer else {
+    try_exports(made(w, d), tree_of(r), d, starts, beats);
+    let Ok(t) = r else {
         return;
     };
-    try_on(with_some_length(r.tree, d), d, starts, beats);
+    try_on(with_some_length(t, d), d, starts, beats);
 }
 
 // Every size and count of beats on a small tree, as one of AXI4 and of AXI3; bursts about both limits offered on it, and on one whose bus
 // line is named bus3.
 fn try_small(d: &mut [usize; 16384], starts: &mut [u32; 256], beats: &mut [u32; 256]) {
-    let r = read_tree(
+    let t = tree_of(read_tree(
         b"bus\t8\t1\t4\t2\t2\t30\t25\t1\t1\t16\nint\t0\t-\t-\t1\nacc\t0\t0\t0\t4\t2\t10\t5\t1000\t2000\n",
-    );
-    try_lengths(r.tree, d, starts, beats);
-    try_older_lengths(r.tree, d, starts, beats);
-    try_band(r.tree, d, starts, beats);
-    try_limits(r.tree, d);
-    let older = read_tree(
+    ));
+    try_lengths(t, d, starts, beats);
+    try_older_lengths(t, d, starts, beats);
+    try_band(t, d, starts, beats);
+    try_limits(t, d);
+    let older = tree_of(read_tree(
         b"bus3\t8\t1\t4\t2\t2\t30\t25\t1\t1\t8\nint\t0\t-\t-\t1\nacc\t0\t0\t0\t4\t2\t10\t5\t1000\t2000\n",
-    );
-    try_limits(older.tree, d);
+    ));
+    try_limits(older, d);
 }
 
 // Small trees, the joiner, and generated trees.

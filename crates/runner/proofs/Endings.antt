@@ -16,8 +16,7 @@ use Rattle.folds.specs.Fold.{pick}
 use Rattle.rules.specs.Rules.{tree_keeps}
 use Rattle.folds.proofs.Folds.{picked, passed, clash}
 use Rattle.text.specs.Text.{lines}
-use Rattle.lines.specs.declared.FileAnswer.{FileAnswer}
-use Rattle.lines.specs.declared.FileAnswer.TheVariants.{Accepted, Refused, Broken}
+use Rattle.lines.specs.Answer.{FileAnswer, Accepted, Refused, Broken}
 use Rattle.trace.specs.declared.Request.{Request}
 use Rattle.trace.specs.TraceFile.{read_trace, requests}
 use Rattle.model.specs.Builders.{zero_state}
