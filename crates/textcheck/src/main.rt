@@ -7,7 +7,7 @@ use answers::channel_number;
 use burst::Burst;
 use inquiry::Waited;
 use model::Channel;
-use plan::Printed;
+use plan::{PlanError, refused_line, refused_number};
 use simulation::{Part, Simulation};
 use std::io;
 use std::io::Read;
@@ -442,14 +442,15 @@ fn load_all(rt: &(impl Files + Print), stdin: &mut impl Read, errors: &impl Prin
 }
 
 // The text of a tree in the page; of a refused tree the first byte of the page, which is left as it was, and the refusal.
-fn show_printed(out: &impl Print, r: Printed, page: &mut [u8; 65536]) {
-    if r.number == 0 {
-        show_page(out, page, r.bytes);
-        return;
+fn show_printed(out: &impl Print, r: Result<usize, PlanError>, page: &mut [u8; 65536]) {
+    match r {
+        Ok(n) => show_page(out, page, n),
+        Err(e) => {
+            show_page(out, page, 1);
+            let n = listing::refusal_text(refused_number(e), refused_line(e), page);
+            show_page(out, page, n);
+        }
     }
-    show_page(out, page, 1);
-    let n = listing::refusal_text(r.number, r.line, page);
-    show_page(out, page, n);
 }
 
 fn report(out: &impl Print, tree: &[u8]) {
