@@ -8,7 +8,7 @@ ghost use Rattle.std.specs.Prelude.{◌≡◌, ℕ, List, take, replicate, IfSom
 ghost use Rattle.std.specs.Fn.{FnOnceReturnsAtMut};
 
 use input::{file_bytes, page_text};
-use plan::Printed;
+use plan::{PlanError, refused_line, refused_number};
 use std::io::{IsTerminal, Read};
 use std::rt::{Env, Files};
 use usage::{Asked, Source};
@@ -89,13 +89,15 @@ pub fn load<'a>(
 }
 
 // The refusal: the line of document 01, and for a person the file's name and what is wrong.
-fn refuse(s: &Streams<impl Print, impl Print>, file: NamedFile<'_>, number: u8, line: u32) {
+fn refuse(s: &Streams<impl Print, impl Print>, file: NamedFile<'_>, e: PlanError) {
+    let number = refused_number(e);
+    let line = refused_line(e);
     show_text(s, |page| listing::refusal_text(number, line, page));
     reasons::explain(s.errors, file.name, false, file.bytes, number, line);
 }
 
 // Writes what `print` puts into a page of the file's tree, or its refusal.
-fn print_tree<F: FnOnce(&[u8], &mut [u8; 65536]) -> Printed>(
+fn print_tree<F: FnOnce(&[u8], &mut [u8; 65536]) -> Result<usize, PlanError>>(
     s: &Streams<impl Print, impl Print>,
     file: NamedFile<'_>,
     print: F,
@@ -103,15 +105,15 @@ fn print_tree<F: FnOnce(&[u8], &mut [u8; 65536]) -> Printed>(
     requires { F.IsAlwaysCallable print }
 {
     let mut page = [0u8; 65536];
-    let done = print(file.bytes, &mut page);
-    if done.number != 0 {
-        refuse(s, file, done.number, done.line);
-        return;
+    match print(file.bytes, &mut page) {
+        Ok(n) => {
+            input::write_out(s.out, s.errors, page_text(&page, n));
+        }
+        Err(e) => refuse(s, file, e),
     }
-    input::write_out(s.out, s.errors, page_text(&page, done.bytes));
 }
 
-fn print_file<F: FnOnce(&[u8], &mut [u8; 65536]) -> Printed + Drop>(
+fn print_file<F: FnOnce(&[u8], &mut [u8; 65536]) -> Result<usize, PlanError> + Drop>(
     s: &Streams<impl Files + Print, impl Print>,
     stdin: &mut impl Read,
     name: &[u8],
@@ -130,7 +132,7 @@ fn print_file<F: FnOnce(&[u8], &mut [u8; 65536]) -> Printed + Drop>(
 pub fn run<
     U: FnOnce(&mut [u8; 65536]) -> usize + Drop,
     H: FnOnce(&mut [u8; 65536]) -> usize + Drop,
-    F: FnOnce(&[u8], &mut [u8; 65536]) -> Printed + Drop,
+    F: FnOnce(&[u8], &mut [u8; 65536]) -> Result<usize, PlanError> + Drop,
 >(
     s: &Streams<impl Env + Files + Print, impl Print>,
     stdin: &mut (impl Read + IsTerminal),

@@ -7,7 +7,7 @@ use answers::channel_number;
 use burst::Burst;
 use input::page_text;
 use model::Channel;
-use plan::Printed;
+use plan::{PlanError, refused_line, refused_number};
 use printing::put_text;
 use simulation::{Part, Simulation};
 use std::io;
@@ -408,13 +408,17 @@ fn load_all(rt: &(impl Files + Print), stdin: &mut impl Read, errors: &impl Prin
 }
 
 // The text of a tree in the page; of a refused tree the first byte of the page, which is left as it was, and the refusal.
-fn show_printed(out: &impl Print, r: Printed, page: &[u8; 65536]) {
-    if r.number == 0 {
-        say_line(out, page_text(page, r.bytes));
-        return;
+fn show_printed(out: &impl Print, r: Result<usize, PlanError>, page: &[u8; 65536]) {
+    match r {
+        Ok(n) => say_line(out, page_text(page, n)),
+        Err(e) => {
+            say_line(out, &page[..1]);
+            show(
+                out,
+                |p| listing::refusal_text(refused_number(e), refused_line(e), p),
+            );
+        }
     }
-    say_line(out, &page[..1]);
-    show(out, |p| listing::refusal_text(r.number, r.line, p));
 }
 
 fn report(out: &impl Print, tree: &[u8]) {
