@@ -23,12 +23,7 @@ fn show(
 }
 
 // What was refused, by which number and at which line.
-fn explain_part(
-    errors: &impl Print,
-    e: Denied<Part>,
-    tree: NamedFile<'_>,
-    trace: NamedFile<'_>,
-) {
+fn explain_part(errors: &impl Print, e: Denied<Part>, tree: NamedFile<'_>, trace: NamedFile<'_>) {
     match e.part {
         Part::Tree => explain(errors, tree.name, false, tree.bytes, e.number, e.line),
         Part::Trace => explain(errors, trace.name, true, trace.bytes, e.number, e.line),
