@@ -133,7 +133,11 @@ fn reply_in(t: Tree, b: Burst, starts: &mut [u32; 256], beats: &mut [u32; 256]) 
 fn tree_denied(error: FileError) -> Reply
     ensures { result ≡ tree_denied (file_error error) }
 {
-    Reply::Refused(Part::Tree, answer_number(Err(error)), answer_line(Err(error)))
+    Reply::Refused(
+        Part::Tree,
+        answer_number(Err(error)),
+        answer_line(Err(error)),
+    )
 }
 
 // Cuts a burst into pieces of the burst length of the tree that is read from `tree`: how many, and of each the start address and the
