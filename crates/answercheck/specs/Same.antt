@@ -24,7 +24,7 @@
 -- written_by n l b       of a writing: refused by number n at line l, or 0; b bytes written
 -- written_of x           what the library answers on a writing, as these; a refusal has line 0
 -- same_written x y       two answers on a writing: number, line, bytes
-use Rattle.std.specs.Prelude.{ℕ, Bool, true, false, ◌&&◌, not, List, leb, eqb, length, take, drop, get_or}
+use Rattle.std.specs.Prelude.{Result, Ok, Err, ℕ, Bool, true, false, ◌&&◌, not, List, leb, eqb, length, take, drop, get_or}
 use Rattle.folds.specs.Fold.{pick, all}
 use Rattle.lines.specs.Answer.{FileAnswer, answer_number, answer_line}
 use Rattle.bounds.specs.declared.Figures.{Figures}
@@ -40,8 +40,8 @@ use Rattle.razhikum.specs.declared.Page.{Page}
 use Rattle.model.specs.Answer.{number_of}
 use Rattle.waits.specs.declared.WhyAnswer.{WhyAnswer}
 use Rattle.waits.specs.declared.WhyAnswer.TheVariants.{Refused, Broken, Unknown, NotServed, Waited}
-use Rattle.writer.specs.declared.WriteAnswer.{WriteAnswer}
-use Rattle.writer.specs.declared.WriteAnswer.TheVariants as writing
+use Rattle.writer.specs.declared.WriteError.{WriteError}
+use Rattle.writer.specs.declared.WriteError.TheVariants as writing
 use Rattle.second.specs.declared.Said.{Said}
 use Rattle.second.specs.declared.bursts.Joined as joining
 use Rattle.second.specs.declared.past.Told.{Told}
@@ -150,11 +150,11 @@ same_told x y = eqb x.number y.number && eqb x.line y.line && eqb x.count y.coun
 abbrev pub written_by : ℕ → ℕ → ℕ → Written
 written_by n l b = record { number = n; line = l; bytes = b }
 
-abbrev pub written_of : WriteAnswer → Written
-written_of writing.Broken = written_by 11 0 0
-written_of writing.TooLong = written_by 2 0 0
-written_of writing.TooShort = written_by 13 0 0
-written_of (writing.Wrote b) = written_by 0 0 b
+abbrev pub written_of : Result ℕ WriteError → Written
+written_of (Err writing.Broken) = written_by 11 0 0
+written_of (Err writing.TooLong) = written_by 2 0 0
+written_of (Err writing.TooShort) = written_by 13 0 0
+written_of (Ok b) = written_by 0 0 b
 
 abbrev pub same_written : Written → Written → Bool
 same_written x y = eqb x.number y.number && eqb x.line y.line && eqb x.bytes y.bytes

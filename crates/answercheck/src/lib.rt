@@ -19,7 +19,7 @@ use second::response::Row;
 use second::written::Written;
 use trace::Request;
 use waits::WhyAnswer;
-use writer::WriteAnswer;
+use writer::WriteError;
 
 // Two buffers stand in one array: the library's at its start, and ours from here on.
 pub const OURS: usize = 65537;
@@ -112,14 +112,14 @@ pub fn written_by(number: usize, line: usize, bytes: usize) -> Written
 }
 
 // The library's answer in the second implementation's terms.
-pub fn written_of(x: WriteAnswer) -> Written
+pub fn written_of(x: Result<usize, WriteError>) -> Written
     ensures { result ≡ written_of x }
 {
     match x {
-        WriteAnswer::Broken => written_by(11, 0, 0),
-        WriteAnswer::TooLong => written_by(2, 0, 0),
-        WriteAnswer::TooShort => written_by(13, 0, 0),
-        WriteAnswer::Wrote(bytes) => written_by(0, 0, bytes),
+        Err(WriteError::Broken) => written_by(11, 0, 0),
+        Err(WriteError::TooLong) => written_by(2, 0, 0),
+        Err(WriteError::TooShort) => written_by(13, 0, 0),
+        Ok(bytes) => written_by(0, 0, bytes),
     }
 }
 

@@ -19,7 +19,7 @@
 -- cut_of x              what a tree file and a burst are answered, as numbers
 -- join_number x         the number of what the joiner answers, 0 where it refuses nothing; is_done x: it says done
 -- joined_of x           what the joiner answers, with the joiner that comes back, as numbers
-use Rattle.std.specs.Prelude.{ℕ, eqb, Bool, true, false}
+use Rattle.std.specs.Prelude.{ℕ, Ok, Err, eqb, Bool, true, false}
 use Rattle.folds.specs.Fold.{pick}
 use Rattle.model.specs.declared.Channel.{Channel}
 use Rattle.model.specs.declared.Channel.TheVariants.{Read, Write}
@@ -28,8 +28,7 @@ use Rattle.runner.specs.Run.{Ending, refused_at, broken, done, stopped}
 use Rattle.waits.specs.Why.{Why, refused_at as atLine, denied, waited}
 use Rattle.bounds.specs.Bounds.{BoundResult, refused, analysed}
 use Rattle.burst.specs.Joiner.{Joining, taken, done as joinDone, not_joined, Joined as JoinedWith}
-use Rattle.splitting.specs.declared.Reply.{Reply}
-use Rattle.splitting.specs.declared.Reply.TheVariants.{Refused as CutRefused, Pieces}
+use Rattle.splitting.specs.Splitting.{Reply}
 use Rattle.answers.specs.declared.Reading.{Reading}
 use Rattle.answers.specs.declared.Count.{Count}
 use Rattle.answers.specs.declared.Outcome.{Outcome}
@@ -103,8 +102,8 @@ row_of (analysed r) =
     }
 
 abbrev pub cut_of : Reply → Cut
-cut_of (CutRefused p n l) = record { number = n; line = l; pieces = 0 }
-cut_of (Pieces k) = record { number = 0; line = 0; pieces = k }
+cut_of (Err e) = record { number = e.number; line = e.line; pieces = 0 }
+cut_of (Ok k) = record { number = 0; line = 0; pieces = k }
 
 abbrev pub join_number : Joining → ℕ
 join_number taken = 0

@@ -13,12 +13,13 @@ ghost use Rattle.burst.specs.Answers.{join_outcome};
 ghost use Rattle.lines.specs.Answer.{file_answer};
 ghost use Rattle.answers.specs.Numbers.{channel_number, channel_of, file_refused, reading_of, accepted_count, count_of, outcome_of, refused_by, tree_refused, no_wait, wait_of, row_of, unbounded, cut_of, joined_of};
 
-use bounds::BoundAnswer;
-use burst::joiner::{JoinAnswer, JoinReply};
+use bounds::Figures;
+use burst::joiner::{JoinReply, Progress};
 use lines::{FileError, answer_line, answer_number};
-use model::{Channel, number};
+use model::{Channel, Refusal, number};
 use runner::RunAnswer;
-use splitting::Reply;
+use splitting::Part;
+use usage::Denied;
 use waits::WhyAnswer;
 
 // What a reader answers. `file` says which file is refused: 0 neither, 1 the tree, 2 the trace.
@@ -263,12 +264,12 @@ pub fn unbounded(number: u8, line: u32) -> Row
 }
 
 // The bounds of an accelerator.
-pub fn row_of(answer: BoundAnswer) -> Row
+pub fn row_of(answer: Result<Figures, Refusal>) -> Row
     ensures { result ≡ row_of (meaning_of answer) }
 {
     match answer {
-        BoundAnswer::Refused(r) => unbounded(number(r), 0),
-        BoundAnswer::Bound(f) => Row {
+        Err(r) => unbounded(number(r), 0),
+        Ok(f) => Row {
             number: 0,
             line: 0,
             level: f.level,
@@ -284,16 +285,16 @@ pub fn row_of(answer: BoundAnswer) -> Row
 }
 
 // How a burst is cut.
-pub fn cut_of(reply: Reply) -> Cut
+pub fn cut_of(reply: Result<u32, Denied<Part>>) -> Cut
     ensures { result ≡ cut_of reply }
 {
     match reply {
-        Reply::Refused(_, number, at) => Cut {
-            number: number,
-            line: at,
+        Err(e) => Cut {
+            number: e.number,
+            line: e.line,
             pieces: 0,
         },
-        Reply::Pieces(k) => Cut {
+        Ok(k) => Cut {
             number: 0,
             line: 0,
             pieces: k,
@@ -313,12 +314,12 @@ pub fn joined_of(reply: JoinReply) -> Joined
         answered: reply.joiner.answered,
     };
     match answer {
-        JoinAnswer::Taken => joined,
-        JoinAnswer::Done => {
+        Ok(Progress::Taken) => joined,
+        Ok(Progress::Done) => {
             joined.done = true;
             joined
         }
-        JoinAnswer::Refused(r) => {
+        Err(r) => {
             joined.number = number(r);
             joined
         }

@@ -8,7 +8,7 @@ use generator::listed::heading_at;
 use generator::pages::long_file;
 use generator::{file_in, made, size};
 use reader::read_tree;
-use second::NO_WRONG_RULE;
+use second::Wrong;
 use second::book::{READ, read_book};
 use store::{add, get};
 
@@ -27,7 +27,7 @@ fn try_on(
     out: &mut [u8; 131074],
     size: usize,
 ) {
-    read_book(tree, d, NO_WRONG_RULE);
+    read_book(tree, d, Wrong::Nothing);
     let t = tree_of(read_tree(tree));
     try_file_runs(tree, t, channel, s, d, out, size);
 }

@@ -28,9 +28,8 @@ use Rattle.runner.specs.Wait.{count_in, used_by}
 use Rattle.waits.specs.Why.{Why, refused_at, denied, fewer, why_from, buffer_from, why_read, buffer_read, why_of, why_buffer}
 use Rattle.runner.proofs.Telling.{count_few}
 use Rattle.inquiry.specs.declared.Part.TheVariants.{Tree as OfTree}
-use Rattle.inquiry.specs.declared.Reply.TheVariants.{Refused}
 use Rattle.razhikum.specs.Exports.{list_from}
-use Rattle.inquiry.specs.Inquiry.{most_acc, most_number, reply_of, reply_from}
+use Rattle.inquiry.specs.Inquiry.{most_acc, most_number, refused, reply_of, reply_from}
 
 module _ (t : Tree) (c : Channel) (rs : List Request) where
   served_most : (a : ℕ) → count_in a (bytes_before (used_by t c rs 65536) t (start t c rs)) ≤ 65536
@@ -112,7 +111,7 @@ module _ (q : TreeRead) (c : Channel) (s : List ℕ) (a k : ℕ) where
   pub reply_beyond : reply_from q c s (min a most_acc) (min k most_number) ≡ reply_from q c s a k
   unfolding reply_from
   reply_beyond =
-      ap (λ (w : Why). pick (is_accepted q.answer) (reply_of w) (Refused OfTree (answer_number q.answer) (answer_line q.answer)))
+      ap (λ (w : Why). pick (is_accepted q.answer) (reply_of w) (refused OfTree (answer_number q.answer) (answer_line q.answer)))
       (why_beyond q.tree c s a k 65536)
 
   pub list_beyond : (d : List ℕ) → list_from q c s (min a most_acc) (min k most_number) d ≡ list_from q c s a k d

@@ -11,13 +11,12 @@
 -- listed n bs           the list of n slots, as far as the buffer bs holds it
 -- reply_text r bs       what is printed of the reply r and the buffer bs; pages_of r bs: the pages it is given in; reply_page r bs i:
 --                       page i of it, from 0
-use Rattle.std.specs.Prelude.{ℕ, ◌+◌, ◌-◌, ◌*◌, ◌/◌, min, List, [], ◌++◌, eqb, length, get_or, take}
+use Rattle.std.specs.Prelude.{ℕ, Ok, Err, ◌+◌, ◌-◌, ◌*◌, ◌/◌, min, List, [], ◌++◌, eqb, length, get_or, take}
 use Rattle.folds.specs.Fold.{pick}
 use Rattle.text.specs.Write.{decimal_text}
 use Rattle.put.specs.Page.{bytes, field, ended, joined}
 use Rattle.listing.specs.Listing.{refusal_text}
-use Rattle.inquiry.specs.declared.Reply.{Reply}
-use Rattle.inquiry.specs.declared.Reply.TheVariants.{Refused, Waited}
+use Rattle.inquiry.specs.Inquiry.{Reply}
 
 abbrev pub met_text : ℕ → List ℕ
 met_text b = pick (eqb b 255) (bytes "own") (decimal_text b)
@@ -47,13 +46,13 @@ abbrev pub listed : ℕ → List ℕ → List ℕ
 listed n bs = take (2 * n) bs
 
 abbrev pub reply_text : Reply → List ℕ → List ℕ
-reply_text (Refused p n l) bs = refusal_text n l
-reply_text (Waited n from) bs = wait_text from n (listed n bs)
+reply_text (Err e) bs = refusal_text e.number e.line
+reply_text (Ok w) bs = wait_text w.admission w.count (listed w.count bs)
 
 abbrev pub pages_of : Reply → List ℕ → ℕ
-pages_of (Refused p n l) bs = 1
-pages_of (Waited n from) bs = length (listed n bs) / 2 / page_lines + 1
+pages_of (Err e) bs = 1
+pages_of (Ok w) bs = length (listed w.count bs) / 2 / page_lines + 1
 
 abbrev pub reply_page : Reply → List ℕ → ℕ → List ℕ
-reply_page (Refused p n l) bs i = refusal_text n l
-reply_page (Waited n from) bs i = wait_page from n (listed n bs) i
+reply_page (Err e) bs i = refusal_text e.number e.line
+reply_page (Ok w) bs i = wait_page w.admission w.count (listed w.count bs) i

@@ -4,31 +4,29 @@
 
 ghost use Rattle.std.specs.Prelude.{◌≡◌, ◌≤◌, ◌*◌, length, take};
 ghost use Rattle.put.specs.Page.{Written};
-ghost use Rattle.put.specs.Put.{Put};
+ghost use Rattle.put.specs.Texts.{Puts};
 ghost use Rattle.reader.specs.TreeFile.{read_tree};
 ghost use Rattle.usage.specs.Usage.{channel_asked};
 ghost use Rattle.waits.specs.Answers.{why_means};
 ghost use Rattle.razhikum.specs.Exports.{list_from};
-ghost use Rattle.inquiry.specs.Inquiry.{wait_asked, why_asked, reply_of, reply_from};
+ghost use Rattle.inquiry.specs.Inquiry.{wait_asked, why_asked, refused, reply_of, reply_from};
 ghost use Rattle.inquiry.specs.Lines.{line_text, lines_text, count_text, wait_page, pages_of, reply_page};
 
 use lines::{answer_line, answer_number};
 use listing::refusal_text;
 use model::{Channel, number};
-use put::{put_bytes, put_field};
+use put::Text;
 use reader::read_tree;
-use usage::{
-    ChannelWord, NumberWord, asks_help, channel_asked, help_asked, number_asked, two_files,
-};
+use usage::{Asked, Denied, asks_help, channel_asked, help_asked, number_asked, two_files};
 use waits::{WhyAnswer, why};
 
-// What `why` does by its words: it asks for the wait, on a channel, of a transaction of an accelerator, or says its usage or its help.
-// 255 stands for every accelerator above 255, and 4,294,967,295 for every number above it: neither is in any run.
+// The transaction of an accelerator, on a channel, whose wait `why` tells where its words ask for one. 255 stands for every
+// accelerator above 255, and 4,294,967,295 for every number above it: neither is in any run.
 #[derive(Clone, Copy)]
-pub enum Asked {
-    Usage,
-    Help,
-    Wait(Channel, u8, u32),
+pub struct Transaction {
+    pub channel: Channel,
+    pub accelerator: u8,
+    pub number: u32,
 }
 
 // What a refusal is of: a file, or one of the words ACC and NUMBER.
@@ -40,31 +38,31 @@ pub enum Part {
     Number,
 }
 
-// What is answered: a refusal, of what, by which number and at which line, 0 for none; or how many slots the transaction waited,
-// and the slot of its admission.
+// How many slots a transaction waited, and the slot of its admission.
 #[derive(Clone, Copy)]
-pub enum Reply {
-    Refused(Part, u8, u32),
-    Waited(u32, u32),
+pub struct Waited {
+    pub count: u32,
+    pub admission: u32,
 }
 
 // The transaction that the words CHANNEL, ACC and NUMBER name; usage where the first is no channel or another no number.
-fn wait_asked(channel: &[u8], acc: &[u8], number: &[u8]) -> Asked
+fn wait_asked(channel: &[u8], acc: &[u8], number: &[u8]) -> Asked<Transaction>
     ensures { result ≡ wait_asked (channel_asked channel.now) acc.now number.now }
 {
-    let c = channel_asked(channel);
-    let a = number_asked(acc, 255);
-    let k = number_asked(number, 4294967295);
-    let ChannelWord::Known(x) = c else {
+    let Some(c) = channel_asked(channel) else {
         return Asked::Usage;
     };
-    let NumberWord::Number(y) = a else {
+    let Some(a) = number_asked(acc, 255) else {
         return Asked::Usage;
     };
-    let NumberWord::Number(z) = k else {
+    let Some(k) = number_asked(number, 4294967295) else {
         return Asked::Usage;
     };
-    Asked::Wait(x, y as u8, z)
+    Asked::Run(Transaction {
+        channel: c,
+        accelerator: a as u8,
+        number: k,
+    })
 }
 
 // What `why` does, started with `count` words, of which these are the first five.
@@ -75,7 +73,7 @@ pub fn why_asked(
     trace: &[u8],
     acc: &[u8],
     number: &[u8],
-) -> Asked
+) -> Asked<Transaction>
     ensures { result ≡ why_asked count channel.now tree.now trace.now acc.now number.now }
 {
     if help_asked(channel, tree, trace) | asks_help(acc) | asks_help(number) {
@@ -87,16 +85,30 @@ pub fn why_asked(
     Asked::Usage
 }
 
+// A refusal, of what, by this number and at this line.
+fn refused(part: Part, number: u8, line: u32) -> Result<Waited, Denied<Part>>
+    ensures { result ≡ refused part number line }
+{
+    Err(Denied {
+        part: part,
+        number: number,
+        line: line,
+    })
+}
+
 // The answer for two files of which the tree is accepted.
-fn reply_of(answer: WhyAnswer) -> Reply
+fn reply_of(answer: WhyAnswer) -> Result<Waited, Denied<Part>>
     ensures { result ≡ reply_of (why_means answer) }
 {
     match answer {
-        WhyAnswer::Refused(r, line) => Reply::Refused(Part::Trace, number(r), line),
-        WhyAnswer::Broken => Reply::Refused(Part::Tree, 11, 0),
-        WhyAnswer::Unknown => Reply::Refused(Part::Accelerator, 7, 0),
-        WhyAnswer::NotServed => Reply::Refused(Part::Number, 12, 0),
-        WhyAnswer::Waited(n, from) => Reply::Waited(n, from),
+        WhyAnswer::Refused(r, line) => refused(Part::Trace, number(r), line),
+        WhyAnswer::Broken => refused(Part::Tree, 11, 0),
+        WhyAnswer::Unknown => refused(Part::Accelerator, 7, 0),
+        WhyAnswer::NotServed => refused(Part::Number, 12, 0),
+        WhyAnswer::Waited(n, from) => Ok(Waited {
+            count: n,
+            admission: from,
+        }),
     }
 }
 
@@ -110,68 +122,66 @@ pub fn inquire(
     a: u8,
     k: u32,
     out: &mut [u8; 65536],
-) -> Reply
+) -> Result<Waited, Denied<Part>>
     ensures answer { result ≡ reply_from (read_tree tree.now) channel trace.now a k }
     ensures list { out.new ≡ list_from (read_tree tree.now) channel trace.now a k out.old }
 {
     match read_tree(tree) {
         Ok(t) => reply_of(why(t, channel, trace, a, k, out)),
-        Err(e) => Reply::Refused(Part::Tree, answer_number(Err(e)), answer_line(Err(e))),
+        Err(e) => refused(Part::Tree, answer_number(Err(e)), answer_line(Err(e))),
     }
 }
 
 // The line of a slot: its number, the accelerator served, and where the paths meet, 255 for own.
-fn put_line(out: &mut [u8], at: usize, slot: u64, served: u8, met: u8) -> usize
-    ensures { Put 63 out.old at (line_text slot served met) out.new result }
+fn put_line(text: &mut Text, slot: u64, served: u8, met: u8)
+    ensures { Puts 63 text.old (line_text slot served met) text.new }
 {
-    let next = put_field(out, at, slot, b'\t');
-    let next = put_field(out, next, served as u64, b'\t');
+    text.field(slot, b'\t');
+    text.field(served as u64, b'\t');
     if met == 255 {
-        return put_bytes(out, next, b"own\n");
+        text.bytes(b"own\n");
+    } else {
+        text.field(met as u64, b'\n');
     }
-    put_field(out, next, met as u64, b'\n')
 }
 
 // The lines of a page: `pairs` has two bytes for each slot listed, and `from` is the first one.
-fn put_lines(out: &mut [u8], from: u32, pairs: &[u8], page: u32) -> usize
-    ensures { Put 64512 out.old 0 (lines_text from pairs.now page) out.new result }
+fn put_lines(text: &mut Text, from: u32, pairs: &[u8], page: u32)
+    ensures { Puts 64512 text.old (lines_text from pairs.now page) text.new }
 {
     let first = 1024 * (page as usize);
-    let listed = pairs.len() / 2;
-    let mut next = 0;
-    let mut i = 0;
-    while i < 1024 && first + i < listed {
+    let left = (pairs.len() / 2).saturating_sub(first);
+    for i in 0..left.min(1024) {
         let j = first + i;
         let slot = from as u64 + j as u64;
-        next = put_line(out, next, slot, pairs[2 * j], pairs[2 * j + 1]);
-        i += 1;
+        put_line(text, slot, pairs[2 * j], pairs[2 * j + 1]);
     }
-    next
 }
 
 // The last line: the count of all slots waited.
-fn put_count(out: &mut [u8], at: usize, count: u64) -> usize
-    ensures { Put 28 out.old at (count_text count) out.new result }
+fn put_count(text: &mut Text, count: u64)
+    ensures { Puts 28 text.old (count_text count) text.new }
 {
-    let next = put_bytes(out, at, b"waited\t");
-    put_field(out, next, count, b'\n')
+    text.bytes(b"waited\t");
+    text.field(count, b'\n');
 }
 
-fn put_page(out: &mut [u8], from: u32, count: u32, pairs: &[u8], page: u32) -> usize
-    ensures { Put 64540 out.old 0 (wait_page from count pairs.now page) out.new result }
+fn put_page(text: &mut Text, from: u32, count: u32, pairs: &[u8], page: u32)
+    ensures { Puts 64540 text.old (wait_page from count pairs.now page) text.new }
 {
-    let next = put_lines(out, from, pairs, page);
+    put_lines(text, from, pairs, page);
     if page as usize == pairs.len() / 2 / 1024 {
-        return put_count(out, next, count as u64);
+        put_count(text, count as u64);
     }
-    next
 }
 
 // A page of the wait.
 fn wait_page(from: u32, count: u32, pairs: &[u8], page: u32, out: &mut [u8; 65536]) -> usize
     ensures { Written (wait_page from count pairs.now page) out.old out.new result }
 {
-    put_page(out, from, count, pairs, page)
+    let mut text = Text::new(out);
+    put_page(&mut text, from, count, pairs, page);
+    text.len()
 }
 
 // How many bytes of the list are pairs of slots: two for each, and at most all.
@@ -179,31 +189,33 @@ fn listed_length(count: u32, list: &[u8]) -> usize
     ensures { (result ≤ length list.now) × (take result list.now ≡ take (2 * count) list.now) }
 {
     let n = 2 * (count as usize);
-    if n <= list.len() {
-        return n;
-    }
-    list.len()
+    n.min(list.len())
 }
 
 // How many pages the text of a reply has; `list` is the buffer with the list.
-pub fn page_count(reply: Reply, list: &[u8]) -> usize
+pub fn page_count(reply: Result<Waited, Denied<Part>>, list: &[u8]) -> usize
     ensures { result ≡ pages_of reply list.now }
 {
     match reply {
-        Reply::Refused(_, _, _) => 1,
-        Reply::Waited(n, _) => listed_length(n, list) / 2 / 1024 + 1,
+        Err(_) => 1,
+        Ok(w) => listed_length(w.count, list) / 2 / 1024 + 1,
     }
 }
 
 // Page `page` of the text of a reply, from 0.
-pub fn page_text(reply: Reply, list: &[u8], page: u32, out: &mut [u8; 65536]) -> usize
+pub fn page_text(
+    reply: Result<Waited, Denied<Part>>,
+    list: &[u8],
+    page: u32,
+    out: &mut [u8; 65536],
+) -> usize
     ensures { Written (reply_page reply list.now page) out.old out.new result }
 {
     match reply {
-        Reply::Refused(_, number, line) => refusal_text(number, line, out),
-        Reply::Waited(n, from) => {
-            let k = listed_length(n, list);
-            wait_page(from, n, &list[..k], page, out)
+        Err(e) => refusal_text(e.number, e.line, out),
+        Ok(w) => {
+            let k = listed_length(w.count, list);
+            wait_page(w.admission, w.count, &list[..k], page, out)
         }
     }
 }

@@ -5,36 +5,33 @@
 ghost use Rattle.std.specs.Prelude.{true, ◌≡◌};
 ghost use Rattle.rules.specs.Rules.{tree_keeps};
 ghost use Rattle.put.specs.Page.{ended, Written};
-ghost use Rattle.put.specs.Put.{Put};
+ghost use Rattle.put.specs.Texts.{Puts};
 ghost use Rattle.bounds.specs.Bounds.{figures_mean};
 ghost use Rattle.listing.specs.Listing.{head_line, verdict_of, row_text, all_line, refusal_text, report_text};
 
-use bounds::{BoundAnswer, Figures, bound};
+use bounds::{Figures, bound};
 use model::Tree;
-use put::{put_bytes, put_field};
+use put::Text;
 use rules::tree_keeps;
 
-fn put_refusal(out: &mut [u8], number: u8, line: u32) -> usize
-    ensures { Put 50 out.old 0 (refusal_text number line) out.new result }
+fn put_refusal(text: &mut Text, number: u8, line: u32)
+    ensures { Puts 50 text.old (refusal_text number line) text.new }
 {
-    let next = put_bytes(out, 0, b"refused\t");
-    let next = put_field(out, next, number as u64, b'\t');
-    put_field(out, next, line as u64, b'\n')
+    text.bytes(b"refused\t");
+    text.field(number as u64, b'\t');
+    text.field(line as u64, b'\n');
 }
 
 // A verdict, the last field of its line.
-fn put_verdict(out: &mut [u8], at: usize, meets: bool) -> usize
-    ensures { Put 6 out.old at (ended (verdict_of meets)) out.new result }
+fn put_verdict(text: &mut Text, meets: bool)
+    ensures { Puts 6 text.old (ended (verdict_of meets)) text.new }
 {
-    if meets {
-        return put_bytes(out, at, b"meets\n");
-    }
-    put_bytes(out, at, b"late\n")
+    text.bytes(if meets { b"meets\n" } else { b"late\n" });
 }
 
 // The line of accelerator a.
-fn put_row(out: &mut [u8], at: usize, a: u8, f: Figures) -> usize
-    ensures { Put 174 out.old at (row_text a (figures_mean f)) out.new result }
+fn put_row(text: &mut Text, a: u8, f: Figures)
+    ensures { Puts 174 text.old (row_text a (figures_mean f)) text.new }
 {
     let reads = f.reads;
     let writes = f.writes;
@@ -42,51 +39,45 @@ fn put_row(out: &mut [u8], at: usize, a: u8, f: Figures) -> usize
     let yw = writes.interference;
     let response = f.response;
     let period = f.period;
-    let next = put_field(out, at, a as u64, b'\t');
-    let next = put_field(out, next, f.level as u64, b'\t');
-    let next = put_field(out, next, reads.share, b'\t');
-    let next = put_field(out, next, writes.share, b'\t');
-    let next = put_field(out, next, yr.0, b'\t');
-    let next = put_field(out, next, yw.0, b'\t');
-    let next = put_field(out, next, response.0, b'\t');
-    let next = put_field(out, next, period.0, b'\t');
-    put_verdict(out, next, f.meets)
+    text.field(a as u64, b'\t');
+    text.field(f.level as u64, b'\t');
+    text.field(reads.share, b'\t');
+    text.field(writes.share, b'\t');
+    text.field(yr.0, b'\t');
+    text.field(yw.0, b'\t');
+    text.field(response.0, b'\t');
+    text.field(period.0, b'\t');
+    put_verdict(text, f.meets);
 }
 
-fn put_head(out: &mut [u8]) -> usize
-    ensures { Put 42 out.old 0 head_line out.new result }
+fn put_head(text: &mut Text)
+    ensures { Puts 42 text.old head_line text.new }
 {
-    put_bytes(
-        out,
-        0,
-        b"acc\tlevel\tsr\tsw\tyr\tyw\tresp\tperiod\tverdict\n",
-    )
+    text.bytes(b"acc\tlevel\tsr\tsw\tyr\tyw\tresp\tperiod\tverdict\n");
 }
 
-fn put_all(out: &mut [u8], at: usize, meets: bool) -> usize
-    ensures { Put 10 out.old at (all_line meets) out.new result }
+fn put_all(text: &mut Text, meets: bool)
+    ensures { Puts 10 text.old (all_line meets) text.new }
 {
-    let next = put_bytes(out, at, b"all\t");
-    put_verdict(out, next, meets)
+    text.bytes(b"all\t");
+    put_verdict(text, meets);
 }
 
 // The report of a configuration that keeps its rules: no bound of its accelerators is refused.
-fn put_report(t: Tree, out: &mut [u8]) -> usize
+fn put_report(text: &mut Text, t: Tree)
     requires { tree_keeps t ≡ true }
-    ensures { Put 5620 out.old 0 (report_text t) out.new result }
+    ensures { Puts 5620 text.old (report_text t) text.new }
 {
-    let mut next = put_head(out);
+    put_head(text);
     let mut all_meet = true;
-    let mut a: u8 = 0;
-    while a < t.accs {
-        let BoundAnswer::Bound(f) = bound(t, a) else {
-            return next;
+    for a in 0..t.accs {
+        let Ok(f) = bound(t, a) else {
+            return;
         };
-        next = put_row(out, next, a, f);
-        all_meet = all_meet & f.meets;
-        a += 1;
+        put_row(text, a, f);
+        all_meet &= f.meets;
     }
-    put_all(out, next, all_meet)
+    put_all(text, all_meet);
 }
 
 // The report of a configuration. One that breaks its rules is refused by 11: no byte is put, and `out` is left as it was.
@@ -96,12 +87,16 @@ pub fn report_text(t: Tree, out: &mut [u8; 65536]) -> usize
     if !tree_keeps(t) {
         return 0;
     }
-    put_report(t, out)
+    let mut text = Text::new(out);
+    put_report(&mut text, t);
+    text.len()
 }
 
 // The line of a refusal.
 pub fn refusal_text(number: u8, line: u32, out: &mut [u8; 65536]) -> usize
     ensures { Written (refusal_text number line) out.old out.new result }
 {
-    put_refusal(out, number, line)
+    let mut text = Text::new(out);
+    put_refusal(&mut text, number, line);
+    text.len()
 }

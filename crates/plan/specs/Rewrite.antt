@@ -1,16 +1,25 @@
 -- What writing a tree file back answers (document 02, item 4, and document 01, "What is refused").
 --
+-- Printed              how many bytes were put, and a refusal's number and line; number 0 says that the file is accepted
 -- refused_by n l       refused by number n at line l; no byte is put
 -- wrote_as x           what the writer answers, as numbers: 11 and 13 have no line, which is said as 0
 -- answered_by x p      the answer p where the reading answers x by accepting, else its refusal; left_by x d e: the buffer e alike, else d
 -- rewrite_of q n       the answer for the reading q of a tree file and a buffer of n bytes: the reading's refusal, or what the writer
 --                      answers of its tree
 -- rewrite_buffer q d   the buffer d then
-use Rattle.std.specs.Prelude.{ℕ, List}
-use Rattle.lines.specs.Answer.{FileAnswer, Accepted, Refused, Broken, answer_number, answer_line}
+-- refusal_of e, prints x   the error e of `report` and `rewrite`, and what they answer, in numbers
+use Rattle.std.specs.Prelude.{ℕ, List, Result, Ok, Err}
+use Rattle.lines.specs.Answer.{FileAnswer, Accepted, Refused, Broken, file_error, answer_number, answer_line}
 use Rattle.placing.specs.Placing.{TreeRead}
 use Rattle.writer.specs.Writer.{Wrote, refused_at, denied, wrote, write_of, write_buffer}
-use Rattle.plan.specs.declared.Printed.{Printed}
+use Rattle.writer.specs.Answers.{write_means}
+use Rattle.plan.specs.declared.PlanError.{PlanError}
+use Rattle.plan.specs.declared.PlanError.TheVariants.{File, Write}
+
+pub record Printed : Type 0 where
+  pub bytes : ℕ
+  pub number : ℕ
+  pub line : ℕ
 
 abbrev pub refused_by : ℕ → ℕ → Printed
 refused_by n l = record { bytes = 0; number = n; line = l }
@@ -35,3 +44,11 @@ rewrite_of q n = answered_by q.answer (wrote_as (write_of q.tree n))
 
 abbrev pub rewrite_buffer : TreeRead → List ℕ → List ℕ
 rewrite_buffer q d = left_by q.answer d (write_buffer q.tree d)
+
+abbrev pub refusal_of : PlanError → Printed
+refusal_of (File e) = refused_by (answer_number (file_error e)) (answer_line (file_error e))
+refusal_of (Write e) = wrote_as (write_means (Err e))
+
+abbrev pub prints : Result ℕ PlanError → Printed
+prints (Ok n) = record { bytes = n; number = 0; line = 0 }
+prints (Err e) = refusal_of e

@@ -2,91 +2,72 @@
 #![tactic(auto)]
 
 ghost use Rattle.std.specs.Prelude.{◌≡◌, length};
-ghost use Rattle.lines.specs.Answer.{file_error, answer_number, answer_line};
 ghost use Rattle.reader.specs.TreeFile.{read_tree};
-ghost use Rattle.writer.specs.Writer.{write_of, write_buffer};
+ghost use Rattle.plan.specs.declared.PlanError.TheVariants.{File, Write};
 ghost use Rattle.plan.specs.Plan.{Printing};
-ghost use Rattle.plan.specs.Rewrite.{refused_by, wrote_as, rewrite_of, rewrite_buffer};
+ghost use Rattle.plan.specs.Rewrite.{refusal_of, prints, rewrite_of, rewrite_buffer};
 
 use lines::{FileError, answer_line, answer_number};
 use listing::report_text;
-use model::Tree;
 use reader::read_tree;
-use writer::{WriteAnswer, write_tree};
+use writer::{WriteError, write_tree};
 
-// How many bytes were put, and the refusal's number and line; number 0 says that the file is accepted.
-#[derive(Clone, Copy)]
-pub struct Printed {
-    pub bytes: usize,
-    pub number: u8,
-    pub line: u32,
+// Why no text is put: the file is refused, or its tree is not written.
+#[derive(Clone, Copy, PartialEq, Eq)]
+pub enum PlanError {
+    File(FileError),
+    Write(WriteError),
 }
 
-// A file that is refused: no byte is put.
-fn refused(error: FileError) -> Printed
-    ensures { result ≡ refused_by (answer_number (file_error error)) (answer_line (file_error error)) }
-{
-    Printed {
-        bytes: 0,
-        number: answer_number(Err(error)),
-        line: answer_line(Err(error)),
+impl From<FileError> for PlanError {
+    ghost from_gives = { λ e x. x ≡ File e };
+
+    fn from(e: FileError) -> PlanError {
+        PlanError::File(e)
     }
 }
 
-// Reads the tree in `input` and writes its report into `out`; a refusal leaves `out` as it was.
-pub fn report(input: &[u8], out: &mut [u8; 65536]) -> Printed
-    ensures { Printing (read_tree input.now) out.old out.new result.bytes result.number result.line }
-{
-    match read_tree(input) {
-        Ok(t) => {
-            let n = report_text(t, out);
-            Printed {
-                bytes: n,
-                number: 0,
-                line: 0,
-            }
-        }
-        Err(error) => refused(error),
+impl From<WriteError> for PlanError {
+    ghost from_gives = { λ e x. x ≡ Write e };
+
+    fn from(e: WriteError) -> PlanError {
+        PlanError::Write(e)
     }
 }
 
-// Writes the text of a configuration into `out`: its length, or the refusal in numbers.
-fn written(t: Tree, out: &mut [u8]) -> Printed
-    ensures answer { result ≡ wrote_as (write_of t (length out.old)) }
-    ensures bytes { out.new ≡ write_buffer t out.old }
+// The number of a refusal in document 01's table, or in document 02's.
+pub fn refused_number(e: PlanError) -> u8
+    ensures { result ≡ (refusal_of e).number }
 {
-    let answer = write_tree(t, out);
-    match answer {
-        WriteAnswer::Broken => Printed {
-            bytes: 0,
-            number: 11,
-            line: 0,
-        },
-        WriteAnswer::TooLong => Printed {
-            bytes: 0,
-            number: 2,
-            line: 0,
-        },
-        WriteAnswer::TooShort => Printed {
-            bytes: 0,
-            number: 13,
-            line: 0,
-        },
-        WriteAnswer::Wrote(n) => Printed {
-            bytes: n,
-            number: 0,
-            line: 0,
-        },
+    match e {
+        PlanError::File(e) => answer_number(Err(e)),
+        PlanError::Write(WriteError::Broken) => 11,
+        PlanError::Write(WriteError::TooLong) => 2,
+        PlanError::Write(WriteError::TooShort) => 13,
     }
 }
 
-// Reads the tree in `input` and writes it back into `out`; a refusal leaves `out` as it was.
-pub fn rewrite(input: &[u8], out: &mut [u8]) -> Printed
-    ensures answer { result ≡ rewrite_of (read_tree input.now) (length out.old) }
+// The line of a refusal; 0 where it has none.
+pub fn refused_line(e: PlanError) -> u32
+    ensures { result ≡ (refusal_of e).line }
+{
+    match e {
+        PlanError::File(e) => answer_line(Err(e)),
+        PlanError::Write(_) => 0,
+    }
+}
+
+// Reads the tree in `input` and writes its report into `out`: how many bytes it has; a refusal leaves `out` as it was.
+pub fn report(input: &[u8], out: &mut [u8; 65536]) -> Result<usize, PlanError>
+    ensures { Printing (read_tree input.now) out.old out.new (prints result).bytes (prints result).number (prints result).line }
+{
+    Ok(report_text(read_tree(input)?, out))
+}
+
+// Reads the tree in `input` and writes it back into `out`: how many bytes the text has; a refusal leaves `out` as it was.
+pub fn rewrite(input: &[u8], out: &mut [u8]) -> Result<usize, PlanError>
+    ensures answer { prints result ≡ rewrite_of (read_tree input.now) (length out.old) }
     ensures bytes { out.new ≡ rewrite_buffer (read_tree input.now) out.old }
 {
-    match read_tree(input) {
-        Ok(t) => written(t, out),
-        Err(error) => refused(error),
-    }
+    Ok(write_tree(read_tree(input)?, out)?)
 }

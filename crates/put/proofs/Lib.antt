@@ -1,3 +1,4 @@
 pub mod Puts
+pub mod Texts
 pub mod Lines
 pub mod Pages

@@ -5,19 +5,14 @@ use mathlib.Core.List.{List, [], ◌++◌, append_assoc, append-nil}
 use mathlib.Core.Path.{◌≡◌, refl, ap, ap₂, sym, ◌∙◌}
 use native.Mathlib.Omega.{arith}
 use lib.Dec.{eqb}
-use lib.ListN.{length, take}
-use lib.Seq.{length-take-le}
 use borrow.Author.Tests.{eq-eqb, ne_eqb}
 use Rattle.folds.specs.Fold.{pick}
 use Rattle.folds.proofs.Folds.{picked, passed}
 use Rattle.put.specs.Page.{joined}
-use Rattle.put.specs.Put.{Put}
-use Rattle.put.proofs.Puts.{put_as, put_most, put_then}
+use Rattle.put.specs.declared.Text.{Text}
+use Rattle.put.specs.Texts.{Puts}
+use Rattle.put.proofs.Texts.{puts_as, puts_most, puts_then}
 use Rattle.put.proofs.Lines.{joined_add, joined_more}
-
--- the length of the part of a buffer that a text is of, as the code counts it
-pub part_counted : (bs : List ℕ) (n k : ℕ) → k ≤ length bs → take k bs ≡ take n bs → k ≡ length (take n bs)
-part_counted bs n k h e = sym (length-take-le k bs h) ∙ ap length e
 
 whole_page : (n i : ℕ) → suc i ≤ n / 1024 → 1024 * i + min 1024 (n - 1024 * i) ≡ 1024 * suc i
 whole_page n i h = omega arith
@@ -60,9 +55,9 @@ module _ (n : ℕ) (line : ℕ → List ℕ) (end : List ℕ) where
       ∙ ap (λ (l : List ℕ). l ++ end) (follows q ∙ ap (λ (k : ℕ). joined k line) (last_due n))
 
   -- a page as it is put: its lines, and then the end of the text or nothing
-  module _ {m : ℕ} {d e : List ℕ} {next : ℕ} (i : ℕ) (p : Put m d 0 (lines_on i) e next) where
-    pub put_ends : {k : ℕ} {f : List ℕ} {last : ℕ} → i ≡ n / 1024 → Put k e next end f last → Put (m + k) d 0 (page_on i) f last
-    put_ends h q = put_as (page_last i h) (put_then p q)
+  module _ {m : ℕ} {a b : Text} (i : ℕ) (p : Puts m a (lines_on i) b) where
+    pub puts_ends : {k : ℕ} {c : Text} → i ≡ n / 1024 → Puts k b end c → Puts (m + k) a (page_on i) c
+    puts_ends h q = puts_as (page_last i h) (puts_then p q)
 
-    pub put_goes_on : (k : ℕ) → (i ≡ n / 1024 → ⊥) → Put (m + k) d 0 (page_on i) e next
-    put_goes_on k h = put_most (omega arith) (put_as (page_open i h) p)
+    pub puts_goes_on : (k : ℕ) → (i ≡ n / 1024 → ⊥) → Puts (m + k) a (page_on i) b
+    puts_goes_on k h = puts_most (omega arith) (puts_as (page_open i h) p)

@@ -3,10 +3,9 @@ use Prim.Native.Nat.{ℕ, zero, suc, ◌+◌, ◌-◌, ◌/◌, ◌%◌, ◌^◌
 use mathlib.Core.List.{List, [], ◌∷◌, ◌++◌}
 use mathlib.Core.Path.{◌≡◌, refl, ap, ap₂, sym, ◌∙◌, subst}
 use native.Mathlib.Nat.{add-suc, suc-add, add-zero, zero-add}
-use native.Mathlib.Numerals.{add-one}
 use native.Mathlib.Omega.{arith}
-use lib.ListN.{length, take, get_or, length-append}
-use lib.Seq.{sets, sets-eq, length-sets, set_out, take-suc, take-length}
+use lib.ListN.{length, length-append}
+use lib.Seq.{sets, sets-eq, length-sets, set_out}
 use Rattle.text.specs.Write.{decimal_text}
 use Rattle.put.specs.Page.{Written}
 use Rattle.put.specs.Put.{Put}
@@ -53,14 +52,6 @@ put_most h p = record { stored = p.stored; ends = p.ends; short = omega (arith, 
 
 pub put_as : {m : ℕ} {d : List ℕ} {at : ℕ} {xs ys e : List ℕ} {next : ℕ} → xs ≡ ys → Put m d at xs e next → Put m d at ys e next
 put_as {m} {d} {at} {xs} {ys} {e} {next} h p = subst (λ (l : List ℕ). Put m d at l e next) h p
-
--- one more byte of a text that is stored byte by byte
-pub put_next : {d : List ℕ} {at : ℕ} (xs : List ℕ) (i : ℕ) {e : List ℕ} {next : ℕ} {f : List ℕ} {last : ℕ}
-    → i < length xs → Put i d at (take i xs) e next → Put 1 e next (get_or xs i 0 ∷ []) f last → Put (i + 1) d at (take (i + 1) xs) f last
-put_next xs i h p q = put_as (sym (take-suc xs i 0 h) ∙ rw add-one) (put_then p q)
-
-pub put_whole : {m : ℕ} {d : List ℕ} {at : ℕ} (xs : List ℕ) {e : List ℕ} {next : ℕ} → m ≡ length xs → Put m d at (take m xs) e next → Put (length xs) d at xs e next
-put_whole {m} {d} {at} xs {e} {next} h p = put_as (take-length xs) (subst (λ (k : ℕ). Put k d at (take k xs) e next) h p)
 
 pub put_laid : {m : ℕ} {d : List ℕ} {xs e : List ℕ} {next : ℕ} → Put m d 0 xs e next → m ≤ 65536 → length d ≡ 65536 → Written xs d e next
 put_laid {m} {d} {xs} {e} {next} p h l =

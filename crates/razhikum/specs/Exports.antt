@@ -25,7 +25,7 @@ use Rattle.runner.specs.Run.{ran_of, buffer_after}
 use Rattle.waits.specs.Why.{why_of, why_buffer}
 use Rattle.bounds.specs.Bounds.{bound_of}
 use Rattle.burst.specs.declared.Burst.{Burst}
-use Rattle.plan.specs.declared.Printed.{Printed}
+use Rattle.plan.specs.Rewrite.{Printed}
 use Rattle.razhikum.specs.declared.Page.{Page}
 use Rattle.answers.specs.declared.Reading.{Reading}
 use Rattle.answers.specs.declared.Count.{Count}

@@ -6,7 +6,7 @@
 ghost use Rattle.std.specs.Prelude.{◌≡◌, length};
 ghost use Rattle.reader.specs.TreeFile.{read_tree};
 ghost use Rattle.plan.specs.Plan.{Printing};
-ghost use Rattle.plan.specs.Rewrite.{rewrite_of, rewrite_buffer};
+ghost use Rattle.plan.specs.Rewrite.{prints, rewrite_of, rewrite_buffer};
 ghost use Rattle.razhikum.specs.Exports.{version, page_of, tree_reading, trace_reading, count_from, outcome_from, buffer_from, outcome_on, buffer_on, wait_from, list_from, wait_on, list_on, row_from, burst_of};
 ghost use Rattle.splitting.specs.Splitting.{reply_from, starts_from, beats_from};
 ghost use Rattle.answers.specs.Numbers.{cut_of, joined_of};
@@ -21,7 +21,7 @@ use burst::Burst;
 use burst::joiner::{Joiner, join};
 use lines::{answer_line, answer_number};
 use model::Channel;
-use plan::Printed;
+use plan::{PlanError, refused_line, refused_number};
 use reader::read_tree;
 use runner::run;
 use splitting::split_file;
@@ -37,13 +37,20 @@ pub struct Page {
     pub line: u32,
 }
 
-fn page_of(x: Printed) -> Page
-    ensures { result ≡ page_of x }
+fn page_of(x: Result<usize, PlanError>) -> Page
+    ensures { result ≡ page_of (prints x) }
 {
-    Page {
-        bytes: x.bytes,
-        number: x.number,
-        line: x.line,
+    match x {
+        Ok(n) => Page {
+            bytes: n,
+            number: 0,
+            line: 0,
+        },
+        Err(e) => Page {
+            bytes: 0,
+            number: refused_number(e),
+            line: refused_line(e),
+        },
     }
 }
 

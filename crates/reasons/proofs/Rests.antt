@@ -1,31 +1,30 @@
--- A text that a loop writes piece by piece: what is still to be written completes it. By the laws of `Put`, and by the clauses of the
+-- A text that a loop writes piece by piece: what is still to be written completes it. By the laws of `Puts`, and by the clauses of the
 -- definitions at the byte where the loop stands.
-use Prim.Native.Nat.{ℕ, ◌+◌, ◌≤◌, ◌<◌}
+use Prim.Native.Nat.{ℕ, ◌+◌, ◌≤◌, ◌<◌, min}
 use mathlib.Core.List.{List, [], ◌∷◌, ◌++◌, map}
 use mathlib.Core.Path.{◌≡◌, sym, ap, ◌∙◌}
+use native.Mathlib.Decide.{dec_lt}
 use native.Mathlib.Numerals.{add-one}
 use native.Mathlib.Omega.{arith}
 use lib.Dec.{eqb}
 use lib.ListN.{length, take, drop, get_or, length-take, drop_of_length-le}
 use lib.Seq.{drop-cons, take_all}
 use Rattle.folds.specs.Fold.{pick}
-use Rattle.put.specs.Put.{Put}
-use Rattle.put.proofs.Puts.{put_none, put_then, put_most, put_as}
+use Rattle.put.specs.declared.Text.{Text}
+use Rattle.put.specs.Texts.{Puts}
+use Rattle.put.proofs.Texts.{puts_none, puts_then, puts_most, puts_as}
 use Rattle.reasons.specs.Words.{marked, filled, printable}
 
--- the buffer d became e by what was written from `at` on, and `rest`, written from `next` on, would complete the text
-abbrev pub Rests : ℕ → List ℕ → ℕ → List ℕ → List ℕ → ℕ → List ℕ → Type 0
-Rests k d at text e next rest = (n : ℕ) (f : List ℕ) (last : ℕ) → Put n e next rest f last → Put (k + n) d at text f last
+-- the text a became b, and `rest`, put after it, would complete the part `xs`
+abbrev pub Rests : ℕ → Text → List ℕ → Text → List ℕ → Type 0
+Rests k a xs b rest = (n : ℕ) (c : Text) → Puts n b rest c → Puts (k + n) a xs c
 
-pub rests_all : (k : ℕ) (d : List ℕ) (at : ℕ) (text : List ℕ) → Rests k d at text d at text
-rests_all k d at text n f last p = put_most (omega arith) p
+module _ (k : ℕ) {a b : Text} {xs rest : List ℕ} (r : Rests k a xs b rest) where
+  pub rests_turn : {j : ℕ} {now then : List ℕ} {b' : Text} (m : ℕ) → k + j ≤ m → rest ≡ now ++ then → Puts j b now b' → Rests m a xs b' then
+  rests_turn m h q p n c z = puts_most (omega arith) (r _ c (puts_as (sym q) (puts_then p z)))
 
-module _ (k : ℕ) {d : List ℕ} {at : ℕ} {text e : List ℕ} {next : ℕ} {rest : List ℕ} (r : Rests k d at text e next rest) where
-  pub rests_turn : {j : ℕ} {xs ys e' : List ℕ} {next' : ℕ} (m : ℕ) → k + j ≤ m → rest ≡ xs ++ ys → Put j e next xs e' next' → Rests m d at text e' next' ys
-  rests_turn m h q p n f last z = put_most (omega arith) (r _ f last (put_as (sym q) (put_then p z)))
-
-  pub rests_done : rest ≡ [] → Put k d at text e next
-  rests_done q = put_most (omega arith) (r 0 e next (put_as (sym q) (put_none _ _)))
+  pub rests_done : rest ≡ [] → Puts k a xs b
+  rests_done q = puts_most (omega arith) (r 0 b (puts_as (sym q) (puts_none _)))
 
 module _ (s : List ℕ) (i : ℕ) where
   pub filled_next : (x y : ℕ) → i < length s → filled (drop i s) x y ≡ marked (get_or s i 0) x ++ filled (drop (i + 1) s) (pick (eqb (get_or s i 0) 35) y x) y
@@ -42,10 +41,9 @@ module _ (s : List ℕ) (i : ℕ) where
   pub printed_end : length s ≤ i → map printable (drop i s) ≡ []
   printed_end h = ap (map printable) (drop_of_length-le s h)
 
--- the first 20 bytes: 20 of them, or all where there are no more
-module _ (s : List ℕ) (n : ℕ) where
-  pub first_taken : n ≡ 20 → (take n s ≡ take 20 s) × (length (take n s) ≤ 20)
-  first_taken e = (ap (λ (m : ℕ). take m s) e, simp length-take (omega arith))
-
-  pub all_taken : n ≡ length s → length s ≤ 20 → (take n s ≡ take 20 s) × (length (take n s) ≤ 20)
-  all_taken e h = (take_all n s (omega arith) ∙ sym (take_all 20 s h), simp length-take (omega arith))
+-- the first 20 bytes, or all where there are no more
+pub first_taken : (s : List ℕ) (n : ℕ) → n ≡ min (length s) 20 → (take n s ≡ take 20 s) × (length (take n s) ≤ 20)
+first_taken s n e = elim (dec_lt (length s) 20) [
+  | no h ↦ (let t : n ≡ 20 = omega arith in ap (λ (m : ℕ). take m s) t, simp length-take (omega arith))
+  | yes h ↦ (take_all n s (omega arith) ∙ sym (take_all 20 s (omega arith)), simp length-take (omega arith))
+]

@@ -4,17 +4,15 @@ use mathlib.Core.List.{List, [], ◌∷◌}
 use mathlib.Core.Path.{◌≡◌, refl, ap, sym, ◌∙◌}
 use native.Mathlib.Numerals.{add-one}
 use native.Mathlib.Omega.{arith}
-use lib.ListN.{length, take, drop, get_or, drop_of_length-le}
+use lib.ListN.{length, drop, get_or, drop_of_length-le}
 use lib.Seq.{drop-cons}
 use borrow.Author.Tests.{eq-eqb, ne_eqb}
 use Rattle.folds.proofs.Folds.{picked, passed}
-use mathlib.Core.Bool.{Bool, true, false, not}
-use lib.ListN.{length-take, length-drop}
+use mathlib.Core.Bool.{Bool, true, false}
 use Rattle.text.specs.Text.{part_length}
 use Rattle.text.proofs.Parts.{part_fits}
-use Rattle.lines.specs.declared.Kind.TheVariants.{NoRecord, BusLine, OfferLine}
-use Rattle.reasons.specs.Words.{from_part, part_at}
-use Rattle.reasons.specs.Reasons.{fits, first_failing}
+use Rattle.reasons.specs.Words.{from_part}
+use Rattle.reasons.specs.Reasons.{first_failing}
 
 module _ (sep : ℕ) (s : List ℕ) (i : ℕ) (h : i < length s) where
   at_byte : (k : ℕ) → from_part sep k (drop i s) ≡ from_part sep k (get_or s i 0 ∷ drop (i + 1) s)
@@ -46,37 +44,10 @@ part_past sep s i k h = ap (from_part sep k) (drop_of_length-le s h) ∙ nothing
   nothing zero = refl
   nothing (suc k) = refl
 
-pub first_none : (l : List ℕ) → length l ≡ 0 → 0 ≡ get_or l 0 0
-first_none [] e = refl
-first_none (b ∷ l) e = absurd (omega (arith, e))
-
--- a record of a tree, of a trace, and no record
-pub fits_none : (t : Bool) → false ≡ fits t NoRecord
-fits_none true = refl
-fits_none false = refl
-
-pub fits_tree : (t : Bool) → not t ≡ fits t BusLine
-fits_tree true = refl
-fits_tree false = refl
-
-pub fits_trace : (t : Bool) → t ≡ fits t OfferLine
-fits_trace true = refl
-fits_trace false = refl
-
 -- the part of the bytes from its start to its separator
 module _ (sep : ℕ) where
   pub part_ends : (s : List ℕ) (from e : ℕ) → from ≤ length s → e ≡ from + part_length sep (drop from s) → e ≤ length s
   part_ends s from e h q = omega (arith, part_fits sep s from h)
-
-  pub part_taken : (k : ℕ) (s : List ℕ) (from e : ℕ) → drop from s ≡ from_part sep k s → e ≡ from + part_length sep (drop from s)
-      → (take (e - from) (drop from s) ≡ part_at sep k s) × (length (take (e - from) (drop from s)) ≤ length s)
-  part_taken k s from e h q =
-      let n : e - from ≡ part_length sep (drop from s) = omega arith in
-      (ap (λ (m : ℕ). take m (drop from s)) n ∙ ap (λ (r : List ℕ). take (part_length sep r) r) h, simp (length-take, length-drop) (omega arith))
-
--- the first number of which a test does not hold
-pub failing_start : (n : ℕ) (f : ℕ → Bool) → first_failing 0 n f ≡ first_failing 0 (n - 0) f
-failing_start n f = let m : n ≡ n - 0 = omega arith in ap (λ (k : ℕ). first_failing 0 k f) m
 
 module _ (i n : ℕ) (f : ℕ → Bool) where
   pub failing_on : i < n → f i ≡ true → first_failing i (n - i) f ≡ first_failing (i + 1) (n - (i + 1)) f
@@ -90,6 +61,6 @@ module _ (i n : ℕ) (f : ℕ → Bool) where
   failing_here h e =
       let m : n - i ≡ suc (n - (i + 1)) = omega arith in ap (λ (k : ℕ). first_failing i k f) m ∙ passed (f i) _ _ e
 
-  pub failing_none : n ≤ i → first_failing i (n - i) f ≡ i
+  pub failing_none : i ≡ n → first_failing i (n - i) f ≡ n
   unfolding first_failing
-  failing_none h = let m : n - i ≡ 0 = omega arith in ap (λ (k : ℕ). first_failing i k f) m
+  failing_none h = let m : n - i ≡ 0 = omega arith in ap (λ (k : ℕ). first_failing i k f) m ∙ h

@@ -9,17 +9,15 @@ pub fn part_start(s: &[u8], sep: u8, k: usize) -> usize
     ensures { (result ≤ length s.now) × (drop result s.now ≡ from_part sep k s.now) }
 {
     let mut left = k;
-    let mut i = 0;
-    while i < s.len() {
+    for (i, b) in s.iter().enumerate() {
         if left == 0 {
             return i;
         }
-        if s[i] == sep {
+        if *b == sep {
             left -= 1;
         }
-        i += 1;
     }
-    i
+    s.len()
 }
 
 // Part k of s, without its separator.

@@ -1,52 +1,45 @@
 // The words that a refusal is told in: rows of two tables, numbers in a sentence, and bytes in quotes.
-ghost use Rattle.std.specs.Prelude.{◌≡◌, map, ◌*◌, ◌≤◌, eqb, length, take};
+ghost use Rattle.std.specs.Prelude.{◌≡◌, map, ◌*◌, eqb, length};
 ghost use Rattle.folds.specs.Fold.{pick};
-ghost use Rattle.put.specs.Put.{Put};
+ghost use Rattle.put.specs.Texts.{Puts};
 ghost use Rattle.reasons.specs.Words.{part_at, marked, filled, sentence, names, record_row, first_field, field_row, record_name, field_name, printable as shownByte, quoted, record_says, field_says};
 
 use crate::parts::part;
 use lines::Kind;
-use put::{put_byte, put_bytes, put_number};
+use put::Text;
 
 // A byte of a sentence, or the number where the byte is #.
-fn put_marked(out: &mut [u8], at: usize, b: u8, x: u64) -> usize
-    ensures { Put 20 out.old at (marked b x) out.new result }
+fn put_marked(text: &mut Text, b: u8, x: u64)
+    ensures { Puts 20 text.old (marked b x) text.new }
 {
     if b == b'#' {
-        return put_number(out, at, x);
+        text.number(x);
+    } else {
+        text.byte(b);
     }
-    put_byte(out, at, b)
 }
 
 // The number for the next #, after the byte b.
 fn next_number(b: u8, x: u64, y: u64) -> u64
     ensures { result ≡ pick (eqb b 35) y x }
 {
-    if b == b'#' {
-        return y;
-    }
-    x
+    if b == b'#' { y } else { x }
 }
 
 // A sentence with x in place of its first # and y in place of each later one.
-fn put_filled(out: &mut [u8], at: usize, s: &[u8], x: u64, y: u64) -> usize
-    ensures { Put (20 * length s.now) out.old at (filled s.now x y) out.new result }
+fn put_filled(text: &mut Text, s: &[u8], x: u64, y: u64)
+    ensures { Puts (20 * length s.now) text.old (filled s.now x y) text.new }
 {
-    let mut next = at;
     let mut z = x;
-    let mut i = 0;
-    while i < s.len() {
-        let b = s[i];
-        next = put_marked(out, next, b, z);
-        z = next_number(b, z, y);
-        i += 1;
+    for b in s {
+        put_marked(text, *b, z);
+        z = next_number(*b, z, y);
     }
-    next
 }
 
 // Row j of the sentences, with x and y in it.
-pub fn put_sentence(out: &mut [u8], at: usize, j: usize, x: u64, y: u64) -> usize
-    ensures { Put 48000 out.old at (sentence j x y) out.new result }
+pub fn put_sentence(text: &mut Text, j: usize, x: u64, y: u64)
+    ensures { Puts 48000 text.old (sentence j x y) text.new }
 {
     let sentences = b"no refusal has this number\n\
         wrong shape: record name, field count, malformed number or missing last LF\n\
@@ -88,18 +81,18 @@ pub fn put_sentence(out: &mut [u8], at: usize, j: usize, x: u64, y: u64) -> usiz
         the accelerator has no transactions on this channel\n\
         a burst has 1 to 256 beats, 1 to 16 where the tree begins with bus3, and a beat has 1, 2, 4, 8, 16, 32, 64 or 128 bytes\n\
         the burst crosses a multiple of 4096\n";
-    put_filled(out, at, part(sentences, 10, j), x, y)
+    put_filled(text, part(sentences, 10, j), x, y);
 }
 
-fn put_name(out: &mut [u8], at: usize, k: usize) -> usize
-    ensures { Put 139 out.old at (part_at 10 k names) out.new result }
+fn put_name(text: &mut Text, k: usize)
+    ensures { Puts 139 text.old (part_at 10 k names) text.new }
 {
     let names = b"P\ntA\ndA\ndD\ndB\npR\npW\ntD\ntB\nB\nr\n\
         number\nparent\nport\ng\n\
         number\ninterconnect\nport\nphi\nbudget\nNr\nNw\nC\nT\n\
         slot\naccelerator\ncount\n\
         bus\nint\nacc\no\nbus3\n";
-    put_bytes(out, at, part(names, 10, k))
+    text.bytes(part(names, 10, k));
 }
 
 fn record_row(kind: Kind) -> usize
@@ -120,11 +113,10 @@ fn first_field(kind: Kind) -> usize
 {
     match kind {
         Kind::NoRecord => 32,
-        Kind::BusLine => 0,
+        Kind::BusLine | Kind::Bus3Line => 0,
         Kind::IntLine => 11,
         Kind::AccLine => 15,
         Kind::OfferLine => 24,
-        Kind::Bus3Line => 0,
     }
 }
 
@@ -137,83 +129,57 @@ fn field_row(kind: Kind, i: usize) -> usize
     32
 }
 
-fn put_record(out: &mut [u8], at: usize, kind: Kind) -> usize
-    ensures { Put 139 out.old at (record_name kind) out.new result }
+fn put_record(text: &mut Text, kind: Kind)
+    ensures { Puts 139 text.old (record_name kind) text.new }
 {
-    put_name(out, at, record_row(kind))
+    put_name(text, record_row(kind));
 }
 
 // The names of a record and of its field i.
-pub fn put_field_name(out: &mut [u8], at: usize, kind: Kind, i: usize) -> usize
-    ensures { Put 300 out.old at (field_name kind i) out.new result }
+pub fn put_field_name(text: &mut Text, kind: Kind, i: usize)
+    ensures { Puts 300 text.old (field_name kind i) text.new }
 {
-    let next = put_record(out, at, kind);
-    let next = put_bytes(out, next, b", field ");
-    let next = put_name(out, next, field_row(kind, i));
-    put_bytes(out, next, b": ")
+    put_record(text, kind);
+    text.bytes(b", field ");
+    put_name(text, field_row(kind, i));
+    text.bytes(b": ");
 }
 
 fn printable(b: u8) -> u8
     ensures { result ≡ shownByte b }
 {
-    if (32 <= b) & (b <= 126) {
-        return b;
-    }
-    b'?'
+    if (32 <= b) & (b <= 126) { b } else { b'?' }
 }
 
-fn put_printable(out: &mut [u8], at: usize, s: &[u8]) -> usize
-    ensures { Put (length s.now) out.old at (map shownByte s.now) out.new result }
+fn put_printable(text: &mut Text, s: &[u8])
+    ensures { Puts (length s.now) text.old (map shownByte s.now) text.new }
 {
-    let mut next = at;
-    let mut i = 0;
-    while i < s.len() {
-        next = put_byte(out, next, printable(s[i]));
-        i += 1;
+    for b in s {
+        text.byte(printable(*b));
     }
-    next
-}
-
-// The first 20 bytes.
-fn beginning(s: &[u8]) -> &[u8]
-    ensures { (result.now ≡ take 20 s.now) × (length result.now ≤ 20) }
-{
-    let mut n = s.len();
-    if 20 < n {
-        n = 20;
-    }
-    &s[..n]
 }
 
 // The first 20 bytes in quotes.
-pub fn put_quoted(out: &mut [u8], at: usize, s: &[u8]) -> usize
-    ensures { Put 22 out.old at (quoted s.now) out.new result }
+pub fn put_quoted(text: &mut Text, s: &[u8])
+    ensures { Puts 22 text.old (quoted s.now) text.new }
 {
-    let next = put_byte(out, at, b'"');
-    let next = put_printable(out, next, beginning(s));
-    put_byte(out, next, b'"')
+    text.byte(b'"');
+    put_printable(text, &s[..s.len().min(20)]);
+    text.byte(b'"');
 }
 
 // Sentence j, said of a record.
-pub fn put_of_record(out: &mut [u8], at: usize, kind: Kind, j: usize, x: u64, y: u64) -> usize
-    ensures { Put 48139 out.old at (record_says kind j x y) out.new result }
+pub fn put_of_record(text: &mut Text, kind: Kind, j: usize, x: u64, y: u64)
+    ensures { Puts 48139 text.old (record_says kind j x y) text.new }
 {
-    let next = put_record(out, at, kind);
-    put_sentence(out, next, j, x, y)
+    put_record(text, kind);
+    put_sentence(text, j, x, y);
 }
 
 // Sentence j, said of field i of a record.
-pub fn put_of_field(
-    out: &mut [u8],
-    at: usize,
-    kind: Kind,
-    i: usize,
-    j: usize,
-    x: u64,
-    y: u64,
-) -> usize
-    ensures { Put 48300 out.old at (field_says kind i j x y) out.new result }
+pub fn put_of_field(text: &mut Text, kind: Kind, i: usize, j: usize, x: u64, y: u64)
+    ensures { Puts 48300 text.old (field_says kind i j x y) text.new }
 {
-    let next = put_field_name(out, at, kind, i);
-    put_sentence(out, next, j, x, y)
+    put_field_name(text, kind, i);
+    put_sentence(text, j, x, y);
 }

@@ -11,49 +11,48 @@ use answers::Outcome;
 use journal::pages;
 use listing::refusal_text;
 use model::Channel;
-use usage::{
-    ChannelWord, NumberWord, asks_help, channel_asked, help_asked, number_asked, two_files,
-};
+use usage::{Asked, asks_help, channel_asked, help_asked, number_asked, two_files};
 
-// What `simulate` does by its words: it runs so many slots of a channel, 65,537 for every number above 65,536, or says its usage or
-// its help.
+// What `simulate` runs where its words ask for a run: so many slots of a channel, 65,537 for every number above 65,536.
 #[derive(Clone, Copy)]
-pub enum Asked {
-    Usage,
-    Help,
-    Run(Channel, usize),
+pub struct Simulation {
+    pub channel: Channel,
+    pub slots: usize,
 }
 
-// What a refusal is of: the tree, the word SLOTS or the trace; or nothing is refused.
+// What a refusal is of: the tree, the word SLOTS or the trace.
 #[derive(Clone, Copy)]
 pub enum Part {
-    Nothing,
     Tree,
     Word,
     Trace,
 }
 
 // The run of a channel over as many slots as the word SLOTS asks for; usage where it is no number.
-pub fn slots_asked(channel: Channel, word: &[u8]) -> Asked
+pub fn slots_asked(channel: Channel, word: &[u8]) -> Asked<Simulation>
     ensures { result ≡ slots_asked channel word.now }
 {
-    let said = number_asked(word, 65537);
-    match said {
-        NumberWord::NoNumber => Asked::Usage,
-        NumberWord::Number(n) => Asked::Run(channel, n as usize),
-    }
+    let Some(n) = number_asked(word, 65537) else {
+        return Asked::Usage;
+    };
+    Asked::Run(Simulation {
+        channel: channel,
+        slots: n as usize,
+    })
 }
 
 // The run that the words CHANNEL and SLOTS ask for, of `count` words; usage where the one is no channel, the other no number.
-fn run_asked(count: usize, channel: &[u8], slots: &[u8]) -> Asked
+fn run_asked(count: usize, channel: &[u8], slots: &[u8]) -> Asked<Simulation>
     ensures { result ≡ run_asked count (channel_asked channel.now) slots.now }
 {
-    let said = channel_asked(channel);
-    let ChannelWord::Known(c) = said else {
+    let Some(c) = channel_asked(channel) else {
         return Asked::Usage;
     };
     if count == 3 {
-        return Asked::Run(c, 65536);
+        return Asked::Run(Simulation {
+            channel: c,
+            slots: 65536,
+        });
     }
     slots_asked(c, slots)
 }
@@ -65,7 +64,7 @@ pub fn simulate_asked(
     tree: &[u8],
     trace: &[u8],
     slots: &[u8],
-) -> Asked
+) -> Asked<Simulation>
     ensures { result ≡ simulate_asked count channel.now tree.now trace.now slots.now }
 {
     if help_asked(channel, tree, trace) | asks_help(slots) {
@@ -77,20 +76,20 @@ pub fn simulate_asked(
     Asked::Usage
 }
 
-// What the outcome of a run over so many slots refuses: first the tree is read, then SLOTS, then the trace.
-pub fn refused_part(o: Outcome, slots: usize) -> Part
+// What the outcome of a run over so many slots refuses, if anything: first the tree is read, then SLOTS, then the trace.
+pub fn refused_part(o: Outcome, slots: usize) -> Option<Part>
     ensures { result ≡ refused_part o slots }
 {
     if o.kind < 2 {
-        return Part::Nothing;
+        return None;
     }
     if o.kind == 2 {
-        return Part::Tree;
+        return Some(Part::Tree);
     }
     if 65536 < slots {
-        return Part::Word;
+        return Some(Part::Word);
     }
-    Part::Trace
+    Some(Part::Trace)
 }
 
 // How many bytes of the buffer tell slots: at most all.

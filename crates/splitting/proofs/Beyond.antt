@@ -18,9 +18,8 @@ use Rattle.burst.specs.Burst.{is_size, is_burst, split_of}
 use Rattle.burst.proofs.Cut.{split_15}
 use Rattle.splitting.specs.declared.Part.{Part}
 use Rattle.splitting.specs.declared.Part.TheVariants.{Tree as OfTree, Beats, Size}
-use Rattle.splitting.specs.declared.Reply.{Reply}
-use Rattle.splitting.specs.declared.Reply.TheVariants.{Refused}
-use Rattle.splitting.specs.Splitting.{most_number, burst_part, reply_of, reply_in, on_accepted, tree_denied, reply_from}
+use Rattle.std.specs.Prelude.{Err}
+use Rattle.splitting.specs.Splitting.{Reply, refused, most_number, burst_part, reply_of, reply_in, on_accepted, tree_denied, reply_from}
 
 abbrev at : ℕ → ℕ → ℕ → Burst
 at x y z = record { start = x; beats = y; size = z }
@@ -45,7 +44,7 @@ no_beats limit y l h = ap₂ ◌&&◌ (le-leb 1 y (omega arith)) (lt-leb y limit
 
 -- no burst is refused by 15 where the tree keeps its rules
 denied : Bool → Part → Reply
-denied ok p = pick ok (Refused p 15 0) (Refused OfTree 11 0)
+denied ok p = pick ok (Err (refused p 15 0)) (Err (refused OfTree 11 0))
 
 no_burst : (t : Tree) (b : Burst) → is_burst (beat_limit t.bus) b ≡ false
     → reply_in t b ≡ denied (tree_keeps t) (burst_part (beat_limit t.bus) b)

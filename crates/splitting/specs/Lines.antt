@@ -7,16 +7,14 @@
 -- reply_text r ss bs   what is printed of the reply r and the arrays ss and bs
 -- cut_text r m b       what is printed of the reply r to the burst b where pieces have m beats, said without arrays
 -- split_text q b       what is printed for the reading q of a tree file and the burst b, so said
-use Rattle.std.specs.Prelude.{ℕ, min, List, ◌++◌, get_or}
+use Rattle.std.specs.Prelude.{ℕ, Ok, Err, min, List, ◌++◌, get_or}
 use Rattle.text.specs.Write.{decimal_text}
 use Rattle.put.specs.Page.{bytes, field, ended, joined}
 use Rattle.placing.specs.Placing.{TreeRead}
 use Rattle.listing.specs.Listing.{refusal_text}
 use Rattle.burst.specs.declared.Burst.{Burst}
 use Rattle.burst.specs.Burst.{start_of, beats_of}
-use Rattle.splitting.specs.declared.Reply.{Reply}
-use Rattle.splitting.specs.declared.Reply.TheVariants.{Refused, Pieces}
-use Rattle.splitting.specs.Splitting.{reply_from}
+use Rattle.splitting.specs.Splitting.{Reply, reply_from}
 
 unfoldable pub piece_text : ℕ → ℕ → List ℕ
 piece_text x n = field (decimal_text x) ++ ended (decimal_text n)
@@ -31,12 +29,12 @@ unfoldable pub list_text : ℕ → List ℕ → List ℕ → List ℕ
 list_text k ss bs = pieces_text k ss bs ++ count_text k
 
 abbrev pub reply_text : Reply → List ℕ → List ℕ → List ℕ
-reply_text (Refused p n l) ss bs = refusal_text n l
-reply_text (Pieces k) ss bs = list_text k ss bs
+reply_text (Err e) ss bs = refusal_text e.number e.line
+reply_text (Ok k) ss bs = list_text k ss bs
 
 abbrev pub cut_text : Reply → ℕ → Burst → List ℕ
-cut_text (Refused p n l) m b = refusal_text n l
-cut_text (Pieces k) m b = joined k (λ i. piece_text (start_of m b i) (beats_of m b i)) ++ count_text k
+cut_text (Err e) m b = refusal_text e.number e.line
+cut_text (Ok k) m b = joined k (λ i. piece_text (start_of m b i) (beats_of m b i)) ++ count_text k
 
 abbrev pub split_text : TreeRead → Burst → List ℕ
 split_text q b = cut_text (reply_from q b) q.tree.bus.burst b

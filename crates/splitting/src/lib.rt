@@ -2,34 +2,25 @@
 // a refusal is of, and its text.
 #![tactic(auto)]
 
-ghost use Rattle.std.specs.Prelude.{◌≡◌, min};
+ghost use Rattle.std.specs.Prelude.{◌≡◌};
 ghost use Rattle.put.specs.Page.{Written};
-ghost use Rattle.put.specs.Put.{Put};
+ghost use Rattle.put.specs.Texts.{Puts};
 ghost use Rattle.lines.specs.Answer.{file_error};
 ghost use Rattle.reader.specs.TreeFile.{read_tree};
 ghost use Rattle.usage.specs.Usage.{address_asked};
 ghost use Rattle.burst.specs.Burst.{split_by, starts_after, beats_after};
 ghost use Rattle.burst.specs.Answers.{split_means};
-ghost use Rattle.splitting.specs.Splitting.{burst_asked, split_asked, burst_part, denied_part, reply_of, reply_in, tree_denied, reply_from, starts_from, beats_from};
+ghost use Rattle.splitting.specs.Splitting.{burst_asked, split_asked, burst_part, denied_part, refused, reply_of, reply_in, tree_denied, reply_from, starts_from, beats_from};
 ghost use Rattle.splitting.specs.Lines.{piece_text, count_text, pieces_text, list_text, reply_text};
 
-use burst::{Burst, SplitAnswer};
+use burst::Burst;
 use lines::{FileError, answer_line, answer_number};
 use listing::refusal_text;
 use model::access::beat_limit;
-use model::{Tree, number};
-use put::{put_bytes, put_field};
+use model::{Refusal, Tree, number};
+use put::Text;
 use reader::read_tree;
-use usage::{NumberWord, address_asked, asks_help, help_asked, is_option, number_asked};
-
-// What `split` does by its words: it cuts a burst, or says its usage or its help. 4,294,967,295 stands for every count of beats and
-// every size above it: no burst has either.
-#[derive(Clone, Copy)]
-pub enum Asked {
-    Usage,
-    Help,
-    Split(Burst),
-}
+use usage::{Asked, Denied, address_asked, asks_help, help_asked, is_option, number_asked};
 
 // What a refusal is of: the tree file, or one of the words ADDRESS, BEATS and SIZE.
 #[derive(Clone, Copy)]
@@ -40,30 +31,21 @@ pub enum Part {
     Size,
 }
 
-// What is answered: a refusal, of what, by which number and at which line, 0 for none; or how many pieces there are.
-#[derive(Clone, Copy)]
-pub enum Reply {
-    Refused(Part, u8, u32),
-    Pieces(u32),
-}
-
-// The burst that the words ADDRESS, BEATS and SIZE name; usage where the first is no address or another no number.
-fn burst_asked(address: &[u8], beats: &[u8], size: &[u8]) -> Asked
+// The burst that the words ADDRESS, BEATS and SIZE name; usage where the first is no address or another no number. 4,294,967,295 stands
+// for every count of beats and every size above it: no burst has either.
+fn burst_asked(address: &[u8], beats: &[u8], size: &[u8]) -> Asked<Burst>
     ensures { result ≡ burst_asked (address_asked address.now) beats.now size.now }
 {
-    let a = address_asked(address);
-    let b = number_asked(beats, 4294967295);
-    let c = number_asked(size, 4294967295);
-    let NumberWord::Number(x) = a else {
+    let Some(x) = address_asked(address) else {
         return Asked::Usage;
     };
-    let NumberWord::Number(y) = b else {
+    let Some(y) = number_asked(beats, 4294967295) else {
         return Asked::Usage;
     };
-    let NumberWord::Number(z) = c else {
+    let Some(z) = number_asked(size, 4294967295) else {
         return Asked::Usage;
     };
-    Asked::Split(Burst {
+    Asked::Run(Burst {
         start: x,
         beats: y,
         size: z,
@@ -71,7 +53,13 @@ fn burst_asked(address: &[u8], beats: &[u8], size: &[u8]) -> Asked
 }
 
 // What `split` does, started with `count` words, of which these are the first four.
-pub fn split_asked(count: usize, tree: &[u8], address: &[u8], beats: &[u8], size: &[u8]) -> Asked
+pub fn split_asked(
+    count: usize,
+    tree: &[u8],
+    address: &[u8],
+    beats: &[u8],
+    size: &[u8],
+) -> Asked<Burst>
     ensures { result ≡ split_asked count tree.now address.now beats.now size.now }
 {
     if help_asked(tree, address, beats) | asks_help(size) {
@@ -106,21 +94,37 @@ fn denied_part(limit: u32, b: Burst, number: u8) -> Part
     Part::Tree
 }
 
+// A refusal, of what, by this number and at this line.
+fn refused(part: Part, number: u8, line: u32) -> Denied<Part>
+    ensures { result ≡ refused part number line }
+{
+    Denied {
+        part: part,
+        number: number,
+        line: line,
+    }
+}
+
 // The answer for a tree that was read, where a burst has at most `limit` beats.
-fn reply_of(limit: u32, b: Burst, answer: SplitAnswer) -> Reply
+fn reply_of(limit: u32, b: Burst, answer: Result<u32, Refusal>) -> Result<u32, Denied<Part>>
     ensures { result ≡ reply_of limit b (split_means answer) }
 {
     match answer {
-        SplitAnswer::Pieces(k) => Reply::Pieces(k),
-        SplitAnswer::Refused(r) => {
+        Ok(k) => Ok(k),
+        Err(r) => {
             let n = number(r);
-            Reply::Refused(denied_part(limit, b, n), n, 0)
+            Err(refused(denied_part(limit, b, n), n, 0))
         }
     }
 }
 
 // Cuts a burst into pieces of the burst length of the tree.
-fn reply_in(t: Tree, b: Burst, starts: &mut [u32; 256], beats: &mut [u32; 256]) -> Reply
+fn reply_in(
+    t: Tree,
+    b: Burst,
+    starts: &mut [u32; 256],
+    beats: &mut [u32; 256],
+) -> Result<u32, Denied<Part>>
     ensures answer { result ≡ reply_in t b }
     ensures starts { starts.new ≡ starts_after (split_by t b) t.bus.burst b starts.old }
     ensures beats { beats.new ≡ beats_after (split_by t b) t.bus.burst b beats.old }
@@ -130,20 +134,25 @@ fn reply_in(t: Tree, b: Burst, starts: &mut [u32; 256], beats: &mut [u32; 256]) 
 }
 
 // The answer for a tree file that is refused.
-fn tree_denied(error: FileError) -> Reply
+fn tree_denied(error: FileError) -> Result<u32, Denied<Part>>
     ensures { result ≡ tree_denied (file_error error) }
 {
-    Reply::Refused(
+    Err(refused(
         Part::Tree,
         answer_number(Err(error)),
         answer_line(Err(error)),
-    )
+    ))
 }
 
 // Cuts a burst into pieces of the burst length of the tree that is read from `tree`: how many, and of each the start address and the
 // beats; the entries after them are 0. A refusal leaves both arrays as they were.
 #[tactic(auto, unfolding(crate::specs::Splitting::reply_from, crate::specs::Splitting::starts_from, crate::specs::Splitting::beats_from))]
-pub fn split_file(tree: &[u8], b: Burst, starts: &mut [u32; 256], beats: &mut [u32; 256]) -> Reply
+pub fn split_file(
+    tree: &[u8],
+    b: Burst,
+    starts: &mut [u32; 256],
+    beats: &mut [u32; 256],
+) -> Result<u32, Denied<Part>>
     ensures answer { result ≡ reply_from (read_tree tree.now) b }
     ensures starts { starts.new ≡ starts_from (read_tree tree.now) b starts.old }
     ensures beats { beats.new ≡ beats_from (read_tree tree.now) b beats.old }
@@ -155,63 +164,51 @@ pub fn split_file(tree: &[u8], b: Burst, starts: &mut [u32; 256], beats: &mut [u
 }
 
 // The line of a piece: its start address and its beats.
-fn put_piece(out: &mut [u8], at: usize, start: u32, beats: u32) -> usize
-    ensures { Put 42 out.old at (piece_text start beats) out.new result }
+fn put_piece(text: &mut Text, start: u32, beats: u32)
+    ensures { Puts 42 text.old (piece_text start beats) text.new }
 {
-    let next = put_field(out, at, start as u64, b'\t');
-    put_field(out, next, beats as u64, b'\n')
+    text.field(start as u64, b'\t');
+    text.field(beats as u64, b'\n');
 }
 
-// How many pieces the arrays can list.
-fn listed(count: u32) -> usize
-    ensures { result ≡ min count 256 }
+// The lines of the pieces, of which the arrays list 256 at most.
+fn put_pieces(text: &mut Text, count: u32, starts: &[u32; 256], beats: &[u32; 256])
+    ensures { Puts 10752 text.old (pieces_text count starts.now beats.now) text.new }
 {
-    if count < 256 {
-        return count as usize;
+    let listed = count.min(256) as usize;
+    for i in 0..listed {
+        put_piece(text, starts[i], beats[i]);
     }
-    256
-}
-
-// The lines of the pieces.
-fn put_pieces(out: &mut [u8], count: u32, starts: &[u32; 256], beats: &[u32; 256]) -> usize
-    ensures { Put 10752 out.old 0 (pieces_text count starts.now beats.now) out.new result }
-{
-    let n = listed(count);
-    let mut next = 0;
-    let mut i = 0;
-    while i < n {
-        next = put_piece(out, next, starts[i], beats[i]);
-        i += 1;
-    }
-    next
 }
 
 // The last line: the count of the pieces.
-fn put_count(out: &mut [u8], at: usize, count: u32) -> usize
-    ensures { Put 28 out.old at (count_text count) out.new result }
+fn put_count(text: &mut Text, count: u32)
+    ensures { Puts 28 text.old (count_text count) text.new }
 {
-    let next = put_bytes(out, at, b"pieces\t");
-    put_field(out, next, count as u64, b'\n')
+    text.bytes(b"pieces\t");
+    text.field(count as u64, b'\n');
 }
 
 // The lines of the pieces, and the last line.
-fn put_list(out: &mut [u8], count: u32, starts: &[u32; 256], beats: &[u32; 256]) -> usize
-    ensures { Put 10780 out.old 0 (list_text count starts.now beats.now) out.new result }
+fn put_list(text: &mut Text, count: u32, starts: &[u32; 256], beats: &[u32; 256])
+    ensures { Puts 10780 text.old (list_text count starts.now beats.now) text.new }
 {
-    let next = put_pieces(out, count, starts, beats);
-    put_count(out, next, count)
+    put_pieces(text, count, starts, beats);
+    put_count(text, count);
 }
 
 // The pieces and their count.
 fn list_text(count: u32, starts: &[u32; 256], beats: &[u32; 256], out: &mut [u8; 65536]) -> usize
     ensures { Written (list_text count starts.now beats.now) out.old out.new result }
 {
-    put_list(out, count, starts, beats)
+    let mut text = Text::new(out);
+    put_list(&mut text, count, starts, beats);
+    text.len()
 }
 
 // The text of a reply; `starts` and `beats` are the arrays with the pieces.
 pub fn reply_text(
-    reply: Reply,
+    reply: Result<u32, Denied<Part>>,
     starts: &[u32; 256],
     beats: &[u32; 256],
     out: &mut [u8; 65536],
@@ -219,7 +216,7 @@ pub fn reply_text(
     ensures { Written (reply_text reply starts.now beats.now) out.old out.new result }
 {
     match reply {
-        Reply::Refused(_, number, line) => refusal_text(number, line, out),
-        Reply::Pieces(k) => list_text(k, starts, beats, out),
+        Err(e) => refusal_text(e.number, e.line, out),
+        Ok(k) => list_text(k, starts, beats, out),
     }
 }

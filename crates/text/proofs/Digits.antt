@@ -1,16 +1,15 @@
 -- Laws of digits and of equal bytes, read at a position: what stands there says what the rest of the bytes says. By the
 -- clauses of the definitions through `drop-cons`; the value of digits by their places.
 use Prim.Native.Nat.{ℕ, suc, ◌+◌, ◌-◌, ◌*◌, ◌^◌, ◌≤◌, ◌<◌}
-use mathlib.Core.Bool.{true, false, and-false}
+use mathlib.Core.Bool.{true, false}
 use mathlib.Core.List.{List, [], ◌∷◌}
 use mathlib.Core.Path.{◌≡◌, refl, ◌∙◌, ap}
-use native.Mathlib.Nat.{add-mul, mul_assoc, mul_comm, pow-suc, pow-le-pow_right}
+use native.Mathlib.Nat.{add-mul, mul_assoc, mul_comm, pow-suc}
 use native.Mathlib.Numerals.{add-one}
 use native.Mathlib.Omega.{arith}
-use lib.Dec.{eqb, lit<}
 use lib.ListN.{length, get_or, drop, length-drop, drop_of_length-le}
 use lib.Seq.{drop-cons}
-use borrow.Author.Tests.{eq-eqb, ne_eqb, lt-ltb, le-ltb, le-leb, lt-leb}
+use borrow.Author.Tests.{lt-ltb, le-ltb, le-leb, lt-leb}
 use Rattle.folds.proofs.Folds.{picked, passed}
 use Rattle.text.specs.declared.Field.TheVariants.{Malformed, Dash}
 use Rattle.text.specs.Text.{same, all_digits, decimal, leading_zero, digits_of, field_of}
@@ -18,22 +17,6 @@ use Rattle.text.specs.Text.{same, all_digits, decimal, leading_zero, digits_of, 
 pub same_end : (a b : List ℕ) (i : ℕ) → length a ≤ i → length b ≤ i → same (drop i a) (drop i b) ≡ true
 unfolding same
 same_end a b i h k = rw (drop_of_length-le a h, drop_of_length-le b k)
-
-pub same_next : (a b : List ℕ) (i : ℕ) → i < length a → i < length b → get_or a i 0 ≡ get_or b i 0
-    → same (drop i a) (drop i b) ≡ same (drop (i + 1) a) (drop (i + 1) b)
-unfolding same
-same_next a b i h k e = rw (add-one, drop-cons a i 0 h, drop-cons b i 0 k, eq-eqb _ _ e) refl
-
-pub same_not : (a b : List ℕ) (i : ℕ) → i < length a → i < length b → (get_or a i 0 ≡ get_or b i 0 → ⊥) → same (drop i a) (drop i b) ≡ false
-unfolding same
-same_not a b i h k e = rw (drop-cons a i 0 h, drop-cons b i 0 k, ne_eqb _ _ e) refl
-
-pub same_long : (a b : List ℕ) → (length a ≡ length b → ⊥) → same a b ≡ false
-unfolding same
-same_long [] [] h = absurd (h refl)
-same_long [] (y ∷ b) h = refl
-same_long (x ∷ a) [] h = refl
-same_long (x ∷ a) (y ∷ b) h = rw (same_long a b (λ e. h (ap suc e))) (and-false (eqb x y))
 
 pub digits_end : (s : List ℕ) (i : ℕ) → length s ≤ i → all_digits (drop i s) ≡ true
 unfolding all_digits
@@ -70,9 +53,6 @@ decimal_next s i v h =
 -- i digits are below 10 to the i: with ten at most, 64 bits hold them
 pub below_ten : (i v d : ℕ) → v < 10 ^ i → d ≤ 9 → v * 10 + d < 10 ^ (i + 1)
 below_ten i v d h k = rw (add-one, pow-suc) (omega arith)
-
-pub ten_fits : (i v : ℕ) → i ≤ 10 → v < 10 ^ i → v < 10000000001
-ten_fits i v h k = omega (arith, pow-le-pow_right {n = 10} (lit< tt) h)
 
 -- the tests of a field, one after the other
 module _ (s : List ℕ) where

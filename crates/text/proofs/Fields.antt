@@ -6,19 +6,11 @@ use mathlib.Core.Path.{◌≡◌, refl, sym, ◌∙◌, ap, ap₂}
 use native.Mathlib.Decide.{ℕ_discrete}
 use native.Mathlib.Numerals.{add-one}
 use native.Mathlib.Omega.{arith}
-use lib.ListN.{length, get_or, take, drop, length-drop, drop_of_length-le}
+use lib.ListN.{length, get_or, take, drop, length-drop}
 use lib.Seq.{drop-cons, drop-drop}
 use borrow.Author.Tests.{eq-eqb, ne_eqb}
 use Rattle.folds.proofs.Folds.{picked, passed}
 use Rattle.text.specs.Text.{parts, part_length, field_length, behind, fields, line_at}
-
-pub field_none : (s : List ℕ) (e : ℕ) → length s ≤ e → field_length (drop e s) ≡ 0
-unfolding field_length
-field_none s e h = rw (drop_of_length-le s h)
-
-pub field_tab : (s : List ℕ) (e : ℕ) → e < length s → get_or s e 0 ≡ 9 → field_length (drop e s) ≡ 0
-unfolding field_length
-field_tab s e h d = rw (drop-cons s e 0 h) (picked _ _ _ (eq-eqb _ _ d))
 
 module _ (s : List ℕ) (e : ℕ) (h : e < length s) (d : get_or s e 0 ≡ 9 → ⊥) where
   pub field_lf : get_or s e 0 ≡ 10 → field_length (drop e s) ≡ 0

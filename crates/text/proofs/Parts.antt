@@ -21,10 +21,6 @@ ltb_same a b c d f g = elim (dec_lt a b) [
   | no n ↦ le-ltb a b (omega arith) ∙ sym (le-ltb c d (elim (dec_lt c d) [ yes m ↦ absurd (n (g m)) | no k ↦ omega arith ]))
 ]
 
-pub part_none : (sep : ℕ) (s : List ℕ) (e : ℕ) → length s ≤ e → part_length sep (drop e s) ≡ 0
-unfolding part_length
-part_none sep s e h = rw (drop_of_length-le s h)
-
 pub part_here : (sep : ℕ) (s : List ℕ) (e : ℕ) → e < length s → get_or s e 0 ≡ sep → part_length sep (drop e s) ≡ 0
 unfolding part_length
 part_here sep s e h d = rw (drop-cons s e 0 h) (picked _ _ _ (eq-eqb _ _ d))

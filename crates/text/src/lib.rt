@@ -1,69 +1,50 @@
 // Bytes read as parts, fields and decimal numbers. Nothing here knows of trees or traces.
 #![tactic(auto)]
 
-ghost use Rattle.std.specs.Prelude.{◌≡◌, ◌+◌, ◌≤◌, length, drop};
+ghost use Rattle.std.specs.Prelude.{◌≡◌, ◌==◌, ◌||◌, ◌+◌, ◌≤◌, length, drop, position};
 ghost use Rattle.text.specs.Text.{part_length, field_length, same, digits_of, field_of};
 
 // What a field says: "-", a number, or neither.
-#[derive(Clone, Copy)]
+#[derive(Clone, Copy, PartialEq, Eq)]
 pub enum Field {
     Malformed,
     Dash,
     Number(u64),
 }
 
+fn first_end(s: &[u8], sep: u8) -> Option<usize>
+    ensures { result ≡ position (λ b. b == sep) s.now }
+{
+    s.iter().position(|b| *b == sep)
+}
+
 // Where the part that begins at `at` ends: at the next separator, or at the end of the bytes.
 pub fn part_end(s: &[u8], at: usize, sep: u8) -> usize
     ensures { result ≡ at + part_length sep (drop at s.now) }
 {
-    let mut end = at;
-    while end < s.len() {
-        if s[end] == sep {
-            return end;
-        }
-        end += 1;
-    }
-    end
+    let rest = &s[at.min(s.len())..];
+    at + first_end(rest, sep).unwrap_or(rest.len())
+}
+
+fn first_field_end(s: &[u8]) -> Option<usize>
+    ensures { result ≡ position (λ b. b == 9 || b == 10) s.now }
+{
+    s.iter().position(|b| *b == b'\t' || *b == b'\n')
 }
 
 // Where the field that begins at `at` ends: at the next tab or LF, or at the end of the bytes.
 pub fn field_end(s: &[u8], at: usize) -> usize
     ensures { result ≡ at + field_length (drop at s.now) }
 {
-    let mut end = at;
-    while end < s.len() {
-        if s[end] == 9 {
-            return end;
-        }
-        if s[end] == 10 {
-            return end;
-        }
-        end += 1;
-    }
-    end
+    let rest = &s[at.min(s.len())..];
+    at + first_field_end(rest).unwrap_or(rest.len())
 }
 
 // Whether two byte strings are equal.
 pub fn same_bytes(a: &[u8], b: &[u8]) -> bool
     ensures { result ≡ same a.now b.now }
 {
-    if a.len() != b.len() {
-        return false;
-    }
-    let mut i = 0;
-    while i < a.len() {
-        if a[i] != b[i] {
-            return false;
-        }
-        i += 1;
-    }
-    true
-}
-
-fn wide(b: u8) -> u64
-    ensures { result ≡ b }
-{
-    b as u64
+    a == b
 }
 
 // The number that at most ten digits write, held in 64 bits: ten digits may be above every limit of 32 bits.
@@ -72,17 +53,11 @@ fn read_digits(s: &[u8]) -> Field
     ensures { result ≡ digits_of s.now }
 {
     let mut value: u64 = 0;
-    let mut i = 0;
-    while i < s.len() {
-        let b = s[i];
-        if b < 48 {
+    for b in s {
+        if *b < b'0' || b'9' < *b {
             return Field::Malformed;
         }
-        if 57 < b {
-            return Field::Malformed;
-        }
-        value = value * 10 + wide(b - 48);
-        i += 1;
+        value = value * 10 + (*b - b'0') as u64;
     }
     Field::Number(value)
 }

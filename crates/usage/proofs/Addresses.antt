@@ -15,16 +15,16 @@ use Rattle.text.specs.declared.Field.TheVariants.{Malformed, Dash, Number as Dig
 use Rattle.text.specs.Text.{same, is_digit, all_digits, decimal, leading_zero, field_of}
 use Rattle.text.specs.Write.{dash}
 use Rattle.text.proofs.Back.{same_back}
-use Rattle.usage.specs.declared.NumberWord.{NumberWord}
-use Rattle.usage.specs.declared.NumberWord.TheVariants.{NoNumber, Number}
+use Rattle.std.specs.Prelude.{Option, Some, None, Result, Ok, Err, OkIff}
+use Rattle.std.specs.Result.{result_ok}
 use Rattle.usage.specs.Usage.{plain_number, address_asked}
 use Rattle.usage.proofs.Numbers.{no_word, zero_first, told}
 
 -- what the field of a word says of an address
-abbrev pub address_in : Field → NumberWord
-address_in Malformed = NoNumber
-address_in Dash = NoNumber
-address_in (Digits n) = pick (leb n 4294967295) (Number n) NoNumber
+abbrev pub address_in : Field → Option ℕ
+address_in Malformed = None
+address_in Dash = None
+address_in (Digits n) = pick (leb n 4294967295) (Some n) None
 
 -- more than 10 digits, of which the first is not 0
 above : (w : List ℕ) → all_digits w ≡ true → leading_zero w ≡ false → 10 < length w → 4294967295 < decimal w
@@ -40,11 +40,11 @@ above (b ∷ s) d z l =
     omega (arith, up, tens, one-mul (10 ^ length s))
 
 module _ (w : List ℕ) where
-  none : plain_number w ≡ false → address_asked w ≡ NoNumber
+  none : plain_number w ≡ false → address_asked w ≡ None
   unfolding address_asked
   none e = passed _ _ _ (ap (λ (b : Bool). b && leb (decimal w) 4294967295) e)
 
-  known : (b : Bool) → plain_number w ≡ true → leb (decimal w) 4294967295 ≡ b → address_asked w ≡ pick b (Number (decimal w)) NoNumber
+  known : (b : Bool) → plain_number w ≡ true → leb (decimal w) 4294967295 ≡ b → address_asked w ≡ pick b (Some (decimal w)) None
   unfolding address_asked
   known true p e = picked _ _ _ (ap₂ ◌&&◌ p e)
   known false p e = passed _ _ _ (ap₂ ◌&&◌ p e)
@@ -77,8 +77,6 @@ module _ (w : List ℕ) where
     as_read f = ap address_in (sym f ∙ e) ∙ sym address_read
 
     module _ {n : ℕ} (f : x ≡ Digits n) where
-      pub above_most : 4294967295 < n → NoNumber ≡ address_asked w
-      above_most l = sym (passed _ _ _ (lt-leb n 4294967295 l)) ∙ as_read f
-
-      pub at_most : n ≤ 4294967295 → Number n ≡ address_asked w
-      at_most l = sym (picked _ _ _ (le-leb n 4294967295 l)) ∙ as_read f
+      pub as_number : {E : Type 0} (r : Result ℕ E) → OkIff r (n < 4294967296) n → {o : Option ℕ} → o ≡ result_ok r → o ≡ address_asked w
+      as_number (Ok m) h q = q ∙ ap Some h.1 ∙ sym (picked _ _ _ (le-leb n 4294967295 (omega (arith, h.0)))) ∙ as_read f
+      as_number (Err e) h q = q ∙ sym (passed _ _ _ (lt-leb n 4294967295 (omega (arith, h)))) ∙ as_read f

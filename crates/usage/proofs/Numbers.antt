@@ -12,8 +12,7 @@ use borrow.Author.Tests.{eq-eqb, ne_eqb}
 use Rattle.folds.specs.Fold.{pick}
 use Rattle.folds.proofs.Folds.{picked, passed}
 use Rattle.text.specs.Text.{all_digits, decimal, leading_zero}
-use Rattle.usage.specs.declared.NumberWord.{NumberWord}
-use Rattle.usage.specs.declared.NumberWord.TheVariants.{NoNumber, Number}
+use Rattle.std.specs.Prelude.{Option, Some, None}
 use Rattle.usage.specs.Usage.{plain_number, number_asked}
 
 -- a number capped and then moved up by digits is capped as the number is
@@ -30,13 +29,13 @@ capped_up m v n r h = elim (dec_le v m) [ yes l ↦ small l | no l ↦ large l ]
       ap (λ (k : ℕ). min (k * n + r) m) c ∙ omega (arith, mul-one m)
 
 module _ (w : List ℕ) (m : ℕ) where
-  pub asked_none : plain_number w ≡ false → NoNumber ≡ number_asked w m
+  pub asked_none : plain_number w ≡ false → None ≡ number_asked w m
   unfolding number_asked
   asked_none e = sym (passed _ _ _ e)
 
-  pub asked_number : (k : ℕ) → plain_number w ≡ true → k ≡ min (decimal w) m → Number k ≡ number_asked w m
+  pub asked_number : (k : ℕ) → plain_number w ≡ true → k ≡ min (decimal w) m → Some k ≡ number_asked w m
   unfolding number_asked
-  asked_number k e f = ap Number f ∙ sym (picked _ _ _ e)
+  asked_number k e f = ap Some f ∙ sym (picked _ _ _ e)
 
 module _ (w : List ℕ) where
   pub no_word : length w ≡ 0 → plain_number w ≡ false
@@ -49,22 +48,22 @@ module _ (w : List ℕ) where
   told d e b f = rw (ne_eqb _ _ d, e) f
 
 -- what a word that was read as a number says
-abbrev pub number_in : NumberWord → ℕ
-number_in NoNumber = 0
-number_in (Number k) = k
+abbrev pub number_in : Option ℕ → ℕ
+number_in None = 0
+number_in (Some k) = k
 
-abbrev pub is_number : NumberWord → Bool
-is_number NoNumber = false
-is_number (Number k) = true
+abbrev pub is_number : Option ℕ → Bool
+is_number None = false
+is_number (Some k) = true
 
 module _ (w : List ℕ) (m : ℕ) where
-  pub said_plain : (x : NumberWord) → x ≡ number_asked w m → plain_number w ≡ is_number x
+  pub said_plain : (x : Option ℕ) → x ≡ number_asked w m → plain_number w ≡ is_number x
   unfolding number_asked
   said_plain x e = by (plain_number w) ∙ ap is_number (sym e) where
-    by : (b : Bool) → b ≡ is_number (pick b (Number (min (decimal w) m)) NoNumber)
+    by : (b : Bool) → b ≡ is_number (pick b (Some (min (decimal w) m)) None)
     by true = refl
     by false = refl
 
-  pub said_number : (x : NumberWord) → x ≡ number_asked w m → plain_number w ≡ true → number_in x ≡ min (decimal w) m
+  pub said_number : (x : Option ℕ) → x ≡ number_asked w m → plain_number w ≡ true → number_in x ≡ min (decimal w) m
   unfolding number_asked
   said_number x e p = ap number_in (e ∙ picked _ _ _ p)

@@ -7,7 +7,8 @@ use mathlib.Core.Path.{◌≡◌, ap, sym, ◌∙◌}
 use lib.Dec.{ltb}
 use borrow.Author.Tests.{eq-eqb, ne_eqb}
 use Rattle.folds.proofs.Folds.{picked, passed}
-use Rattle.usage.specs.declared.Asked.TheVariants.{Usage, Help, Input, File}
+use Rattle.usage.specs.declared.Asked.TheVariants.{Usage, Help, Run}
+use Rattle.usage.specs.declared.Source.TheVariants.{Input, File}
 use Rattle.usage.specs.Usage.{help_asked, is_option, file_asked}
 
 module _ (n : ℕ) (a b c : List ℕ) (t : Bool) where
@@ -21,7 +22,7 @@ module _ (n : ℕ) (a b c : List ℕ) (t : Bool) where
     by_words f = sym (passed _ _ _ (sym p ∙ e) ∙ picked _ _ _ (ap (◌||◌ (ltb 1 n)) (sym q) ∙ f))
 
     module _ (f : ltb 1 n || o ≡ false) where
-      pub by_name : n ≡ 1 → File ≡ file_asked n a b c t
+      pub by_name : n ≡ 1 → Run File ≡ file_asked n a b c t
       unfolding file_asked
       by_name g = sym (passed _ _ _ (sym p ∙ e) ∙ passed _ _ _ (ap (◌||◌ (ltb 1 n)) (sym q) ∙ f) ∙ picked _ _ _ (eq-eqb _ _ g))
 
@@ -30,6 +31,6 @@ module _ (n : ℕ) (a b c : List ℕ) (t : Bool) where
         unfolding file_asked
         by_terminal k = sym (passed _ _ _ (sym p ∙ e) ∙ passed _ _ _ (ap (◌||◌ (ltb 1 n)) (sym q) ∙ f) ∙ passed _ _ _ (ne_eqb _ _ g) ∙ picked _ _ _ k)
 
-        pub by_input : t ≡ false → Input ≡ file_asked n a b c t
+        pub by_input : t ≡ false → Run Input ≡ file_asked n a b c t
         unfolding file_asked
         by_input k = sym (passed _ _ _ (sym p ∙ e) ∙ passed _ _ _ (ap (◌||◌ (ltb 1 n)) (sym q) ∙ f) ∙ passed _ _ _ (ne_eqb _ _ g) ∙ passed _ _ _ k)

@@ -13,17 +13,16 @@
 --                       word standard input, or usage where that is a terminal (t)
 -- report_usage, rewrite_usage, simulate_usage, why_usage, split_usage   what is said where the arguments are wrong
 -- report_help, rewrite_help, simulate_help, why_help, split_help       what is said where help is asked for
-use Rattle.std.specs.Prelude.{ℕ, min, Bool, ◌&&◌, ◌||◌, not, List, ◌++◌, eqb, ltb, leb, length, get_or}
+use Rattle.std.specs.Prelude.{ℕ, min, Option, Some, None, Bool, ◌&&◌, ◌||◌, not, List, ◌++◌, eqb, ltb, leb, length, get_or}
 use Rattle.folds.specs.Fold.{pick}
 use Rattle.text.specs.Text.{same, all_digits, decimal, leading_zero}
 use Rattle.put.specs.Page.{bytes}
+use Rattle.model.specs.declared.Channel.{Channel}
 use Rattle.model.specs.declared.Channel.TheVariants.{Read, Write}
 use Rattle.usage.specs.declared.Asked.{Asked}
-use Rattle.usage.specs.declared.Asked.TheVariants.{Usage, Help, Input, File}
-use Rattle.usage.specs.declared.ChannelWord.{ChannelWord}
-use Rattle.usage.specs.declared.ChannelWord.TheVariants.{NoChannel, Known}
-use Rattle.usage.specs.declared.NumberWord.{NumberWord}
-use Rattle.usage.specs.declared.NumberWord.TheVariants.{NoNumber, Number}
+use Rattle.usage.specs.declared.Asked.TheVariants.{Usage, Help, Run}
+use Rattle.usage.specs.declared.Source.{Source}
+use Rattle.usage.specs.declared.Source.TheVariants.{Input, File}
 
 abbrev pub asks_help : List ℕ → Bool
 asks_help w = same w (bytes "-h") || same w (bytes "--help")
@@ -40,24 +39,24 @@ is_dash w = same w (bytes "-")
 abbrev pub two_files : List ℕ → List ℕ → Bool
 two_files a b = not (is_option a || is_option b) && not (is_dash a && is_dash b)
 
-unfoldable pub channel_asked : List ℕ → ChannelWord
-channel_asked w = pick (same w (bytes "read")) (Known Read) (pick (same w (bytes "write")) (Known Write) NoChannel)
+unfoldable pub channel_asked : List ℕ → Option Channel
+channel_asked w = pick (same w (bytes "read")) (Some Read) (pick (same w (bytes "write")) (Some Write) None)
 
 abbrev pub plain_number : List ℕ → Bool
 plain_number w = not (eqb (length w) 0) && not (leading_zero w) && all_digits w
 
-unfoldable pub number_asked : List ℕ → ℕ → NumberWord
-number_asked w m = pick (plain_number w) (Number (min (decimal w) m)) NoNumber
+unfoldable pub number_asked : List ℕ → ℕ → Option ℕ
+number_asked w m = pick (plain_number w) (Some (min (decimal w) m)) None
 
-unfoldable pub address_asked : List ℕ → NumberWord
-address_asked w = pick (plain_number w && leb (decimal w) 4294967295) (Number (decimal w)) NoNumber
+unfoldable pub address_asked : List ℕ → Option ℕ
+address_asked w = pick (plain_number w && leb (decimal w) 4294967295) (Some (decimal w)) None
 
-unfoldable pub file_asked : ℕ → List ℕ → List ℕ → List ℕ → Bool → Asked
+unfoldable pub file_asked : ℕ → List ℕ → List ℕ → List ℕ → Bool → Asked Source
 file_asked n a b c t =
     pick (help_asked a b c) Help
     (pick (ltb 1 n || is_option a) Usage
-    (pick (eqb n 1) File
-    (pick t Usage Input)))
+    (pick (eqb n 1) (Run File)
+    (pick t Usage (Run Input))))
 
 abbrev pub report_usage : List ℕ
 report_usage = bytes "usage: report [FILE]\nexample: report scanner.tree\n"

@@ -3,35 +3,35 @@
 // `simulation`, `why` in `inquiry`, `split` in `splitting`.
 #![tactic(auto)]
 
-ghost use Rattle.std.specs.Prelude.{◌≡◌, min};
+ghost use Rattle.std.specs.Prelude.{◌≡◌};
 ghost use Rattle.put.specs.Page.{Written};
 ghost use Rattle.usage.specs.Usage.{asks_help, help_asked, is_option, is_dash, two_files, channel_asked, number_asked, address_asked, file_asked, report_usage, report_help, rewrite_usage, rewrite_help, simulate_usage, simulate_help, why_usage, why_help, split_usage, split_help};
 
 use model::Channel;
-use put::put_bytes;
+use put::put_text;
 use text::{Field, read_field, same_bytes};
 
-// What a program of one file does by its words.
+// What a program does by its words: it says its usage or its help, or runs as they ask.
 #[derive(Clone, Copy)]
-pub enum Asked {
+pub enum Asked<T> {
     Usage,
     Help,
+    Run(T),
+}
+
+// What a program of one file reads: standard input, or the file that its word names.
+#[derive(Clone, Copy)]
+pub enum Source {
     Input,
     File,
 }
 
-// What a word says that should name a channel: none, or which.
+// A refusal of a program: what it is of, by which number, and at which line, 0 for none.
 #[derive(Clone, Copy)]
-pub enum ChannelWord {
-    NoChannel,
-    Known(Channel),
-}
-
-// What a word says that should be a number: none, or which.
-#[derive(Clone, Copy)]
-pub enum NumberWord {
-    NoNumber,
-    Number(u32),
+pub struct Denied<P> {
+    pub part: P,
+    pub number: u8,
+    pub line: u32,
 }
 
 // Whether the word is -h or --help.
@@ -73,79 +73,56 @@ pub fn two_files(first: &[u8], second: &[u8]) -> bool
 }
 
 // The channel that the word names, `read` or `write`.
-pub fn channel_asked(word: &[u8]) -> ChannelWord
+pub fn channel_asked(word: &[u8]) -> Option<Channel>
     ensures { result ≡ channel_asked word.now }
 {
     if same_bytes(word, b"read") {
-        return ChannelWord::Known(Channel::Read);
+        return Some(Channel::Read);
     }
     if same_bytes(word, b"write") {
-        return ChannelWord::Known(Channel::Write);
+        return Some(Channel::Write);
     }
-    ChannelWord::NoChannel
-}
-
-// A number, or `most` if it is larger.
-fn capped(n: u64, most: u32) -> u64
-    ensures { result ≡ min n most }
-{
-    if n < most as u64 {
-        return n;
-    }
-    most as u64
-}
-
-fn wide(b: u8) -> u64
-    ensures { result ≡ b }
-{
-    b as u64
+    None
 }
 
 // The number that the word writes, or `most` if it is larger: a word has any number of digits.
-pub fn number_asked(word: &[u8], most: u32) -> NumberWord
+pub fn number_asked(word: &[u8], most: u32) -> Option<u32>
     ensures { result ≡ number_asked word.now most }
 {
-    if word.len() == 0 {
-        return NumberWord::NoNumber;
+    if word.is_empty() {
+        return None;
     }
-    if (word[0] == 48) & (word.len() != 1) {
-        return NumberWord::NoNumber;
+    if (word[0] == b'0') & (word.len() != 1) {
+        return None;
     }
     let mut value: u64 = 0;
-    let mut i = 0;
-    while i < word.len() {
-        let b = word[i];
-        if b < 48 {
-            return NumberWord::NoNumber;
+    for b in word {
+        if (*b < 48) | (57 < *b) {
+            return None;
         }
-        if 57 < b {
-            return NumberWord::NoNumber;
-        }
-        value = capped(value * 10 + wide(b - 48), most);
-        i += 1;
+        value = (value * 10 + (*b - 48) as u64).min(most as u64);
     }
-    NumberWord::Number(value as u32)
+    Some(value as u32)
 }
 
 // The address that the word writes, a number of 32 bits: a larger one is no address.
-pub fn address_asked(word: &[u8]) -> NumberWord
+pub fn address_asked(word: &[u8]) -> Option<u32>
     ensures { result ≡ address_asked word.now }
 {
-    let field = read_field(word);
-    match field {
-        Field::Malformed => NumberWord::NoNumber,
-        Field::Dash => NumberWord::NoNumber,
-        Field::Number(n) => {
-            if 4294967295 < n {
-                return NumberWord::NoNumber;
-            }
-            NumberWord::Number(n as u32)
-        }
+    match read_field(word) {
+        Field::Malformed | Field::Dash => None,
+        Field::Number(n) => u32::try_from(n).ok(),
     }
 }
 
 // What a program of one file does, started with `count` words, of which these are the first three; `terminal`: standard input is one.
-pub fn file_asked(count: usize, first: &[u8], second: &[u8], third: &[u8], terminal: bool) -> Asked
+pub fn file_asked(
+    count: usize,
+    first: &[u8],
+    second: &[u8],
+    third: &[u8],
+    terminal: bool,
+) -> Asked<Source>
     ensures { result ≡ file_asked count first.now second.now third.now terminal }
 {
     if help_asked(first, second, third) {
@@ -155,32 +132,27 @@ pub fn file_asked(count: usize, first: &[u8], second: &[u8], third: &[u8], termi
         return Asked::Usage;
     }
     if count == 1 {
-        return Asked::File;
+        return Asked::Run(Source::File);
     }
     if terminal {
         return Asked::Usage;
     }
-    Asked::Input
+    Asked::Run(Source::Input)
 }
 
 // What `report` says where its arguments are wrong.
 pub fn report_usage(out: &mut [u8; 65536]) -> usize
     ensures { Written report_usage out.old out.new result }
 {
-    put_bytes(
-        out,
-        0,
-        b"usage: report [FILE]\nexample: report scanner.tree\n",
-    )
+    put_text(out, b"usage: report [FILE]\nexample: report scanner.tree\n")
 }
 
 // What `report` says where help is asked for.
 pub fn report_help(out: &mut [u8; 65536]) -> usize
     ensures { Written report_help out.old out.new result }
 {
-    put_bytes(
+    put_text(
         out,
-        0,
         b"report [FILE]: from a tree file, whether each accelerator's job meets its period at worst.\n\
         FILE is a tree file; standard input without one, or with -.\n\
         Columns: accelerator, level, sr and sw (share of reads and of writes), yr and yw (interfering reads and writes),\n\
@@ -194,9 +166,8 @@ pub fn report_help(out: &mut [u8; 65536]) -> usize
 pub fn rewrite_usage(out: &mut [u8; 65536]) -> usize
     ensures { Written rewrite_usage out.old out.new result }
 {
-    put_bytes(
+    put_text(
         out,
-        0,
         b"usage: rewrite [FILE]\nexample: rewrite scanner.tree\n",
     )
 }
@@ -205,9 +176,8 @@ pub fn rewrite_usage(out: &mut [u8; 65536]) -> usize
 pub fn rewrite_help(out: &mut [u8; 65536]) -> usize
     ensures { Written rewrite_help out.old out.new result }
 {
-    put_bytes(
+    put_text(
         out,
-        0,
         b"rewrite [FILE]: writes the tree of a tree file back as text; two files of the same tree give the same text.\n\
         FILE is a tree file; standard input without one, or with -.\n\
         The bus or bus3 line, without a return delay of 0; the int lines by number; the acc lines by interconnect, then by port.\n\
@@ -221,9 +191,8 @@ pub fn rewrite_help(out: &mut [u8; 65536]) -> usize
 pub fn simulate_usage(out: &mut [u8; 65536]) -> usize
     ensures { Written simulate_usage out.old out.new result }
 {
-    put_bytes(
+    put_text(
         out,
-        0,
         b"usage: simulate CHANNEL TREE TRACE [SLOTS]\nexample: simulate read scanner.tree scanner.trace 100\n",
     )
 }
@@ -232,9 +201,8 @@ pub fn simulate_usage(out: &mut [u8; 65536]) -> usize
 pub fn simulate_help(out: &mut [u8; 65536]) -> usize
     ensures { Written simulate_help out.old out.new result }
 {
-    put_bytes(
+    put_text(
         out,
-        0,
         b"simulate CHANNEL TREE TRACE [SLOTS]: runs a trace of requests on a tree, and says who is served in each slot.\n\
         CHANNEL is read or write: reads and writes travel apart, and a trace is of one channel.\n\
         TREE and TRACE are files; one of the two may be -, standard input. SLOTS is 0 to 65536, or 65536 without one.\n\
@@ -249,9 +217,8 @@ pub fn simulate_help(out: &mut [u8; 65536]) -> usize
 pub fn why_usage(out: &mut [u8; 65536]) -> usize
     ensures { Written why_usage out.old out.new result }
 {
-    put_bytes(
+    put_text(
         out,
-        0,
         b"usage: why CHANNEL TREE TRACE ACC NUMBER\nexample: why read scanner.tree scanner.trace 1 3\n",
     )
 }
@@ -260,9 +227,8 @@ pub fn why_usage(out: &mut [u8; 65536]) -> usize
 pub fn why_help(out: &mut [u8; 65536]) -> usize
     ensures { Written why_help out.old out.new result }
 {
-    put_bytes(
+    put_text(
         out,
-        0,
         b"why CHANNEL TREE TRACE ACC NUMBER: runs a trace of requests on a tree, and says why a transaction waited.\n\
         CHANNEL is read or write: reads and writes travel apart, and a trace is of one channel.\n\
         TREE and TRACE are files; one of the two may be -, standard input. The run has 65536 slots at most.\n\
@@ -279,9 +245,8 @@ pub fn why_help(out: &mut [u8; 65536]) -> usize
 pub fn split_usage(out: &mut [u8; 65536]) -> usize
     ensures { Written split_usage out.old out.new result }
 {
-    put_bytes(
+    put_text(
         out,
-        0,
         b"usage: split TREE ADDRESS BEATS SIZE\nexample: split scanner.tree 4096 40 4\n",
     )
 }
@@ -290,9 +255,8 @@ pub fn split_usage(out: &mut [u8; 65536]) -> usize
 pub fn split_help(out: &mut [u8; 65536]) -> usize
     ensures { Written split_help out.old out.new result }
 {
-    put_bytes(
+    put_text(
         out,
-        0,
         b"split TREE ADDRESS BEATS SIZE: cuts a burst into pieces of the tree's burst length B.\n\
         TREE is a tree file, or -, standard input. The other words are decimal: ADDRESS is 0 to 4294967295, BEATS 1 to 256, or\n\
         to 16 where the first line of TREE is bus3, and SIZE, the bytes of a beat, 1, 2, 4, 8, 16, 32, 64 or 128.\n\

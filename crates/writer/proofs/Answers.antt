@@ -1,8 +1,8 @@
 -- What the writer answers and leaves in the buffer, test by test in the definition's order.
 use Prim.Native.Nat.{ℕ, ◌≤◌, ◌<◌}
 use mathlib.Core.Bool.{Bool, true, false, not}
-use mathlib.Core.List.{List}
-use mathlib.Core.Path.{◌≡◌, ap, sym, ◌∙◌, subst}
+use mathlib.Core.List.{List, ◌++◌}
+use mathlib.Core.Path.{◌≡◌, ap, ap₂, sym, ◌∙◌}
 use native.Mathlib.Nat.{zero-add}
 use native.Mathlib.Omega.{arith}
 use lib.ListN.{length, take, drop}
@@ -53,13 +53,11 @@ module _ (t : Tree) (d : List ℕ) {keeps : Bool} (q : keeps ≡ tree_keeps t) w
           let r = lt-ltb (length d) (length (written_text t)) (omega arith) in
           (sym (passed _ _ _ c ∙ passed _ _ _ (le-ltb _ _ h) ∙ picked _ _ _ r), sym (passed _ _ _ c ∙ passed _ _ _ (le-ltb _ _ h) ∙ picked _ _ _ r))
 
-      pub by_text : n ≤ length d → (xs e : List ℕ) (i : ℕ) → xs ≡ written_text t → Stored xs d 0 e i
-          → (wrote n ≡ write_of t (length d)) × (e ≡ write_buffer t d)
+      pub by_text : n ≤ length d → (xs : List ℕ) → xs ≡ written_text t → (wrote n ≡ write_of t (length d)) × (xs ++ drop n d ≡ write_buffer t d)
       unfolding write_of write_buffer
-      by_text s xs e i w p =
+      by_text s xs w =
           let c = ap not (sym q) ∙ b in
-          let r = le-ltb (length d) (length (written_text t)) (omega arith) in
-          let put = stored_laid (written_text t) d e i (subst (λ (l : List ℕ). Stored l d 0 e i) w p) (omega arith) in (
+          let r = le-ltb (length d) (length (written_text t)) (omega arith) in (
             ap wrote m ∙ sym (passed _ _ _ c ∙ passed _ _ _ (le-ltb _ _ h) ∙ passed _ _ _ r),
-            put.1 ∙ sym (passed _ _ _ c ∙ passed _ _ _ (le-ltb _ _ h) ∙ passed _ _ _ r),
+            ap₂ (λ (l : List ℕ) (k : ℕ). l ++ drop k d) w m ∙ sym (passed _ _ _ c ∙ passed _ _ _ (le-ltb _ _ h) ∙ passed _ _ _ r),
           )

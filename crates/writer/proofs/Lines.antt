@@ -19,14 +19,8 @@ use Rattle.writer.specs.Lines.{bus_front, bus_values, bus_as, bus_written, root_
 use Rattle.writer.specs.Writer.{carried_by}
 use Rattle.writer.proofs.Texts.{file_none, file_one}
 
-pub bus_short_lem : (name : List ℕ) (b : Bus) → b.delay ≡ 0 → line_text name (numbers (bus_front b)) ≡ bus_as name b
-bus_short_lem name b e = sym (picked _ _ _ (eq-eqb _ _ e))
-
 pub bus_whole_lem : (name : List ℕ) (b : Bus) → (b.delay ≡ 0 → ⊥) → line_text name (numbers (bus_values b)) ≡ bus_as name b
 bus_whole_lem name b d = sym (passed _ _ _ (ne_eqb _ _ d))
-
-pub bus_named : (b : Bus) (a : Bool) → b.axi3 ≡ a → bus_as (name_of (bus_kind a)) b ≡ bus_written b
-bus_named b a e = ap (λ (x : Bool). bus_as (name_of (bus_kind x)) b) (sym e)
 
 -- the root's number and its two "-" are always the same bytes
 root_bytes : (g : ℕ) → line_text (bytes "int\t0\t-\t-") (numbers (g ∷ [])) ≡ root_written g
@@ -36,9 +30,6 @@ root_bytes g = refl
 module _ (t : Tree) (j : ℕ) (x : Interconnect) (e : x ≡ interconnect_of t j) where
   pub root_line : j ≡ 0 → line_text (bytes "int\t0\t-\t-") (numbers (x.granularity ∷ [])) ≡ int_text t j
   root_line z = root_bytes x.granularity ∙ ap (λ (y : Interconnect). root_written y.granularity) e ∙ sym (picked _ _ _ (eq-eqb _ _ z))
-
-  pub child_line_lem : (j ≡ 0 → ⊥) → child_written j x.parent x.port x.granularity ≡ int_text t j
-  child_line_lem d = ap (λ (y : Interconnect). child_written j y.parent y.port y.granularity) e ∙ sym (passed _ _ _ (ne_eqb _ _ d))
 
 -- the line of a port that carries an accelerator
 pub acc_line_lem : (t : Tree) (a : ℕ) (x : Accelerator) (y : Port) → x ≡ accelerator_of t a → y ≡ Acc a

@@ -10,27 +10,28 @@ use lib.ListN.{length, take, get_or}
 use lib.Seq.{take-suc, take-length}
 use Rattle.text.specs.Write.{decimal_text, numbers, rows, fields_text, file_text}
 use Rattle.put.specs.Page.{ended, joined}
-use Rattle.put.specs.Put.{Put}
-use Rattle.put.proofs.Puts.{put_none, put_then}
+use Rattle.put.specs.declared.Text.{Text}
+use Rattle.put.specs.Texts.{Puts}
+use Rattle.put.proofs.Texts.{puts_none, puts_then}
 use Rattle.put.proofs.Lines.{joined_more}
 use Rattle.model.specs.declared.Tree.{Tree}
 use Rattle.model.specs.declared.Port.{Port}
 use Rattle.writer.specs.Lines.{bus_text, int_text, acc_text}
-use Rattle.writer.specs.Writer.{carried_by, port_order, written_text, Stored}
+use Rattle.writer.specs.Writer.{carried_by, port_order, written_text}
+use Rattle.writer.specs.Adds.{Adds}
 
-pub stored_none : (d : List ℕ) (at : ℕ) → Stored [] d at d at
-stored_none d at = put_none d at
+pub adds_none : (a : Text) → Adds a [] a
+adds_none a = puts_none a
 
 -- a text is as long as itself
-pub stored_whole : {m : ℕ} {d : List ℕ} {at : ℕ} {xs e : List ℕ} {next : ℕ} → Put m d at xs e next → Stored xs d at e next
-stored_whole p = record { stored = p.stored; ends = p.ends; short = omega arith }
+pub adds_whole : {m : ℕ} {a b : Text} {xs : List ℕ} → Puts m a xs b → Adds a xs b
+adds_whole p = let q = p.part in record { buffer = p.buffer; part = record { stored = q.stored; ends = q.ends; short = omega arith } }
 
-pub stored_as : {d : List ℕ} {at : ℕ} {xs ys e : List ℕ} {next : ℕ} → xs ≡ ys → Stored xs d at e next → Stored ys d at e next
-stored_as {d} {at} {xs} {ys} {e} {next} h p = subst (λ (l : List ℕ). Stored l d at e next) h p
+pub adds_as : {a b : Text} {xs ys : List ℕ} → xs ≡ ys → Adds a xs b → Adds a ys b
+adds_as {a} {b} h p = subst (λ (l : List ℕ). Adds a l b) h p
 
-pub stored_then : {d : List ℕ} {at : ℕ} {xs e : List ℕ} {next : ℕ} {ys f : List ℕ} {last : ℕ}
-    → Stored xs d at e next → Stored ys e next f last → Stored (xs ++ ys) d at f last
-stored_then p q = stored_whole (put_then p q)
+pub adds_then : {a b c : Text} {xs ys : List ℕ} → Adds a xs b → Adds b ys c → Adds a (xs ++ ys) c
+adds_then p q = adds_whole (puts_then p q)
 
 numbers_append : (xs ys : List ℕ) → numbers (xs ++ ys) ≡ numbers xs ++ numbers ys
 unfolding numbers
@@ -60,9 +61,6 @@ field_more xs i h =
 pub no_fields : (xs : List ℕ) → [] ≡ fields_text (numbers (take 0 xs))
 unfolding fields_text numbers
 no_fields xs = refl
-
-pub all_fields : (xs : List ℕ) (i : ℕ) → i ≡ length xs → fields_text (numbers (take i xs)) ≡ fields_text (numbers xs)
-all_fields xs i e = ap (λ (k : ℕ). fields_text (numbers (take k xs))) e ∙ ap (λ (l : List ℕ). fields_text (numbers l)) (take-length xs)
 
 pub file_append : (ls ms : List (List ℕ)) → file_text (ls ++ ms) ≡ file_text ls ++ file_text ms
 unfolding file_text
@@ -95,9 +93,6 @@ row_more n f =
     ∙ sym (file_append (rows n 0 f) (f n ∷ []))
     ∙ ap file_text (ap (λ (i : ℕ). rows n 0 f ++ (f i ∷ [])) (sym (zero-add n)) ∙ sym (rows_last n 0 f) ∙ rw add-one)
 
-pub all_rows : (n m : ℕ) (f : ℕ → List ℕ) → n ≤ m → m ≤ n → file_text (rows n 0 f) ≡ file_text (rows m 0 f)
-all_rows n m f h k = ap (λ (i : ℕ). file_text (rows i 0 f)) (le_antisymm h k)
-
 pub map_append : (f : ℕ → List ℕ) (xs ys : List ℕ) → map f (xs ++ ys) ≡ map f xs ++ map f ys
 map_append f [] ys = refl
 map_append f (x ∷ xs) ys = ap (λ (l : List (List ℕ)). f x ∷ l) (map_append f xs ys)
@@ -112,9 +107,6 @@ module _ (f : ℕ → List ℕ) (g : ℕ → List ℕ) where
   part_more n =
       sym (file_append (map f (joined n g)) (map f (g n)))
       ∙ ap file_text (sym (map_append f (joined n g) (g n)) ∙ ap (map f) (sym (joined_more n g)))
-
-  pub all_parts : (n m : ℕ) → n ≤ m → m ≤ n → file_text (map f (joined n g)) ≡ file_text (map f (joined m g))
-  all_parts n m h k = ap (λ (i : ℕ). file_text (map f (joined i g))) (le_antisymm h k)
 
 -- the acc lines of a port
 pub port_lines : (t : Tree) (x y : Port) → x ≡ y → file_text (map (acc_text t) (carried_by x)) ≡ file_text (map (acc_text t) (carried_by y))

@@ -7,49 +7,44 @@ ghost use Rattle.text.specs.Write.{fields_text, numbers, line_text, rows, file_t
 ghost use Rattle.put.specs.Page.{ended};
 ghost use Rattle.writer.specs.Lines.{bus_as, bus_written, int_text, acc_written, acc_text};
 ghost use Rattle.writer.specs.Writer.{carried_by, carried_in, port_order, written_text, write_of, write_buffer, Stored};
+ghost use Rattle.writer.specs.Adds.{Adds};
 ghost use Rattle.writer.specs.Answers.{write_means};
 
 use model::access::{accelerator_at, interconnect_at, port_at};
 use model::{Accelerator, Bus, Port, Tree};
-use put::{put_byte, put_bytes, put_number};
+use put::Text;
 use rules::tree_keeps;
 
-// What the writer answers: refused, because the configuration breaks its rules, because the buffer is over 65,536 bytes, or because it
-// is shorter than the text; or the number of bytes of the text.
-#[derive(Clone, Copy)]
-pub enum WriteAnswer {
+// Why no text is written: the configuration breaks its rules, the buffer is over 65,536 bytes, or it is shorter than the text.
+#[derive(Clone, Copy, PartialEq, Eq)]
+pub enum WriteError {
     Broken,
     TooLong,
     TooShort,
-    Wrote(usize),
 }
 
 // The numbers, each after a tab.
-fn put_fields(out: &mut [u8], at: usize, values: &[u64]) -> usize
-    ensures { Stored (fields_text (numbers values.now)) out.old at out.new result }
+fn put_fields(text: &mut Text, values: &[u64])
+    ensures { Adds text.old (fields_text (numbers values.now)) text.new }
 {
-    let mut next = at;
-    let mut i = 0;
-    while i < values.len() {
-        next = put_byte(out, next, b'\t');
-        next = put_number(out, next, values[i]);
-        i += 1;
+    for x in values {
+        text.byte(b'\t');
+        text.number(*x);
     }
-    next
 }
 
 // A line: its record name, the numbers, and LF.
-fn put_line(out: &mut [u8], at: usize, name: &[u8], values: &[u64]) -> usize
-    ensures { Stored (ended (line_text name.now (numbers values.now))) out.old at out.new result }
+fn put_line(text: &mut Text, name: &[u8], values: &[u64])
+    ensures { Adds text.old (ended (line_text name.now (numbers values.now))) text.new }
 {
-    let next = put_bytes(out, at, name);
-    let next = put_fields(out, next, values);
-    put_byte(out, next, b'\n')
+    text.bytes(name);
+    put_fields(text, values);
+    text.byte(b'\n');
 }
 
-// The bus line, under this record name, at the start of the text; a return delay of 0 is left out.
-fn put_bus_as(out: &mut [u8], name: &[u8], b: Bus) -> usize
-    ensures { Stored (ended (bus_as name.now b)) out.old 0 out.new result }
+// The bus line, under this record name; a return delay of 0 is left out.
+fn put_bus_as(text: &mut Text, name: &[u8], b: Bus)
+    ensures { Adds text.old (ended (bus_as name.now b)) text.new }
 {
     let delay = b.delay as u64;
     let burst = b.burst as u64;
@@ -67,50 +62,47 @@ fn put_bus_as(out: &mut [u8], name: &[u8], b: Bus) -> usize
         delay,
     ];
     if delay == 0 {
-        return put_line(out, 0, name, &values[..10]);
+        put_line(text, name, &values[..10]);
+    } else {
+        put_line(text, name, &values);
     }
-    put_line(out, 0, name, &values)
 }
 
 // The bus line, under its own record name.
-fn put_bus(out: &mut [u8], b: Bus) -> usize
-    ensures { Stored (ended (bus_written b)) out.old 0 out.new result }
+fn put_bus(text: &mut Text, b: Bus)
+    ensures { Adds text.old (ended (bus_written b)) text.new }
 {
     if b.axi3 {
-        return put_bus_as(out, b"bus3", b);
+        put_bus_as(text, b"bus3", b);
+    } else {
+        put_bus_as(text, b"bus", b);
     }
-    put_bus_as(out, b"bus", b)
 }
 
 // The int line of interconnect j.
-fn put_int(out: &mut [u8], at: usize, t: Tree, j: u8) -> usize
-    ensures { Stored (ended (int_text t j)) out.old at out.new result }
+fn put_int(text: &mut Text, t: Tree, j: u8)
+    ensures { Adds text.old (ended (int_text t j)) text.new }
 {
     let x = interconnect_at(t, j);
     let g = x.granularity as u64;
     if j == 0 {
-        let root = [g];
-        return put_line(out, at, b"int\t0\t-\t-", &root);
+        put_line(text, b"int\t0\t-\t-", &[g]);
+    } else {
+        put_line(text, b"int", &[j as u64, x.parent as u64, x.port as u64, g]);
     }
-    let child = [j as u64, x.parent as u64, x.port as u64, g];
-    put_line(out, at, b"int", &child)
 }
 
-fn put_ints(out: &mut [u8], at: usize, t: Tree) -> usize
-    ensures { Stored (file_text (rows t.ints 0 (int_text t))) out.old at out.new result }
+fn put_ints(text: &mut Text, t: Tree)
+    ensures { Adds text.old (file_text (rows t.ints 0 (int_text t))) text.new }
 {
-    let mut next = at;
-    let mut j: u8 = 0;
-    while j < t.ints {
-        next = put_int(out, next, t, j);
-        j += 1;
+    for j in 0..t.ints {
+        put_int(text, t, j);
     }
-    next
 }
 
 // The acc line of accelerator x, whose number is a.
-fn put_acc(out: &mut [u8], at: usize, a: u8, x: Accelerator) -> usize
-    ensures { Stored (ended (acc_written a x)) out.old at out.new result }
+fn put_acc(text: &mut Text, a: u8, x: Accelerator)
+    ensures { Adds text.old (ended (acc_written a x)) text.new }
 {
     let values = [
         a as u64,
@@ -123,71 +115,71 @@ fn put_acc(out: &mut [u8], at: usize, a: u8, x: Accelerator) -> usize
         x.computing as u64,
         x.period as u64,
     ];
-    put_line(out, at, b"acc", &values)
+    put_line(text, b"acc", &values);
 }
 
 // The acc line of the accelerator that the port carries, if it carries one.
-fn put_carried(out: &mut [u8], at: usize, t: Tree, port: Port) -> usize
-    ensures { Stored (file_text (map (acc_text t) (carried_by port))) out.old at out.new result }
+fn put_carried(text: &mut Text, t: Tree, port: Port)
+    ensures { Adds text.old (file_text (map (acc_text t) (carried_by port))) text.new }
 {
     match port {
-        Port::Empty => at,
-        Port::Acc(a) => put_acc(out, at, a, accelerator_at(t, a)),
-        Port::Int(_) => at,
+        Port::Acc(a) => put_acc(text, a, accelerator_at(t, a)),
+        Port::Empty | Port::Int(_) => {}
     }
 }
 
 // The acc lines of interconnect j, by port.
-fn put_ports(out: &mut [u8], at: usize, t: Tree, j: u8) -> usize
-    ensures { Stored (file_text (map (acc_text t) (carried_in t j))) out.old at out.new result }
+fn put_ports(text: &mut Text, t: Tree, j: u8)
+    ensures { Adds text.old (file_text (map (acc_text t) (carried_in t j))) text.new }
 {
-    let mut next = at;
-    let mut p: u8 = 0;
-    while p < 8 {
-        next = put_carried(out, next, t, port_at(t, j, p));
-        p += 1;
+    for p in 0..8 {
+        put_carried(text, t, port_at(t, j, p));
     }
-    next
 }
 
 // The acc lines, by interconnect.
-fn put_accs(out: &mut [u8], at: usize, t: Tree) -> usize
-    ensures { Stored (file_text (map (acc_text t) (port_order t))) out.old at out.new result }
+fn put_accs(text: &mut Text, t: Tree)
+    ensures { Adds text.old (file_text (map (acc_text t) (port_order t))) text.new }
 {
-    let mut next = at;
-    let mut j: u8 = 0;
-    while j < t.ints {
-        next = put_ports(out, next, t, j);
-        j += 1;
+    for j in 0..t.ints {
+        put_ports(text, t, j);
     }
-    next
 }
 
-fn put_tree(out: &mut [u8], t: Tree) -> usize
+fn put_tree(text: &mut Text, t: Tree)
+    ensures { Adds text.old (written_text t) text.new }
+{
+    put_bus(text, t.bus);
+    put_ints(text, t);
+    put_accs(text, t);
+}
+
+// The text of the configuration, at the start of a buffer that has room for every text: the longest has 1,973 bytes.
+fn tree_text(t: Tree, out: &mut [u8; 2048]) -> usize
     ensures { Stored (written_text t) out.old 0 out.new result }
 {
-    let next = put_bus(out, t.bus);
-    let next = put_ints(out, next, t);
-    put_accs(out, next, t)
+    let mut text = Text::new(out);
+    put_tree(&mut text, t);
+    text.len()
 }
 
-// Writes the text of the configuration at the start of `out`. It is put together in a buffer that has room for every text (the longest
-// has 1,973 bytes), so that nothing is written before its length is known.
-pub fn write_tree(t: Tree, out: &mut [u8]) -> WriteAnswer
+// Writes the text of the configuration at the start of `out`, and answers how many bytes it has. It is put together in a buffer of its
+// own, so that nothing is written before its length is known.
+pub fn write_tree(t: Tree, out: &mut [u8]) -> Result<usize, WriteError>
     ensures answer { write_means result ≡ write_of t (length out.old) }
     ensures bytes { out.new ≡ write_buffer t out.old }
 {
     if !tree_keeps(t) {
-        return WriteAnswer::Broken;
+        return Err(WriteError::Broken);
     }
     if 65536 < out.len() {
-        return WriteAnswer::TooLong;
+        return Err(WriteError::TooLong);
     }
-    let mut text = [0u8; 2048];
-    let n = put_tree(&mut text, t);
+    let mut page = [0u8; 2048];
+    let n = tree_text(t, &mut page);
     if out.len() < n {
-        return WriteAnswer::TooShort;
+        return Err(WriteError::TooShort);
     }
-    put_bytes(out, 0, &text[..n]);
-    WriteAnswer::Wrote(n)
+    out[..n].copy_from_slice(&page[..n]);
+    Ok(n)
 }

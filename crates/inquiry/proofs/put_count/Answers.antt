@@ -1,10 +1,8 @@
--- `put_count` meets its contract: the parts of the line are stored one after the other.
-use native.Mathlib.Omega.{arith}
-use Rattle.put.proofs.Puts.{put_then, put_most}
+-- `put_count` meets its contract: the parts of the line are put one after the other.
+use Rattle.put.proofs.Texts.{puts_then}
 use Rattle.inquiry.specs.Lines.{count_text}
 use Rattle.inquiry.proofs.put_count.Goals as goal
 
 pub returns : goal.returns
 unfolding count_text
-returns c =
-    put_most (omega arith) (put_then c.put_bytes-next.ensures c.put_field.ensures)
+returns c = puts_then c.bytes.ensures c.field.ensures

@@ -4,7 +4,7 @@ use native.Mathlib.Omega.{arith}
 use borrow.Author.Tests.{eq-eqb, ne_eqb}
 use Rattle.folds.proofs.Folds.{picked, passed}
 use Rattle.put.specs.Page.{ended}
-use Rattle.put.proofs.Puts.{put_then, put_most, put_as}
+use Rattle.put.proofs.Texts.{puts_then, puts_most, puts_as}
 use Rattle.inquiry.specs.Lines.{line_text}
 use Rattle.inquiry.proofs.put_line.Goals as goal
 
@@ -12,12 +12,10 @@ pub returns-then-met-eq255 : goal.returns-then-met-eq255
 unfolding line_text
 returns-then-met-eq255 c =
     let own = eq-eqb _ _ c.if-met-eq255.true in
-    put_most (omega arith)
-    (put_then c.put_field-next.ensures (put_then c.put_field-next-2.ensures (put_as (sym (ap ended (picked _ _ _ own))) c.put_bytes.ensures)))
+    puts_most (omega arith) (puts_then c.field.ensures (puts_then c.field-2.ensures (puts_as (sym (ap ended (picked _ _ _ own))) c.bytes.ensures)))
 
-pub returns : goal.returns
+pub returns-else-met-eq255 : goal.returns-else-met-eq255
 unfolding line_text
-returns c =
+returns-else-met-eq255 c =
     let other = ne_eqb _ _ c.if-met-eq255.false in
-    put_most (omega arith)
-    (put_then c.put_field-next.ensures (put_then c.put_field-next-2.ensures (put_as (sym (ap ended (passed _ _ _ other))) c.put_field.ensures)))
+    puts_then c.field.ensures (puts_then c.field-2.ensures (puts_as (sym (ap ended (passed _ _ _ other))) c.field-else-met-eq255.ensures))

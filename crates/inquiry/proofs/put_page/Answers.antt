@@ -3,9 +3,7 @@ use Rattle.inquiry.proofs.Paged.{page_ends, page_goes_on}
 use Rattle.inquiry.proofs.put_page.Goals as goal
 
 pub returns-then-page-pairs : goal.returns-then-page-pairs
-returns-then-page-pairs c =
-    page_ends _ _ _ _ c.put_lines-next.ensures c.if-page-pairs.true
-    c.put_count.ensures
+returns-then-page-pairs c = page_ends _ _ _ _ c.put_lines.ensures c.if-page-pairs.true c.put_count.ensures
 
-pub returns : goal.returns
-returns c = page_goes_on _ _ _ _ c.put_lines-next.ensures c.if-page-pairs.false
+pub returns-else-page-pairs : goal.returns-else-page-pairs
+returns-else-page-pairs c = page_goes_on _ _ _ _ c.put_lines.ensures c.if-page-pairs.false

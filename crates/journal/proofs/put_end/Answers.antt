@@ -1,9 +1,8 @@
--- `put_end` meets its contract: the parts of the line are stored one after the other.
+-- `put_end` meets its contract: the parts of the line are put one after the other.
 use Rattle.journal.specs.Journal.{end_text}
-use Rattle.put.proofs.Puts.{put_then}
+use Rattle.put.proofs.Texts.{puts_then}
 use Rattle.journal.proofs.put_end.Goals as goal
 
 pub returns : goal.returns
 unfolding end_text
-returns c =
-    put_then c.put_outcome-next.ensures c.put_field.ensures
+returns c = puts_then c.put_outcome.ensures c.field.ensures

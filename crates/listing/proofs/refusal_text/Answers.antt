@@ -1,9 +1,9 @@
--- `refusal_text` meets its contract: the text is stored from the start on, and the page has room for it.
+-- `refusal_text` meets its contract: the text is empty at first, and the page has room for it.
 use native.Mathlib.Omega.{arith}
 use borrow.Author.Rules.{rules}
-use Rattle.put.proofs.Puts.{put_laid}
+use Rattle.put.proofs.Texts.{puts_laid}
 use Rattle.listing.proofs.refusal_text.Goals as goal
 
 pub returns : goal.returns
 returns c =
-    put_laid c.put_refusal.ensures (omega arith) (search rules)
+    puts_laid c.new-text.ensures.bytes c.new-text.ensures.empty c.put_refusal.ensures c.len.ensures (omega arith) (search rules)

@@ -1,9 +1,9 @@
--- `reason_text` meets its contract: the text is stored from the start on, and the page has room for it.
+-- `reason_text` meets its contract: the text is empty at first, and the page has room for it.
 use native.Mathlib.Omega.{arith}
 use borrow.Author.Rules.{rules}
-use Rattle.put.proofs.Puts.{put_laid}
+use Rattle.put.proofs.Texts.{puts_laid}
 use Rattle.reasons.proofs.reason_text.Goals as goal
 
 pub returns : goal.returns
 returns c =
-    put_laid c.put_reason.ensures (omega arith) (search rules)
+    puts_laid c.new-text.ensures.bytes c.new-text.ensures.empty c.put_reason.ensures c.len.ensures (omega arith) (search rules)

@@ -2,8 +2,8 @@
 use Rattle.simulation.proofs.Words.{slots_none, slots_said}
 use Rattle.simulation.proofs.slots_asked.Goals as goal
 
-pub returns-in-NoNumber : goal.returns-in-NoNumber
-returns-in-NoNumber c = slots_none _ _ _ c.number_asked-said.ensures c.in-NoNumber.is
+pub returns-in_default : goal.returns-in_default
+returns-in_default c = slots_none _ _ _ c.number_asked.ensures c.in_default.is
 
-pub returns-in-Number : goal.returns-in-Number
-returns-in-Number c = slots_said _ _ _ c.number_asked-said.ensures _ c.in-Number.is
+pub returns : goal.returns
+returns c = slots_said _ _ _ c.number_asked.ensures _ c.in-Some.is

@@ -1,7 +1,9 @@
--- `list_text` meets its contract: the text is stored from the start on, and the page has room for it.
+-- `list_text` meets its contract: the text is empty at first, and the page has room for it.
 use native.Mathlib.Omega.{arith}
-use Rattle.put.proofs.Puts.{put_laid}
+use borrow.Author.Rules.{rules}
+use Rattle.put.proofs.Texts.{puts_laid}
 use Rattle.splitting.proofs.list_text.Goals as goal
 
 pub returns : goal.returns
-returns c = put_laid c.put_list.ensures (omega arith) c.put_list-arg-1.given.0.1
+returns c =
+    puts_laid c.new-text.ensures.bytes c.new-text.ensures.empty c.put_list.ensures c.len.ensures (omega arith) (search rules)

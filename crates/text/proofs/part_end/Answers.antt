@@ -1,21 +1,14 @@
--- `part_end` meets its contract: no separator stands between the start and where the loop is.
-use native.Mathlib.Omega.{arith}
-use borrow.Author.Rules.{rules}
-use Rattle.text.proofs.Parts.{part_here, part_more, part_none}
+-- `part_end` meets its contract: the part ends at the first separator, or with the bytes.
+use mathlib.Core.Path.{ap, ◌∙◌}
+use Prim.Native.Nat.{ℕ, ◌+◌}
+use lib.ListN.{length}
+use Rattle.std.specs.Prelude.{Option}
+use Rattle.std.specs.Option.{unwrap_or}
+use Rattle.text.proofs.Found.{left, part_ended}
 use Rattle.text.proofs.part_end.Goals as goal
-
-pub returns-then-s-end : goal.returns-then-s-end
-returns-then-s-end c =
-    let at-loop = c in
-    let at-args = at-loop in
-    omega (arith, part_here at-args.args.sep at-args.args.s.now at-loop.loop-end.end (search rules) c.if-s-end.true, at-loop.loop-end.invariant.1)
-
-pub loop-end-preserved : goal.loop-end-preserved
-loop-end-preserved c =
-    let at-loop = c in
-    let at-args = at-loop in
-    omega (arith, part_more at-args.args.sep at-args.args.s.now at-loop.loop-end.end (search rules) c.if-s-end.false, at-loop.loop-end.invariant.1)
 
 pub returns : goal.returns
 returns c =
-    omega (arith, part_none c.args.sep c.args.s.now c.loop-end.end (search rules), c.loop-end.invariant.1)
+    let rest = left c.args.s.now c.args.at c.min.result c.min.ensures in
+    ap (λ (n : ℕ). c.args.at + n)
+    (c.unwrap_or.ensures ∙ ap (λ (o : Option ℕ). unwrap_or o (length rest)) c.first_end.ensures ∙ part_ended c.args.s.now c.args.at c.min.result c.min.ensures c.args.sep)

@@ -5,9 +5,6 @@ use lib.ListN.{length, drop}
 use Rattle.text.specs.Text.{all_digits, decimal}
 use Rattle.usage.proofs.number_asked.Given as goal
 
-abbrev pub invariant-loop-i : goal.invariant-loop-i
-invariant-loop-i l = (l.i ≤ length l.word) × (l.value ≤ l.most) × (all_digits l.word ≡ all_digits (drop l.i l.word))
-    × (min (decimal l.word) l.most ≡ min (l.value * 10 ^ (length l.word - l.i) + decimal (drop l.i l.word)) l.most)
-
-abbrev pub decreases-loop-i : goal.decreases-loop-i
-decreases-loop-i l = length l.word - l.i
+abbrev pub invariant-loop-b : goal.invariant-loop-b
+invariant-loop-b l = (l.value ≤ l.most) × (all_digits l.word ≡ all_digits (drop l.b-index l.word))
+    × (min (decimal l.word) l.most ≡ min (l.value * 10 ^ (length l.word - l.b-index) + decimal (drop l.b-index l.word)) l.most)

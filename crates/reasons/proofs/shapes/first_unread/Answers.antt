@@ -9,19 +9,16 @@ use Rattle.reasons.proofs.shapes.first_unread.Goals as goal
 
 pub returns-then-not-may_stand : goal.returns-then-not-may_stand
 returns-then-not-may_stand c =
-    sym (ap (λ (f : Form). first_failing 0 f.count (readable f c.args.l.now)) (sym c.form_of-f.ensures) ∙ c.loop-i.invariant.2
-    ∙ failing_here _ _ _ c.loop-i-test.true (sym (read_at c.form_of-f.result c.args.l.now c.loop-i.i _ _ _ c.may_stand.ensures c.read_field-x.ensures
+    sym (ap (λ (f : Form). first_failing 0 f.count (readable f c.args.l.now)) (sym c.form_of-f.ensures) ∙ c.loop-i.invariant
+    ∙ failing_here _ _ _ c.loop-i-test.true (sym (read_at c.form_of-f.result c.args.l.now c.loop-i.i _ _ _ c.may_stand.ensures c.read_field.ensures
     c.part.ensures.0) ∙ c.if-not-may_stand.true))
 
 pub loop-i-preserved : goal.loop-i-preserved
-loop-i-preserved c = (
-  c.loop-i.invariant.0,
-  omega arith,
-  c.loop-i.invariant.2 ∙ failing_on _ _ _ c.loop-i-test.true (sym (read_at c.form_of-f.result c.args.l.now c.loop-i.i _ _ _
-      c.may_stand.ensures c.read_field-x.ensures c.part.ensures.0) ∙ c.if-not-may_stand.false),
-)
+loop-i-preserved c =
+    c.loop-i.invariant ∙ failing_on _ _ _ c.loop-i-test.true (sym (read_at c.form_of-f.result c.args.l.now c.loop-i.i _ _ _
+    c.may_stand.ensures c.read_field.ensures c.part.ensures.0) ∙ c.if-not-may_stand.false)
 
 pub returns : goal.returns
 returns c =
-    sym (ap (λ (f : Form). first_failing 0 f.count (readable f c.args.l.now)) (sym c.form_of-f.ensures) ∙ c.loop-i.invariant.2
-    ∙ failing_none _ _ _ c.loop-i-test.false)
+    sym (ap (λ (f : Form). first_failing 0 f.count (readable f c.args.l.now)) (sym c.form_of-f.ensures) ∙ c.loop-i.invariant
+    ∙ failing_none _ _ _ (omega arith))

@@ -18,9 +18,9 @@ returns-then-trace c =
     sym (passed _ _ _ (ap not (sym c.is_record.ensures) ∙ (no_not _ c.if-not-is_record.false))
     ∙ picked _ _ _ (ap not (sym c.fits.ensures) ∙ (yes_not _ c.if-not-fits.true)) ∙ picked _ _ _ c.if-trace.true)
 
-pub returns-then-not-fits : goal.returns-then-not-fits
+pub returns-else-trace : goal.returns-else-trace
 unfolding record_fault
-returns-then-not-fits c =
+returns-else-trace c =
     sym (passed _ _ _ (ap not (sym c.is_record.ensures) ∙ (no_not _ c.if-not-is_record.false))
     ∙ picked _ _ _ (ap not (sym c.fits.ensures) ∙ (yes_not _ c.if-not-fits.true)) ∙ passed _ _ _ c.if-trace.false)
 

@@ -1,12 +1,9 @@
 -- `first_outside` meets its contract: the fields before this one are in their limits.
 use mathlib.Core.Path.{◌≡◌}
-use Prim.Native.Nat.{◌≤◌, ◌-◌}
+use Prim.Native.Nat.{◌-◌}
 use Rattle.lines.specs.Lines.{limit_kept}
 use Rattle.reasons.specs.Reasons.{first_failing}
 use Rattle.reasons.proofs.values.first_outside.Given as goal
 
 abbrev pub invariant-loop-i : goal.invariant-loop-i
-invariant-loop-i l = (l.f.count ≤ 11) × (l.i ≤ l.f.count) × (first_failing 0 l.f.count (limit_kept l.f l.values) ≡ first_failing l.i (l.f.count - l.i) (limit_kept l.f l.values))
-
-abbrev pub decreases-loop-i : goal.decreases-loop-i
-decreases-loop-i l = l.f.count - l.i
+invariant-loop-i l = first_failing 0 l.f.count (limit_kept l.f l.values) ≡ first_failing l.i (l.f.count - l.i) (limit_kept l.f l.values)

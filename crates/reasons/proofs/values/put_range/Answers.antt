@@ -1,7 +1,7 @@
 -- `put_range` meets its contract: its words are stored one after the other.
-use Rattle.put.proofs.Puts.{put_then}
+use Rattle.put.proofs.Texts.{puts_then}
 use Rattle.reasons.proofs.values.put_range.Goals as goal
 
 pub returns : goal.returns
 returns c =
-    put_then (put_then (put_then (put_then c.put_number-next.ensures c.put_bytes-next.ensures) c.put_number-next-2.ensures) c.put_bytes-next-2.ensures) c.put_number.ensures
+    puts_then (puts_then (puts_then (puts_then c.number.ensures c.bytes.ensures) c.number-2.ensures) c.bytes-2.ensures) c.number-3.ensures

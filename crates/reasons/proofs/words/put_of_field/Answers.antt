@@ -1,8 +1,8 @@
 -- `put_of_field` meets its contract: the names, and then the sentence.
 use native.Mathlib.Omega.{arith}
-use Rattle.put.proofs.Puts.{put_then, put_most}
+use Rattle.put.proofs.Texts.{puts_then, puts_most}
 use Rattle.reasons.proofs.words.put_of_field.Goals as goal
 
 pub returns : goal.returns
 returns c =
-    put_most (omega arith) (put_then c.put_field_name-next.ensures c.put_sentence.ensures)
+    puts_most (omega arith) (puts_then c.put_field_name.ensures c.put_sentence.ensures)

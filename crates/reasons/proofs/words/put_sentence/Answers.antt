@@ -2,7 +2,7 @@
 use native.Mathlib.Omega.{arith}
 use mathlib.Core.Path.{ap}
 use Prim.Native.Nat.{ℕ}
-use Rattle.put.proofs.Puts.{put_most, put_as}
+use Rattle.put.proofs.Texts.{puts_most, puts_as}
 use mathlib.Core.List.{List}
 use Rattle.reasons.specs.Words.{filled, sentence}
 use Rattle.reasons.proofs.words.put_sentence.Goals as goal
@@ -10,4 +10,4 @@ use Rattle.reasons.proofs.words.put_sentence.Goals as goal
 pub returns : goal.returns
 unfolding sentence
 returns c =
-    put_most (omega (arith, c.part.ensures.1)) (put_as (ap (λ (l : List ℕ). filled l c.args.x c.args.y) c.part.ensures.0) c.put_filled.ensures)
+    puts_most (omega (arith, c.part.ensures.1)) (puts_as (ap (λ (l : List ℕ). filled l c.args.x c.args.y) c.part.ensures.0) c.put_filled.ensures)
