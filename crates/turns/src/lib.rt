@@ -15,7 +15,8 @@ pub struct Turn {
     pub allowance: u8,
 }
 
-// What the downward choice comes to: the accelerator served (255 for none), and the state with the turns taken.
+// What the downward choice comes to: the accelerator served (255 for none), and the state with the turns taken. No Option: a slot chooses
+// only where something waits, so a None would be a case that its caller has to rule out again.
 #[derive(Clone, Copy)]
 pub struct Choice {
     pub served: u8,
@@ -24,6 +25,7 @@ pub struct Choice {
 
 // The next port after the last one among the live ports, 7 followed by 0; 8 if none is live. The set stands twice, one after
 // the other, and is moved so that bit 0 is the port after the last one: its lowest bit tells how many ports lie before the next.
+// No Option: its callers go on with the number as it is, and read an empty port there.
 pub fn next_port(set: u8, last: u8) -> u8
     ensures { result ≡ next_port set last }
 {
