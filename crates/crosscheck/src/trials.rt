@@ -112,12 +112,7 @@ fn count_zero(s: &[u8], delay: u8, d: &mut [usize; 16384]) {
 }
 
 // Does a wrong rule change the answer on a tree file?
-fn note_reading(
-    s: &[u8],
-    answer: Result<(), FileError>,
-    d: &mut [usize; 16384],
-    wrong: usize,
-) {
+fn note_reading(s: &[u8], answer: Result<(), FileError>, d: &mut [usize; 16384], wrong: usize) {
     let said = read_book(s, d, wrong);
     note(d, WRONG, wrong, same_said(answer, said));
 }

@@ -5,7 +5,6 @@
 
 use answers::channel_number;
 use burst::Burst;
-use inquiry::Waited;
 use model::Channel;
 use plan::{PlanError, refused_line, refused_number};
 use simulation::{Part, Simulation};
@@ -14,6 +13,7 @@ use std::io::Read;
 use std::rt::Files;
 use text::{part_end, same_bytes};
 use usage::{Asked, Denied, Source};
+use waits::Waited;
 
 fn show(out: &impl Print, page: &[u8], n: usize) {
     if n <= page.len() {

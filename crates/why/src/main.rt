@@ -3,12 +3,13 @@
 // error.
 #![tactic(auto)]
 
-use inquiry::{Part, Transaction, Waited};
+use inquiry::{Part, Transaction};
 use printing::{NamedFile, Streams, load, say_text, show_pages, show_text};
 use reasons::explain;
 use std::io::Read;
 use std::rt::Files;
 use usage::{Asked, Denied};
+use waits::Waited;
 
 // The pages of the reply's text: 32,768 lines and the last have at most 33.
 fn show(
@@ -23,12 +24,7 @@ fn show(
 }
 
 // What was refused, by which number and at which line.
-fn explain_part(
-    errors: &impl Print,
-    e: Denied<Part>,
-    tree: NamedFile<'_>,
-    trace: NamedFile<'_>,
-) {
+fn explain_part(errors: &impl Print, e: Denied<Part>, tree: NamedFile<'_>, trace: NamedFile<'_>) {
     match e.part {
         Part::Tree => explain(errors, tree.name, false, tree.bytes, e.number, e.line),
         Part::Trace => explain(errors, trace.name, true, trace.bytes, e.number, e.line),
