@@ -17,7 +17,7 @@ use bounds::Figures;
 use burst::joiner::{JoinReply, Progress};
 use lines::{FileError, answer_line, answer_number};
 use model::{Channel, Refusal, number};
-use runner::Ended;
+use runner::RunEnd;
 use splitting::Part;
 use usage::Denied;
 use waits::{Waited, WhyError};
@@ -163,19 +163,19 @@ pub fn count_of(answer: Result<(), FileError>, accelerators: u8) -> Count
 }
 
 // How a run ended.
-pub fn outcome_of(answer: Result<Ended, FileError>) -> Outcome
+pub fn outcome_of(answer: Result<RunEnd, FileError>) -> Outcome
     ensures { result ≡ outcome_of (run_means answer) }
 {
     match answer {
         Err(FileError::Refused(r, n)) => refused_by(3, number(r), n),
         Err(FileError::Broken) => refused_by(3, 11, 0),
-        Ok(Ended::Done(n)) => Outcome {
+        Ok(RunEnd::Done(n)) => Outcome {
             kind: 0,
             number: 0,
             line: 0,
             slots: n,
         },
-        Ok(Ended::Stopped(n)) => Outcome {
+        Ok(RunEnd::Stopped(n)) => Outcome {
             kind: 1,
             number: 0,
             line: 0,

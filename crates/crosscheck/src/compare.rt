@@ -45,8 +45,8 @@ fn run_library(t: Tree, channel: usize, trace: &[u8], out: &mut [u8]) -> Ended {
     match runner::run(t, channel_of(channel), trace, out) {
         Err(FileError::Refused(r, line)) => refused(model::number(r) as usize, line as usize),
         Err(FileError::Broken) => refused(11, 0),
-        Ok(runner::Ended::Done(n)) => run_end(true, n as usize),
-        Ok(runner::Ended::Stopped(n)) => run_end(false, n as usize),
+        Ok(runner::RunEnd::Done(n)) => run_end(true, n as usize),
+        Ok(runner::RunEnd::Stopped(n)) => run_end(false, n as usize),
     }
 }
 

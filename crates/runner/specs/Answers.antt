@@ -6,13 +6,13 @@ use Rattle.model.specs.Answer.{number_of}
 use Rattle.std.specs.Prelude.{Result, Ok, Err}
 use Rattle.lines.specs.declared.FileError.{FileError}
 use Rattle.lines.specs.declared.FileError.TheVariants.{Refused, Broken}
-use Rattle.runner.specs.declared.Ended.{Ended}
-use Rattle.runner.specs.declared.Ended.TheVariants.{Done, Stopped}
+use Rattle.runner.specs.declared.RunEnd.{RunEnd}
+use Rattle.runner.specs.declared.RunEnd.TheVariants.{Done, Stopped}
 use Rattle.runner.specs.declared.Wait.{Wait}
 use Rattle.runner.specs.Wait.{Waits, waits}
 use Rattle.runner.specs.Run.{Ending, refused_at, broken, done, stopped}
 
-abbrev pub run_means : Result Ended FileError → Ending
+abbrev pub run_means : Result RunEnd FileError → Ending
 run_means (Err (Refused r n)) = refused_at (number_of r) n
 run_means (Err Broken) = broken 11
 run_means (Ok (Done n)) = done n

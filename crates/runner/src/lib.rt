@@ -26,7 +26,7 @@ pub const IDLE: u8 = 255;
 
 // How a run ended: done or stopped, with the number of slots used.
 #[derive(Clone, Copy, PartialEq, Eq)]
-pub enum Ended {
+pub enum RunEnd {
     Done(u32),
     Stopped(u32),
 }
@@ -65,7 +65,7 @@ pub struct Wait {
 // and what the run tells of one transaction.
 #[derive(Clone, Copy)]
 pub struct RunWait {
-    pub answer: Result<Ended, FileError>,
+    pub answer: Result<RunEnd, FileError>,
     pub wait: Wait,
 }
 
@@ -85,13 +85,13 @@ fn untold(error: FileError) -> RunWait
 }
 
 // How a run that used so many slots ended.
-fn ended(done: bool, used: u32) -> Ended
+fn ended(done: bool, used: u32) -> RunEnd
     ensures { run_means (Ok result) ≡ end_after done used }
 {
     if done {
-        return Ended::Done(used);
+        return RunEnd::Done(used);
     }
-    Ended::Stopped(used)
+    RunEnd::Stopped(used)
 }
 
 // The run of an accepted trace on a channel, one byte a slot, until nothing is left or the buffer is full, and what it tells of transaction k of
@@ -173,7 +173,7 @@ pub fn run_wait(t: Tree, channel: Channel, trace: &[u8], a: u8, k: u32, out: &mu
 }
 
 // Runs the trace on a channel of the configuration and writes one byte a slot into `out`.
-pub fn run(t: Tree, channel: Channel, trace: &[u8], out: &mut [u8]) -> Result<Ended, FileError>
+pub fn run(t: Tree, channel: Channel, trace: &[u8], out: &mut [u8]) -> Result<RunEnd, FileError>
     ensures answer { run_means result ≡ ran_of t channel trace.now (length out.old) }
     ensures bytes { out.new ≡ buffer_after t channel trace.now out.old }
 {
