@@ -8,7 +8,6 @@ ghost use Rattle.admit.specs.Admitting.{answer_on, offered_on, offers_of, is_in,
 use counts::{Ports, Table};
 use machine::limits_answer;
 use model::Refusal;
-use rules::less_one;
 
 // What a run keeps in place of a state: how many transactions of each accelerator are outstanding, admitted in this window and held, and
 // what is kept of the ports.
@@ -33,7 +32,7 @@ impl Arrays {
         let limit = table.limit[i] as u32;
         let budget = table.budget[i] as u32;
         limits_answer(limit, outstanding, budget, admitted)?;
-        self.held[i] = less_one(self.held[i]);
+        self.held[i] = self.held[i].saturating_sub(1);
         self.outstanding[i] = outstanding + 1;
         self.admitted[i] = admitted + 1;
         self.ports.add_along(table, table.own_port[i]);
@@ -62,10 +61,11 @@ impl Arrays {
     {
         let mut a = first as u32;
         let mut rest = others;
+        // The members by the lowest bit of those left: a `for` over the thirty-two numbers would test each in each slot.
         while (a < 32) | (rest != 0) {
             self.offer_held(a as u8, table);
             a = u32::trailing_zeros(rest);
-            rest = rest & less_one(rest);
+            rest &= rest.saturating_sub(1);
         }
     }
 }

@@ -21,7 +21,7 @@ fn edge(d: &mut [usize; 16384]) -> usize {
     EDGES[i]
 }
 
-fn byte(x: usize) -> u8 {
+pub(crate) fn byte(x: usize) -> u8 {
     (x % 256) as u8
 }
 
@@ -29,45 +29,21 @@ fn pair(x: usize) -> u16 {
     (x % 65536) as u16
 }
 
-fn with_bus_bytes(b: Bus, which: usize, x: u8) -> Bus {
+// The bus line with another number.
+fn with_bus_entry(b: Bus, which: usize, n: usize) -> Bus {
     let mut next = b;
-    if which == 0 {
-        next.ta = x;
-    }
-    if which == 1 {
-        next.da = x;
-    }
-    if which == 2 {
-        next.dd = x;
-    }
-    if which == 3 {
-        next.db = x;
-    }
-    if which == 4 {
-        next.td = x;
-    }
-    if which == 5 {
-        next.tb = x;
-    }
-    if which == 10 {
-        next.delay = x;
-    }
-    next
-}
-
-fn with_bus_pairs(b: Bus, which: usize, x: u16) -> Bus {
-    let mut next = b;
-    if which == 6 {
-        next.window = x;
-    }
-    if which == 7 {
-        next.pr = x;
-    }
-    if which == 8 {
-        next.pw = x;
-    }
-    if which == 9 {
-        next.burst = x;
+    match which {
+        0 => next.ta = byte(n),
+        1 => next.da = byte(n),
+        2 => next.dd = byte(n),
+        3 => next.db = byte(n),
+        4 => next.td = byte(n),
+        5 => next.tb = byte(n),
+        6 => next.window = pair(n),
+        7 => next.pr = pair(n),
+        8 => next.pw = pair(n),
+        9 => next.burst = pair(n),
+        _ => next.delay = byte(n),
     }
     next
 }
@@ -87,33 +63,27 @@ fn with_bus(t: Tree, d: &mut [usize; 16384]) -> Tree {
     if 10 < which {
         next.bus = with_other_name(t.bus);
     } else {
-        next.bus = with_bus_pairs(with_bus_bytes(t.bus, which, byte(x)), which, pair(x));
+        next.bus = with_bus_entry(t.bus, which, x);
     }
     next
 }
 
 pub(crate) fn with_interconnect(t: Tree, j: usize, x: Interconnect) -> Tree {
     let mut next = t;
-    let mut all = t.interconnects;
-    all[j % 15] = x;
-    next.interconnects = all;
+    next.interconnects[j % 15] = x;
     next
 }
 
 pub(crate) fn with_accelerator(t: Tree, a: usize, x: Accelerator) -> Tree {
     let mut next = t;
-    let mut all = t.accelerators;
-    all[a % 32] = x;
-    next.accelerators = all;
+    next.accelerators[a % 32] = x;
     next
 }
 
 // The tree with x on port p of interconnect j.
 pub(crate) fn with_port(t: Tree, j: u8, p: u8, x: Port) -> Tree {
     let mut here = interconnect_at(t, j);
-    let mut all = here.ports;
-    all[(p % 8) as usize] = PortCell { port: x };
-    here.ports = all;
+    here.ports[(p % 8) as usize] = PortCell { port: x };
     with_interconnect(t, j as usize, here)
 }
 
@@ -136,79 +106,65 @@ fn some_port(d: &mut [usize; 16384]) -> u8 {
     byte(number_below(d, 8))
 }
 
+pub(crate) fn with_int_entry(x: Interconnect, which: usize, n: u8) -> Interconnect {
+    let mut next = x;
+    match which {
+        0 => next.parent = n,
+        1 => next.port = n,
+        _ => next.granularity = n,
+    }
+    next
+}
+
 // The tree with another number in an interconnect.
-fn with_int_entry(t: Tree, d: &mut [usize; 16384]) -> Tree {
+fn with_int(t: Tree, d: &mut [usize; 16384]) -> Tree {
     let j = some_int(t, d);
-    let mut x = interconnect_at(t, j);
     let which = number_below(d, 3);
     let n = byte(edge(d));
-    if which == 0 {
-        x.parent = n;
-    }
-    if which == 1 {
-        x.port = n;
-    }
-    if which == 2 {
-        x.granularity = n;
-    }
-    with_interconnect(t, j as usize, x)
+    with_interconnect(
+        t,
+        j as usize,
+        with_int_entry(interconnect_at(t, j), which, n),
+    )
 }
 
 // The tree with something else on a port.
 fn with_cell(t: Tree, d: &mut [usize; 16384]) -> Tree {
     let j = some_int(t, d);
     let p = some_port(d);
-    let kind = number_below(d, 3);
-    if kind == 0 {
-        return with_port(t, j, p, Port::Empty);
-    }
-    if kind == 1 {
-        return with_port(t, j, p, Port::Acc(some_acc(t, d)));
-    }
-    with_port(t, j, p, Port::Int(some_int(t, d)))
+    let x = match number_below(d, 3) {
+        0 => Port::Empty,
+        1 => Port::Acc(some_acc(t, d)),
+        _ => Port::Int(some_int(t, d)),
+    };
+    with_port(t, j, p, x)
 }
 
-pub(crate) fn with_place(x: Accelerator, which: usize, n: u8) -> Accelerator {
+pub(crate) fn with_acc_entry(x: Accelerator, which: usize, n: usize) -> Accelerator {
     let mut next = x;
-    if which == 0 {
-        next.interconnect = n;
-    }
-    if which == 1 {
-        next.port = n;
-    }
-    if which == 2 {
-        next.phi = n;
-    }
-    next
-}
-
-pub(crate) fn with_job(x: Accelerator, which: usize, n: usize) -> Accelerator {
-    let mut next = x;
-    if which == 3 {
-        next.budget = pair(n);
-    }
-    if which == 4 {
-        next.reads = pair(n);
-    }
-    if which == 5 {
-        next.writes = pair(n);
-    }
-    if which == 6 {
-        next.computing = (n % 65536) as u32;
-    }
-    if which == 7 {
-        next.period = (n % 65536) as u32;
+    match which {
+        0 => next.interconnect = byte(n),
+        1 => next.port = byte(n),
+        2 => next.phi = byte(n),
+        3 => next.budget = pair(n),
+        4 => next.reads = pair(n),
+        5 => next.writes = pair(n),
+        6 => next.computing = pair(n) as u32,
+        _ => next.period = pair(n) as u32,
     }
     next
 }
 
 // The tree with another number in an accelerator.
-fn with_acc_entry(t: Tree, d: &mut [usize; 16384]) -> Tree {
+fn with_acc(t: Tree, d: &mut [usize; 16384]) -> Tree {
     let a = some_acc(t, d);
     let which = number_below(d, 8);
     let n = edge(d);
-    let x = with_place(accelerator_at(t, a), which, byte(n));
-    with_accelerator(t, a as usize, with_job(x, which, n))
+    with_accelerator(
+        t,
+        a as usize,
+        with_acc_entry(accelerator_at(t, a), which, n),
+    )
 }
 
 // The tree with another count of interconnects or accelerators.
@@ -236,18 +192,18 @@ fn grown(t: Tree, d: &mut [usize; 16384]) -> Tree {
     next
 }
 
+// The tree with x taken from port q of interconnect i to port p of interconnect j.
+fn with_port_moved(t: Tree, x: Port, i: u8, q: u8, j: u8, p: u8) -> Tree {
+    with_port(with_port(t, i, q, Port::Empty), j, p, x)
+}
+
 // The tree with an interconnect moved to any port of any interconnect.
 fn with_int_moved(t: Tree, d: &mut [usize; 16384]) -> Tree {
     let child = some_int(t, d);
     let j = some_int(t, d);
     let p = some_port(d);
     let old = interconnect_at(t, child);
-    let next = with_port(
-        with_port(t, old.parent, old.port, Port::Empty),
-        j,
-        p,
-        Port::Int(child),
-    );
+    let next = with_port_moved(t, Port::Int(child), old.parent, old.port, j, p);
     let mut x = interconnect_at(next, child);
     x.parent = j;
     x.port = p;
@@ -260,44 +216,22 @@ fn with_acc_moved(t: Tree, d: &mut [usize; 16384]) -> Tree {
     let j = some_int(t, d);
     let p = some_port(d);
     let mut x = accelerator_at(t, a);
-    let next = with_port(
-        with_port(t, x.interconnect, x.port, Port::Empty),
-        j,
-        p,
-        Port::Acc(a),
-    );
+    let next = with_port_moved(t, Port::Acc(a), x.interconnect, x.port, j, p);
     x.interconnect = j;
     x.port = p;
     with_accelerator(next, a as usize, x)
 }
 
-fn moved(t: Tree, which: usize, d: &mut [usize; 16384]) -> Tree {
-    if which == 5 {
-        return grown(t, d);
-    }
-    if which == 6 {
-        return with_int_moved(t, d);
-    }
-    with_acc_moved(t, d)
-}
-
 // The tree altered in one way.
 pub fn altered(t: Tree, d: &mut [usize; 16384]) -> Tree {
-    let which = number_below(d, 8);
-    if which == 0 {
-        return with_bus(t, d);
+    match number_below(d, 8) {
+        0 => with_bus(t, d),
+        1 => with_int(t, d),
+        2 => with_cell(t, d),
+        3 => with_acc(t, d),
+        4 => with_count(t, d),
+        5 => grown(t, d),
+        6 => with_int_moved(t, d),
+        _ => with_acc_moved(t, d),
     }
-    if which == 1 {
-        return with_int_entry(t, d);
-    }
-    if which == 2 {
-        return with_cell(t, d);
-    }
-    if which == 3 {
-        return with_acc_entry(t, d);
-    }
-    if which == 4 {
-        return with_count(t, d);
-    }
-    moved(t, which, d)
 }

@@ -18,13 +18,12 @@ pub fn interference_of(n: u16, share: u64) -> Slots
 
 // The wait of n transactions for a new window: at most this budget of them is admitted in a window, so they take n / budget
 // windows, rounded up, each of `window` slots. Without transactions there is no wait.
+#[tactic(auto, using(folds::proofs::Ceiling::ceiling_lem))]
 fn held_slots(n: u16, budget: u16, window: u16) -> Slots
     requires { 1 ≤ budget }
     ensures { result.0 ≡ held_slots n budget window }
 {
-    let b = budget as u64;
-    let p = window as u64;
-    Slots((n as u64 + (b - 1)) / b * p)
+    Slots(u64::from(n.div_ceil(budget)) * u64::from(window))
 }
 
 fn product(a: u16, b: u16) -> u64
@@ -36,7 +35,7 @@ fn product(a: u16, b: u16) -> u64
 fn larger(a: u8, b: u8) -> u16
     ensures { result ≡ max a b }
 {
-    if a < b { b as u16 } else { a as u16 }
+    u16::from(a.max(b))
 }
 
 // A read alone, at this level.

@@ -81,7 +81,7 @@ fn split_answer(limit: u32, ok: bool, n: u32, b: Burst) -> Result<u32, Refusal>
     if crosses_page(b) {
         return Err(Refusal::Page);
     }
-    Ok((b.beats + (n - 1)) / n)
+    Ok(b.beats.div_ceil(n))
 }
 
 // The start address of piece i of k, or 0 where there is none.

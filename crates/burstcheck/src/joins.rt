@@ -2,8 +2,8 @@
 use crate::splits::{NUMBERS, number_at};
 use crate::{same_join, wide};
 use burst::joiner::{Joiner, join, joiner_for};
+use second::Wrong;
 use second::bursts::{DONE, Joined, join_one};
-use second::{DONE_EARLY, NO_WRONG_RULE};
 use store::{DIFFERENCES, WRONG, add, get, note};
 
 // Answers to a joiner: 0 taken, 1 done, else by the number of the refusal.
@@ -20,15 +20,13 @@ fn count_join(y: Joined, d: &mut [usize; 16384]) {
     }
 }
 
-// The wrong rule whose turn it is, or none.
-fn wrong_in_turn(d: &mut [usize; 16384]) -> usize {
+// The wrong rules in turn, and none.
+const RULES: [Wrong; 3] = [Wrong::DoneEarly, Wrong::AfterLast, Wrong::Nothing];
+
+fn wrong_in_turn(d: &mut [usize; 16384]) -> Wrong {
     let turn = get(d, TURNS, 0) % 3;
     add(d, TURNS, 0, 1);
-    if turn < 2 {
-        DONE_EARLY + turn
-    } else {
-        NO_WRONG_RULE
-    }
+    RULES[turn]
 }
 
 // An answer of this number; and by a wrong rule.
@@ -36,13 +34,13 @@ fn try_join(j: Joiner, number: u32, d: &mut [usize; 16384]) {
     let x = join(j, number);
     let pieces = wide(j.pieces);
     let answered = wide(j.answered);
-    let y = join_one(pieces, answered, wide(number), NO_WRONG_RULE);
+    let y = join_one(pieces, answered, wide(number), Wrong::Nothing);
     note(d, DIFFERENCES, 0, same_join(x, y));
     count_join(y, d);
     let wrong = wrong_in_turn(d);
-    if wrong != NO_WRONG_RULE {
+    if wrong != Wrong::Nothing {
         let z = join_one(pieces, answered, wide(number), wrong);
-        note(d, WRONG, wrong, same_join(x, z));
+        note(d, WRONG, wrong as usize, same_join(x, z));
     }
 }
 

@@ -56,10 +56,8 @@ pub fn same_entries(a: &[u32; 256], part: usize, d: &[usize; 16384]) -> bool
     ensures { result ≡ same_entries a.now part d.now }
 {
     let mut same = true;
-    let mut i: usize = 0;
-    while i < 256 {
-        same = same & (wide(a[i]) == get(d, part, i));
-        i += 1;
+    for i in 0..256 {
+        same &= wide(a[i]) == get(d, part, i);
     }
     same
 }

@@ -11,10 +11,10 @@ use generator::number_below;
 use machine::{fresh, slot, zero_state};
 use model::access::{admitted_of, allowance_of, last_of, waiting_of};
 use model::{Channel, State, Tree};
+use second::Wrong;
 use second::book::{READ, WRITE};
 use second::bursts::Offered;
-use second::calls::{CHANNEL, LEFT, PORT, SPENT, WAITS, alter, set_slot_count};
-use second::{BEATS_256, BURST_FIRST, NO_WRONG_RULE, ONE_OFFER};
+use second::calls::{PARTS, Part, alter, set_slot_count};
 use store::{DIFFERENCES, WRONG, add, get, note};
 use treecheck::judge;
 
@@ -58,11 +58,11 @@ fn channel_number(c: Channel) -> usize {
 fn put_records(s: State, d: &mut [usize; 16384]) {
     for a in 0..32u8 {
         let i = a as usize;
-        alter(d, WAITS, i, waiting_of(s, a) as usize);
-        alter(d, SPENT, i, admitted_of(s, a) as usize);
+        alter(d, Part::Waiting, i, waiting_of(s, a) as usize);
+        alter(d, Part::Used, i, admitted_of(s, a) as usize);
         if a < 15 {
-            alter(d, PORT, i, last_of(s, a) as usize);
-            alter(d, LEFT, i, allowance_of(s, a) as usize);
+            alter(d, Part::LastPort, i, last_of(s, a) as usize);
+            alter(d, Part::Allowance, i, allowance_of(s, a) as usize);
         }
     }
 }
@@ -70,23 +70,23 @@ fn put_records(s: State, d: &mut [usize; 16384]) {
 // The second machine is given the state, on a tree with this return delay.
 fn put_state(s: State, delay: u8, d: &mut [usize; 16384]) {
     let c = s.channel;
-    alter(d, CHANNEL, 0, channel_number(c));
+    alter(d, Part::Channel, 0, channel_number(c));
     set_slot_count(d, s.slot as usize);
     put_records(s, d);
     give_all(s, delay, d);
 }
 
 // What the second machine does on the state.
-fn second_offer(t: Tree, s: State, c: Call, d: &mut [usize; 16384], wrong: usize) -> Offered {
+fn second_offer(t: Tree, s: State, c: Call, d: &mut [usize; 16384], wrong: Wrong) -> Offered {
     put_state(s, t.bus.delay, d);
     second::bursts::offer_burst(asked(c.b), c.a as usize, wide(c.from), d, wrong)
 }
 
 // Is a wrong rule seen?
-fn note_wrong(t: Tree, s: State, c: Call, x: BurstReply, d: &mut [usize; 16384], wrong: usize) {
+fn note_wrong(t: Tree, s: State, c: Call, x: BurstReply, d: &mut [usize; 16384], wrong: Wrong) {
     let z = second_offer(t, s, c, d, wrong);
     let same = same_offered(x, z, t.bus.delay, d);
-    note(d, WRONG, wrong, same);
+    note(d, WRONG, wrong as usize, same);
 }
 
 fn count_offer(c: Call, axi3: bool, y: Offered, d: &mut [usize; 16384]) {
@@ -98,14 +98,19 @@ fn count_offer(c: Call, axi3: bool, y: Offered, d: &mut [usize; 16384]) {
     note(d, OVER_16_OFFERED, 0, !over);
 }
 
-// The wrong rule whose turn it is.
-fn wrong_in_turn(d: &mut [usize; 16384]) -> usize {
+// The wrong rules in turn.
+const RULES: [Wrong; 5] = [
+    Wrong::OneOffer,
+    Wrong::FromFirst,
+    Wrong::RefusedCounted,
+    Wrong::Beats256,
+    Wrong::Beats16,
+];
+
+fn wrong_in_turn(d: &mut [usize; 16384]) -> Wrong {
     let turn = get(d, TURNS, 0) % 5;
     add(d, TURNS, 0, 1);
-    if turn < 3 {
-        return ONE_OFFER + turn;
-    }
-    BEATS_256 + (turn - 3)
+    RULES[turn]
 }
 
 // An offered burst on a tree that is in the rows too; and by a wrong rule.
@@ -113,12 +118,12 @@ fn try_offer(t: Tree, s: State, c: Call, d: &mut [usize; 16384]) -> State {
     let x = offer_burst(t, s, c.a, c.b, c.from);
     let wrong = wrong_in_turn(d);
     note_wrong(t, s, c, x, d, wrong);
-    let y = second_offer(t, s, c, d, NO_WRONG_RULE);
+    let y = second_offer(t, s, c, d, Wrong::Nothing);
     let same = same_offered(x, y, t.bus.delay, d);
     note(d, DIFFERENCES, 0, same);
     count_offer(c, t.bus.axi3, y, d);
     if y.number == 11 {
-        note_wrong(t, s, c, x, d, BURST_FIRST);
+        note_wrong(t, s, c, x, d, Wrong::BurstFirst);
     }
     x.state
 }
@@ -172,10 +177,10 @@ pub fn try_offers(t: Tree, d: &mut [usize; 16384]) -> State {
 
 // The same where an entry of the state is altered at random, on a tree that may be another than that of the state.
 pub fn try_altered(t: Tree, s: State, d: &mut [usize; 16384]) {
-    let which = number_below(d, 4);
+    let part = PARTS[number_below(d, 4) % 4];
     let i = number_below(d, 32);
     let n = number_below(d, 10) % 256;
-    try_calls(t, altered(s, which, i, n as u16), 3, d);
+    try_calls(t, altered(s, part, i, n as u16), 3, d);
 }
 
 // The same on another tree that is in the rows, from the state as it is.

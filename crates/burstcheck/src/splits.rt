@@ -5,9 +5,9 @@ use burst::{Burst, split};
 use generator::bursts::{bytes_of, some_beats, some_size, some_start};
 use generator::number_below;
 use model::{Bus, Tree};
+use second::Wrong;
 use second::book::most_beats;
 use second::bursts::{Asked, BEATS, STARTS, Split, split_one};
-use second::{BEATS_256, LAST_FULL, NO_WRONG_RULE};
 use store::{DIFFERENCES, WRONG, add, get, note, put};
 use treecheck::judge;
 
@@ -103,19 +103,15 @@ pub(crate) fn asked(b: Burst) -> Asked {
 
 // A pattern, from x on, into each entry of an array,
 fn fill(a: &mut [u32; 256], x: u32) {
-    let mut i: usize = 0;
-    while i < 256 {
+    for i in 0..256usize {
         a[i] = std::num::wrapping_add_u32(x, i as u32);
-        i += 1;
     }
 }
 
 // and of a part of the store.
 fn fill_part(d: &mut [usize; 16384], part: usize, x: u32) {
-    let mut i: usize = 0;
-    while i < 256 {
+    for i in 0..256 {
         put(d, part, i, std::num::wrapping_add_usize(wide(x), i));
-        i += 1;
     }
 }
 
@@ -132,7 +128,7 @@ pub fn fill_parts(d: &mut [usize; 16384]) {
 }
 
 // The second splitter, on entries as they are before a split.
-pub fn second_split(b: Burst, d: &mut [usize; 16384], wrong: usize) -> Split {
+pub fn second_split(b: Burst, d: &mut [usize; 16384], wrong: Wrong) -> Split {
     fill_parts(d);
     split_one(asked(b), d, wrong)
 }
@@ -154,8 +150,7 @@ fn end_in_page(b: Burst) -> usize {
 }
 
 fn is_good(size: u32) -> bool {
-    let small = (size == 1) | (size == 2) | (size == 4) | (size == 8);
-    small | (size == 16) | (size == 32) | (size == 64) | (size == 128)
+    matches!(size, 1 | 2 | 4 | 8 | 16 | 32 | 64 | 128)
 }
 
 // Is it a burst by AXI4, and by its beats none by AXI3?
@@ -180,17 +175,27 @@ fn count_split(b: Burst, axi3: bool, y: Split, d: &mut [usize; 16384]) {
     }
 }
 
-// The wrong rule whose turn it is, or none.
-fn wrong_in_turn(d: &mut [usize; 16384]) -> usize {
+// The wrong rules in turn, and none three times.
+const RULES: [Wrong; 13] = [
+    Wrong::LastFull,
+    Wrong::NotRounded,
+    Wrong::ByLength,
+    Wrong::EndCrosses,
+    Wrong::PageFirst,
+    Wrong::BurstFirst,
+    Wrong::ThreeBytes,
+    Wrong::EntriesLeft,
+    Wrong::Beats256,
+    Wrong::Beats16,
+    Wrong::Nothing,
+    Wrong::Nothing,
+    Wrong::Nothing,
+];
+
+fn wrong_in_turn(d: &mut [usize; 16384]) -> Wrong {
     let turn = get(d, TURNS, 0) % 13;
     add(d, TURNS, 0, 1);
-    if turn < 8 {
-        return LAST_FULL + turn;
-    }
-    if turn < 10 {
-        return BEATS_256 + (turn - 8);
-    }
-    NO_WRONG_RULE
+    RULES[turn]
 }
 
 // A burst on a tree that is in the rows too: answer and entries; and by a wrong rule.
@@ -204,12 +209,12 @@ fn try_split(
     fill_both(starts, beats);
     let x = split(t, b, starts, beats);
     let wrong = wrong_in_turn(d);
-    if wrong != NO_WRONG_RULE {
+    if wrong != Wrong::Nothing {
         let z = second_split(b, d, wrong);
         let seen = same_both(starts, beats, d);
-        note(d, WRONG, wrong, same_split(x, z) & seen);
+        note(d, WRONG, wrong as usize, same_split(x, z) & seen);
     }
-    let y = second_split(b, d, NO_WRONG_RULE);
+    let y = second_split(b, d, Wrong::Nothing);
     let same = same_both(starts, beats, d);
     note(d, DIFFERENCES, 0, same_split(x, y) & same);
     count_split(b, t.bus.axi3, y, d);

@@ -21,16 +21,13 @@ use generator::number_below;
 use machine::{fresh, offer, slot, zero_state};
 use model::access::{accelerator_at, admitted_of, allowance_of, last_of, returns_of, waiting_of};
 use model::{Channel, Refusal, State, Tree, number};
+use second::Wrong;
 use second::book::{READ, WRITE, other};
 use second::calls::{
-    CHANNEL, last_port, left, offer_answer, offer_one, rules_broken, slot_count, slot_one,
+    PARTS, Part, last_port, left, offer_answer, offer_one, rules_broken, slot_count, slot_one,
     slot_refusal, start_one, used, waiting,
 };
 use second::queues::channel;
-use second::{
-    BUDGET_FIRST, DUE_NOW, JOB_FIRST, JOB_LAST, JOBLESS_KEPT, LAST_FIRST, NO_WRONG_RULE,
-    OTHER_CHANNEL, UNKNOWN_FIRST,
-};
 use store::{DIFFERENCES, WRONG, add, note};
 
 // Offers by the number of their answer.
@@ -86,10 +83,8 @@ fn same_records(s: State, delay: u8, d: &[usize; 16384]) -> bool
     ensures { result ≡ all 32 (λ a. same_record s a delay d.now) }
 {
     let mut same = true;
-    let mut a: u8 = 0;
-    while a < 32 {
-        same = same & same_record(s, a, delay, d);
-        a += 1;
+    for a in 0..32 {
+        same &= same_record(s, a, delay, d);
     }
     same
 }
@@ -98,10 +93,8 @@ fn same_turns(s: State, d: &[usize; 16384]) -> bool
     ensures { result ≡ all 15 (λ j. same_turn s j d.now) }
 {
     let mut same = true;
-    let mut j: u8 = 0;
-    while j < 15 {
-        same = same & same_turn(s, j, d);
-        j += 1;
+    for j in 0..15 {
+        same &= same_turn(s, j, d);
     }
     same
 }
@@ -159,22 +152,22 @@ fn slot_kind(code: usize) -> usize {
 }
 
 // On an offer that answers this, is a wrong rule seen?
-fn note_offer(a: usize, answer: usize, wrong: usize, d: &mut [usize; 16384]) {
+fn note_offer(a: usize, answer: usize, wrong: Wrong, d: &mut [usize; 16384]) {
     let wrongly = offer_answer(d, a, wrong);
-    note(d, WRONG, wrong, answer == wrongly);
+    note(d, WRONG, wrong as usize, answer == wrongly);
 }
 
 // On an offer that answers this, is one of the wrong rules on jobs seen? Each is asked where it could answer something else.
 fn note_jobs(a: usize, answer: usize, d: &mut [usize; 16384]) {
     if answer == 7 {
-        note_offer(a, answer, JOB_FIRST, d);
+        note_offer(a, answer, Wrong::JobFirst, d);
     }
     if answer == 11 {
-        note_offer(a, answer, JOBLESS_KEPT, d);
+        note_offer(a, answer, Wrong::JoblessKept, d);
     }
     if answer == 14 {
-        note_offer(a, answer, JOB_LAST, d);
-        note_offer(a, answer, OTHER_CHANNEL, d);
+        note_offer(a, answer, Wrong::JobLast, d);
+        note_offer(a, answer, Wrong::OtherChannel, d);
     }
 }
 
@@ -188,11 +181,11 @@ fn try_offer(t: Tree, s: State, a: u8, d: &mut [usize; 16384]) -> State {
     let r = offer(t, s, a);
     let said = r.answer;
     let answer = offer_number(said);
-    note_offer(a as usize, answer, BUDGET_FIRST, d);
-    note_offer(a as usize, answer, UNKNOWN_FIRST, d);
-    note_offer(a as usize, answer, DUE_NOW, d);
+    note_offer(a as usize, answer, Wrong::BudgetFirst, d);
+    note_offer(a as usize, answer, Wrong::UnknownFirst, d);
+    note_offer(a as usize, answer, Wrong::DueNow, d);
     note_jobs(a as usize, answer, d);
-    let ours = offer_one(d, a as usize, NO_WRONG_RULE);
+    let ours = offer_one(d, a as usize, Wrong::Nothing);
     let next = r.state;
     let same = same_state(next, t.bus.delay, d);
     note(d, DIFFERENCES, 0, (answer == ours) & same);
@@ -209,21 +202,21 @@ fn slot_number(code: usize) -> usize {
 }
 
 // On a slot that answers this, is a wrong rule seen?
-fn note_slot(code: usize, wrong: usize, d: &mut [usize; 16384]) {
+fn note_slot(code: usize, wrong: Wrong, d: &mut [usize; 16384]) {
     let wrongly = slot_refusal(d, wrong);
-    note(d, WRONG, wrong, slot_number(code) == wrongly);
+    note(d, WRONG, wrong as usize, slot_number(code) == wrongly);
 }
 
 fn try_slot(t: Tree, s: State, d: &mut [usize; 16384]) -> State {
     let r = slot(t, s);
     let said = r.answer;
     let code = slot_code(said);
-    note_slot(code, LAST_FIRST, d);
-    note_slot(code, DUE_NOW, d);
+    note_slot(code, Wrong::LastFirst, d);
+    note_slot(code, Wrong::DueNow, d);
     if slot_number(code) == 11 {
-        note_slot(code, JOBLESS_KEPT, d);
+        note_slot(code, Wrong::JoblessKept, d);
     }
-    let ours = slot_one(d, NO_WRONG_RULE);
+    let ours = slot_one(d, Wrong::Nothing);
     let next = r.state;
     let same = same_state(next, t.bus.delay, d);
     note(d, DIFFERENCES, 0, (code == ours) & same);
@@ -254,21 +247,21 @@ fn try_late_and_early(t: Tree, s: State, n: usize, d: &mut [usize; 16384]) {
 // Calls where the state is that of the other channel.
 fn try_changed(t: Tree, s: State, d: &mut [usize; 16384]) {
     let next = of_other_channel(s, d);
-    let keeps = !rules_broken(d, NO_WRONG_RULE);
+    let keeps = !rules_broken(d, Wrong::Nothing);
     add(d, CHANGED, keeps as usize, 1);
     try_late_and_early(t, next, 8, d);
 }
 
 // Calls where one entry is altered at random.
 fn try_altered(t: Tree, s: State, d: &mut [usize; 16384]) {
-    let which = number_below(d, 5);
-    if which == CHANNEL {
+    let part = PARTS[number_below(d, 5) % 5];
+    if part == Part::Channel {
         try_changed(t, s, d);
         return;
     }
     let i = number_below(d, 32);
     let n = (number_below(d, 10) % 256) as u16;
-    try_late_and_early(t, alter_both(s, which, i, n, d), 8, d);
+    try_late_and_early(t, alter_both(s, part, i, n, d), 8, d);
 }
 
 // Calls where the returns of an accelerator are altered.
@@ -277,7 +270,7 @@ fn try_returns(t: Tree, s: State, d: &mut [usize; 16384]) {
     let a = some_accelerator(t, way, d);
     let x = altered_bits(returns_of(s, a), way, t.bus.delay as usize, d);
     let next = with_returns(t, s, a, x, d);
-    if rules_broken(d, NO_WRONG_RULE) {
+    if rules_broken(d, Wrong::Nothing) {
         add(d, BROKEN, way, 1);
     } else {
         add(d, KEPT, way, 1);
@@ -293,7 +286,7 @@ fn try_jobless(t: Tree, s: State, d: &mut [usize; 16384]) {
     }
     let way = number_below(d, 4);
     let next = with_jobless(t, s, a, way, d);
-    if rules_broken(d, NO_WRONG_RULE) {
+    if rules_broken(d, Wrong::Nothing) {
         add(d, JOBLESS_BROKEN, way, 1);
     } else {
         add(d, JOBLESS_AS_KEPT, way, 1);

@@ -53,10 +53,8 @@ fn same_bits(x: u32, a: usize, n: u32, delay: u8, d: &[usize; 16384]) -> bool
     ensures { result ≡ same_bits x a n delay d.now }
 {
     let mut same = true;
-    let mut k: u8 = 0;
-    while k < 32 {
-        same = same & same_return(x, k, a, due_slot(n, delay, k), d);
-        k += 1;
+    for k in 0..32 {
+        same &= same_return(x, k, a, due_slot(n, delay, k), d);
     }
     same
 }
@@ -67,7 +65,7 @@ pub(crate) fn same_returns(s: State, a: u8, delay: u8, d: &[usize; 16384]) -> bo
 {
     let x = returns_of(s, a);
     let i = a as usize;
-    (u32::count_ones(x) as usize == returning(d, i)) & same_bits(x, i, s.slot, delay, d)
+    (x.count_ones() as usize == returning(d, i)) & same_bits(x, i, s.slot, delay, d)
 }
 
 // The second machine's returns of accelerator a, by the bits of x, as seen from slot n: the one served last comes home last.

@@ -4,9 +4,9 @@ use crate::returns::{UNUSED, WAYS, give_all};
 use generator::number_below;
 use model::access::accelerator_at;
 use model::{Channel, State, Tree};
-use second::NO_WRONG_RULE;
+use second::Wrong;
 use second::book::{is_jobless, other};
-use second::calls::{CHANNEL, PORT, SPENT, WAITS, alter, set_slot_count};
+use second::calls::{Part, alter, set_slot_count};
 use second::queues::channel;
 
 // The ways in which the record of an accelerator without a job is altered: one of its transactions waits,
@@ -39,42 +39,28 @@ fn on_channel(s: State, c: Channel) -> State {
 // The state as one of the other channel, in both machines.
 pub(crate) fn of_other_channel(s: State, d: &mut [usize; 16384]) -> State {
     let to = other(channel(d));
-    alter(d, CHANNEL, 0, to);
+    alter(d, Part::Channel, 0, to);
     on_channel(s, channel_of(to))
 }
 
-// The state with n in entry i of a part.
-pub fn altered(s: State, which: usize, i: usize, n: u16) -> State {
+// The state with n in entry i of a part; the channel stays.
+pub fn altered(s: State, part: Part, i: usize, n: u16) -> State {
     let mut next = s;
-    let a = i % 32;
-    let j = i % 15;
     let small = (n % 256) as u8;
-    if which == WAITS {
-        next.waiting[a] = small;
-        return next;
+    match part {
+        Part::Waiting => next.waiting[i % 32] = small,
+        Part::Used => next.admitted[i % 32] = n,
+        Part::LastPort => next.last[i % 15] = small,
+        Part::Allowance => next.allowance[i % 15] = small,
+        Part::Channel => {}
     }
-    if which == SPENT {
-        next.admitted[a] = n;
-        return next;
-    }
-    if which == PORT {
-        next.last[j] = small;
-        return next;
-    }
-    next.allowance[j] = small;
     next
 }
 
 // The state with n in entry i of a part, in both machines.
-pub(crate) fn alter_both(
-    s: State,
-    which: usize,
-    i: usize,
-    n: u16,
-    d: &mut [usize; 16384],
-) -> State {
-    alter(d, which, i, n as usize);
-    altered(s, which, i, n)
+pub(crate) fn alter_both(s: State, part: Part, i: usize, n: u16, d: &mut [usize; 16384]) -> State {
+    alter(d, part, i, n as usize);
+    altered(s, part, i, n)
 }
 
 // The state at slot n; what returns is due as many slots ahead as before.
@@ -119,7 +105,7 @@ pub(crate) fn some_jobless(t: Tree, d: &mut [usize; 16384]) -> u8 {
     let first = number_below(d, 32) % 32;
     for i in 0..32usize {
         let a = ((first + i) % 32) as u8;
-        if (a < t.accs) & is_jobless(d, a as usize, channel(d), NO_WRONG_RULE) {
+        if (a < t.accs) & is_jobless(d, a as usize, channel(d), Wrong::Nothing) {
             return a;
         }
     }
@@ -130,7 +116,7 @@ pub(crate) fn some_jobless(t: Tree, d: &mut [usize; 16384]) -> u8 {
 pub(crate) fn with_jobless(t: Tree, s: State, a: u8, way: usize, d: &mut [usize; 16384]) -> State {
     let i = a as usize;
     if way == ONE_WAITS {
-        return alter_both(s, WAITS, i, 1, d);
+        return alter_both(s, Part::Waiting, i, 1, d);
     }
     if way == ONE_RETURNS {
         return with_returns(t, s, a, 2, d);
@@ -140,5 +126,5 @@ pub(crate) fn with_jobless(t: Tree, s: State, a: u8, way: usize, d: &mut [usize;
     if way == BUDGET_PASSED {
         n += 1;
     }
-    alter_both(s, SPENT, i, n, d)
+    alter_both(s, Part::Used, i, n, d)
 }

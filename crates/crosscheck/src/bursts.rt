@@ -16,7 +16,7 @@ use razhikum::{razhikum_join, razhikum_split};
 use reader::read_tree;
 use second::book::read_book;
 use second::bursts::join_one;
-use second::{NO_WRONG_RULE, Said};
+use second::{Said, Wrong};
 use store::{DIFFERENCES, add, note};
 use treecheck::judge;
 
@@ -46,7 +46,7 @@ fn try_exported(
     let mut said = s;
     let mut n = 0;
     if s.number == 0 {
-        let y = second_split(b, d, NO_WRONG_RULE);
+        let y = second_split(b, d, Wrong::Nothing);
         said.number = y.number;
         n = y.pieces;
         add(d, CUTS, y.number, 1);
@@ -66,7 +66,7 @@ fn try_exports(
     starts: &mut [u32; 256],
     beats: &mut [u32; 256],
 ) {
-    let s = read_book(tree, d, NO_WRONG_RULE);
+    let s = read_book(tree, d, Wrong::Nothing);
     for _ in 0..8usize {
         let b = some_burst(t, d);
         try_exported(tree, b, s, d, starts, beats);
@@ -80,7 +80,7 @@ fn try_join(pieces: u32, answered: u32, number: u32, d: &mut [usize; 16384]) {
         pieces as usize,
         answered as usize,
         number as usize,
-        NO_WRONG_RULE,
+        Wrong::Nothing,
     );
     note(d, DIFFERENCES, 0, same_joined(x, y));
     add(d, JOINED, 0, 1);
@@ -90,13 +90,8 @@ fn try_join(pieces: u32, answered: u32, number: u32, d: &mut [usize; 16384]) {
 fn try_pieces(pieces: u32, d: &mut [usize; 16384]) {
     for i in 0..NUMBERS {
         let answered = number_at(i);
-        try_join(pieces, answered, std::num::wrapping_add_u32(answered, 1), d);
-        try_join(
-            pieces,
-            answered,
-            std::num::wrapping_add_u32(pieces, i % 2),
-            d,
-        );
+        try_join(pieces, answered, answered.wrapping_add(1), d);
+        try_join(pieces, answered, pieces.wrapping_add(i % 2), d);
     }
 }
 

@@ -8,7 +8,7 @@ use generator::listed::heading_at;
 use generator::pages::long_file;
 use generator::{file_in, made, size};
 use reader::read_tree;
-use second::NO_WRONG_RULE;
+use second::Wrong;
 use second::book::{READ, read_book};
 use store::{add, get};
 
@@ -27,7 +27,7 @@ fn try_on(
     out: &mut [u8; 131074],
     size: usize,
 ) {
-    read_book(tree, d, NO_WRONG_RULE);
+    read_book(tree, d, Wrong::Nothing);
     let t = tree_of(read_tree(tree));
     try_file_runs(tree, t, channel, s, d, out, size);
 }
@@ -58,7 +58,7 @@ fn try_file(
     size: usize,
 ) {
     if is_tree {
-        try_tree(s, d, out);
+        let _ = try_tree(s, d, out);
         return;
     }
     try_trace_file(channel, s, d, out, size);
@@ -98,7 +98,7 @@ pub fn try_listed(s: &[u8], d: &mut [usize; 16384], out: &mut [u8; 131074]) {
 pub fn try_case_11(w: &mut [u8; 16384], d: &mut [usize; 16384], out: &mut [u8; 131074]) {
     for i in 0..6 {
         make_case(w, d, i);
-        try_tree(made(w, d), d, out);
+        let _ = try_tree(made(w, d), d, out);
         add(d, CASE11, 0, 1);
     }
 }

@@ -1,5 +1,5 @@
 // What the static library exports, each field of each answer beside what `second` says of the same files.
-use crate::compare::{fill, second_run};
+use crate::compare::{over, second_run};
 use crate::results::{EXPORTS, NO_CHANNEL, REWRITINGS};
 use crate::whys::{Question, next_question, second_why};
 use crate::writings::{exported_written, next_size, second_written};
@@ -7,7 +7,7 @@ use answercheck::exported::{
     kind_of, kind_told, same_count, same_outcome, same_page, same_reading, same_row, same_wait,
 };
 use answercheck::{same_bytes, same_pages, same_slices, told_by};
-use answers::{Outcome, Wait, no_wait};
+use answers::{Outcome, Wait};
 use razhikum::{
     razhikum_bound, razhikum_count, razhikum_read_trace, razhikum_read_tree, razhikum_report,
     razhikum_run, razhikum_why,
@@ -18,7 +18,7 @@ use second::queues::refused;
 use second::response::{bound_refusal, figures, no_figures};
 use second::sheet::write_report;
 use second::written::text_size;
-use second::{NO_WRONG_RULE, Said};
+use second::{Said, Wrong};
 use store::{DIFFERENCES, add, get, note};
 
 // The number of accelerators, none where the tree is refused.
@@ -37,7 +37,7 @@ fn bound_said(s: Said, a: u8, d: &[usize; 16384]) -> Said {
         return s;
     }
     Said {
-        number: bound_refusal(d, a as usize, NO_WRONG_RULE),
+        number: bound_refusal(d, a as usize, Wrong::Nothing),
         line: 0,
     }
 }
@@ -47,7 +47,7 @@ fn try_bound(tree: &[u8], a: u8, s: Said, d: &mut [usize; 16384]) {
     let said = bound_said(s, a, d);
     let mut expected = no_figures();
     if said.number == 0 {
-        expected = figures(d, a as usize, NO_WRONG_RULE);
+        expected = figures(d, a as usize, Wrong::Nothing);
     }
     note(d, DIFFERENCES, 0, same_row(x, said, expected));
     add(d, EXPORTS, 1, 1);
@@ -86,7 +86,7 @@ fn try_report(tree: &[u8], s: Said, d: &mut [usize; 16384]) {
 // The tree written back over n bytes; one that is refused leaves them, whatever their number.
 fn try_rewriting(tree: &[u8], s: Said, d: &mut [usize; 16384], out: &mut [u8; 131074], n: usize) {
     let x = exported_written(tree, out, 0, n);
-    let w = second_written(s, d, out, n, NO_WRONG_RULE);
+    let w = second_written(s, d, out, n, Wrong::Nothing);
     let said = Said {
         number: w.number,
         line: w.line,
@@ -181,42 +181,23 @@ fn exported_channel(channel: usize) -> u8 {
 }
 
 // The exported run on a channel over the first n bytes.
-fn exported_run(tree: &[u8], channel: usize, trace: &[u8], out: &mut [u8], n: usize) -> Outcome {
-    if out.len() < n {
-        return Outcome {
-            kind: 255,
-            number: 0,
-            line: 0,
-            slots: 0,
-        };
-    }
-    run_filled(tree, channel, trace, &mut out[0..n])
-}
-
-fn run_filled(tree: &[u8], channel: usize, trace: &[u8], out: &mut [u8]) -> Outcome {
-    fill(out);
-    razhikum_run(tree, exported_channel(channel), trace, out)
-}
-
-fn why_filled(tree: &[u8], trace: &[u8], q: Question, out: &mut [u8]) -> Wait {
-    fill(out);
-    razhikum_why(
-        tree,
-        exported_channel(q.channel),
-        trace,
-        q.accelerator,
-        q.number,
-        out,
-    )
+fn exported_run(
+    tree: &[u8],
+    channel: usize,
+    trace: &[u8],
+    out: &mut [u8; 131074],
+    n: usize,
+) -> Outcome {
+    let c = exported_channel(channel);
+    over(out, 0, n, |part| razhikum_run(tree, c, trace, part))
 }
 
 // The exported answer why a transaction waited, over the first bytes.
-fn exported_why(tree: &[u8], trace: &[u8], q: Question, out: &mut [u8]) -> Wait {
-    let n = q.size;
-    if out.len() < n {
-        return no_wait(255, 0, 0);
-    }
-    why_filled(tree, trace, q, &mut out[0..n])
+fn exported_why(tree: &[u8], trace: &[u8], q: Question, out: &mut [u8; 131074]) -> Wait {
+    let c = exported_channel(q.channel);
+    over(out, 0, q.size, |part| {
+        razhikum_why(tree, c, trace, q.accelerator, q.number, part)
+    })
 }
 
 // A question to accelerator a of the trace, which the tree may not have.
@@ -233,7 +214,7 @@ fn try_wait(
     let turn = get(d, EXPORTS, 6);
     let q = next_question(channel, d, past, a, turn, out);
     let x = exported_why(tree, trace, q, out);
-    let w = second_why(s, d, past, q, out, NO_WRONG_RULE);
+    let w = second_why(s, d, past, q, out, Wrong::Nothing);
     note(
         d,
         DIFFERENCES,
@@ -290,7 +271,7 @@ pub fn try_trace_exports(
     note(d, DIFFERENCES, 0, same_reading(reading, 2, s));
     add(d, EXPORTS, 0, 1);
     let x = exported_run(tree, channel, trace, out, n);
-    let e = second_run(s, d, channel, out, n, NO_WRONG_RULE);
+    let e = second_run(s, d, channel, out, n, Wrong::Nothing);
     note(
         d,
         DIFFERENCES,

@@ -3,8 +3,6 @@
 // purpose, was seen, and last how many differences there are.
 #![tactic(auto)]
 
-ghost use Rattle.std.specs.Prelude.{◌≤◌, length};
-
 mod bursts;
 mod compare;
 mod edges;
@@ -21,7 +19,7 @@ use crate::results::show;
 use crate::trials::{try_altered, try_file_runs, try_tree};
 use callcheck::try_machine;
 use generator::{buffer_size, file_in, made, number_below, start, trace_file, tree_file};
-use std::io::Read;
+use input::read_all;
 
 // A generated tree, in w, and, if it is accepted, a generated trace for one of the channels, in v.
 fn try_pair(
@@ -57,28 +55,14 @@ fn try_generated(d: &mut [usize; 16384], out: &mut [u8; 131074]) {
     try_wide(&mut w, d, out);
 }
 
-// Reads until the buffer is full, the input ends or a read fails, and answers how many bytes were read.
-fn read_full(from: &mut impl Read, buf: &mut [u8]) -> usize
-    ensures { result ≤ length buf.new }
-{
-    let mut done = 0;
-    while done < buf.len() {
-        let more = from.read(&mut buf[done..]).unwrap_or(0);
-        if more == 0 {
-            return done;
-        }
-        done += more;
-    }
-    done
-}
-
 fn main(rt: HostRuntime) {
     let mut d = [0usize; 16384];
     let mut out = [0u8; 131074];
     try_generated(&mut d, &mut out);
     let mut page = [0u8; 65537];
-    let n = read_full(&mut rt.stdin(), &mut page);
-    try_listed(&page[..n], &mut d, &mut out);
+    if let Ok(n) = read_all(&mut rt.stdin(), &mut page) {
+        try_listed(&page[..n], &mut d, &mut out);
+    }
     try_long(&mut page, &mut d, &mut out);
     try_bursts(&mut d);
     show(&rt, &d);

@@ -10,7 +10,7 @@ use crate::walked::same_requests;
 use crate::whys::try_whys;
 use crate::writings::{try_writings, try_written};
 use alter::altered;
-use alter::tangle::{WAYS, tangled};
+use alter::tangle::{some_way, tangled};
 use answercheck::{same_bytes, same_end, same_flag, same_said};
 use callcheck::{busy_state, try_other};
 use generator::number_below;
@@ -23,11 +23,7 @@ use second::queues::{Ended, is_stuck, run_refusal};
 use second::requests::{lines, read_log};
 use second::response::bound_refusal;
 use second::written::text_size;
-use second::{
-    BOTH_COUNT, DONE_HOLDING, DUE_NOW, EMPTY_WINDOW, FALLING_FIRST, LONG_LET_IN, LONG_REFUSED,
-    NESTED, NO_WINDOWS, NO_WRONG_RULE, NOT_OUTSTANDING, ORDER_FIRST, OTHER_CHANNEL, OTHER_NAME,
-    OTHER_SLOT, OWN_PORT, ROUNDED_DOWN, SIZE_FIRST, Said, TRACE_FIRST, UNKNOWN_FIRST, WHOLE_RUN,
-};
+use second::{Said, Wrong};
 use store::{DIFFERENCES, WRONG, add, note};
 use trace::read_trace;
 use treecheck::{is_empty, judge, same_tree};
@@ -43,40 +39,36 @@ fn count_delay(delay: u8, d: &mut [usize; 16384]) {
 
 // What the job of accelerator a has: 0 reads and writes, 1 writes only, 2 reads only, 3 neither.
 fn job_kind(d: &[usize; 16384], a: usize) -> usize {
-    let no_writes = is_jobless(d, a, WRITE, NO_WRONG_RULE);
-    if !is_jobless(d, a, READ, NO_WRONG_RULE) {
-        return if no_writes { 2 } else { 0 };
-    }
-    if no_writes { 3 } else { 1 }
+    let no_reads = is_jobless(d, a, READ, Wrong::Nothing);
+    let no_writes = is_jobless(d, a, WRITE, Wrong::Nothing);
+    no_reads as usize + 2 * (no_writes as usize)
 }
 
 // The jobs of an accepted tree.
 fn count_jobs(accs: usize, d: &mut [usize; 16384]) {
-    for a in 0..32 {
-        if a < accs {
-            let kind = job_kind(d, a);
-            add(d, JOBS, kind, 1);
-        }
+    for a in 0..accs.min(32) {
+        let kind = job_kind(d, a);
+        add(d, JOBS, kind, 1);
     }
 }
 
 // Does a wrong rule change a bound of the tree?
-fn note_bounds(t: Tree, d: &mut [usize; 16384], wrong: usize) {
+fn note_bounds(t: Tree, d: &mut [usize; 16384], wrong: Wrong) {
     let same = same_bounds(t, d, wrong);
-    note(d, WRONG, wrong, same);
+    note(d, WRONG, wrong as usize, same);
 }
 
 // The bounds of an accepted tree.
 fn try_bounds(t: Tree, d: &mut [usize; 16384]) {
-    let right = same_bounds(t, d, NO_WRONG_RULE);
+    let right = same_bounds(t, d, Wrong::Nothing);
     note(d, DIFFERENCES, 0, right);
-    note_bounds(t, d, OWN_PORT);
-    note_bounds(t, d, NESTED);
-    note_bounds(t, d, BOTH_COUNT);
-    note_bounds(t, d, ROUNDED_DOWN);
-    note_bounds(t, d, NO_WINDOWS);
-    note_bounds(t, d, OTHER_SLOT);
-    note_bounds(t, d, EMPTY_WINDOW);
+    note_bounds(t, d, Wrong::OwnPort);
+    note_bounds(t, d, Wrong::Nested);
+    note_bounds(t, d, Wrong::BothCount);
+    note_bounds(t, d, Wrong::RoundedDown);
+    note_bounds(t, d, Wrong::NoWindows);
+    note_bounds(t, d, Wrong::OtherSlot);
+    note_bounds(t, d, Wrong::EmptyWindow);
     add(d, BOUNDS, 0, t.accs as usize + 1);
 }
 
@@ -105,16 +97,16 @@ fn try_content(t: Tree, d: &mut [usize; 16384]) {
 fn count_zero(s: &[u8], delay: u8, d: &mut [usize; 16384]) {
     let n = text_size(d);
     if s.len() != n {
-        let two_more = s.len() == std::num::wrapping_add_usize(n, 2);
+        let two_more = s.len() == n.wrapping_add(2);
         note(d, DIFFERENCES, 0, two_more & (delay == 0));
         add(d, ZEROS, 0, 1);
     }
 }
 
 // Does a wrong rule change the answer on a tree file?
-fn note_reading(s: &[u8], answer: Result<(), FileError>, d: &mut [usize; 16384], wrong: usize) {
+fn note_reading(s: &[u8], answer: Result<(), FileError>, d: &mut [usize; 16384], wrong: Wrong) {
     let said = read_book(s, d, wrong);
-    note(d, WRONG, wrong, same_said(answer, said));
+    note(d, WRONG, wrong as usize, same_said(answer, said));
 }
 
 // The tree that a file gives; the empty one where the file is refused.
@@ -131,11 +123,11 @@ pub fn try_tree(
     let r = read_tree(s);
     let t = tree_of(r);
     let answer = r.and(Ok(()));
-    note_reading(s, answer, d, ORDER_FIRST);
-    note_reading(s, answer, d, LONG_LET_IN);
-    note_reading(s, answer, d, LONG_REFUSED);
-    note_reading(s, answer, d, OTHER_NAME);
-    let said = read_book(s, d, NO_WRONG_RULE);
+    note_reading(s, answer, d, Wrong::OrderFirst);
+    note_reading(s, answer, d, Wrong::LongLetIn);
+    note_reading(s, answer, d, Wrong::LongRefused);
+    note_reading(s, answer, d, Wrong::OtherName);
+    let said = read_book(s, d, Wrong::Nothing);
     note(d, DIFFERENCES, 0, same_said(answer, said));
     add(d, TREES, said.number, 1);
     if said.number == 0 {
@@ -153,9 +145,14 @@ pub fn try_tree(
 // A trace file, on the tree that the rows have too. The log is left with its lines.
 fn try_trace(t: Tree, s: &[u8], d: &mut [usize; 16384]) -> Said {
     let answer = read_trace(t, s);
-    let wrongly = read_log(s, d, FALLING_FIRST);
-    note(d, WRONG, FALLING_FIRST, same_said(answer, wrongly));
-    let said = read_log(s, d, NO_WRONG_RULE);
+    let wrongly = read_log(s, d, Wrong::FallingFirst);
+    note(
+        d,
+        WRONG,
+        Wrong::FallingFirst as usize,
+        same_said(answer, wrongly),
+    );
+    let said = read_log(s, d, Wrong::Nothing);
     note(d, DIFFERENCES, 0, same_said(answer, said));
     add(d, TRACES, said.number, 1);
     if said.number == 0 {
@@ -187,7 +184,23 @@ fn count_run(e: Ended, d: &mut [usize; 16384]) {
     }
 }
 
-// A run over n bytes by each of the wrong rules from one on to another, against what the library did.
+// The wrong rules of a run that is not refused.
+const RULES: [Wrong; 12] = [
+    Wrong::WholeRun,
+    Wrong::FromZero,
+    Wrong::Growing,
+    Wrong::LowerReset,
+    Wrong::NotOutstanding,
+    Wrong::HomeLate,
+    Wrong::HomeEarly,
+    Wrong::HomeAtWindow,
+    Wrong::DoneAtHome,
+    Wrong::OtherChannel,
+    Wrong::JoblessAdmitted,
+    Wrong::DoneHolding,
+];
+
+// A run over n bytes by each of these rules, against what the library did.
 fn try_wrong_runs(
     said: Said,
     d: &mut [usize; 16384],
@@ -195,22 +208,25 @@ fn try_wrong_runs(
     out: &mut [u8; 131074],
     right: Ended,
     n: usize,
-    from: usize,
-    to: usize,
 ) {
-    for wrong in from..to {
+    for wrong in RULES {
         let e = second_run(said, d, channel, out, n, wrong);
-        note(d, WRONG, wrong, same_end(e, right) & same_bytes(out, n));
+        note(
+            d,
+            WRONG,
+            wrong as usize,
+            same_end(e, right) & same_bytes(out, n),
+        );
     }
 }
 
 // A run over n bytes that the library ends so: is an order of its tests seen that is wrong?
-fn note_order(said: Said, d: &mut [usize; 16384], right: Ended, n: usize, wrong: usize) {
+fn note_order(said: Said, d: &mut [usize; 16384], right: Ended, n: usize, wrong: Wrong) {
     let r = run_refusal(said, d, n, wrong);
     note(
         d,
         WRONG,
-        wrong,
+        wrong as usize,
         (r.number == right.number) & (r.line == right.line),
     );
 }
@@ -226,7 +242,7 @@ fn same_run(
     n: usize,
 ) -> Ended {
     let right = library_run(t, channel, s, out, n);
-    let e = second_run(said, d, channel, out, n, NO_WRONG_RULE);
+    let e = second_run(said, d, channel, out, n, Wrong::Nothing);
     note(d, DIFFERENCES, 0, same_end(e, right) & same_bytes(out, n));
     count_run(e, d);
     add(d, WRITE_RUNS, 0, channel);
@@ -245,13 +261,10 @@ fn try_run(
     n: usize,
 ) -> usize {
     let right = same_run(t, channel, s, said, d, out, n);
-    note_order(said, d, right, n, SIZE_FIRST);
-    note_order(said, d, right, n, TRACE_FIRST);
+    note_order(said, d, right, n, Wrong::SizeFirst);
+    note_order(said, d, right, n, Wrong::TraceFirst);
     if said.number == 0 {
-        try_wrong_runs(said, d, channel, out, right, n, WHOLE_RUN, OWN_PORT);
-        try_wrong_runs(said, d, channel, out, right, n, NOT_OUTSTANDING, DUE_NOW);
-        let to = DONE_HOLDING + 1;
-        try_wrong_runs(said, d, channel, out, right, n, OTHER_CHANNEL, to);
+        try_wrong_runs(said, d, channel, out, right, n);
     }
     if right.done { right.slots } else { 0 }
 }
@@ -299,11 +312,11 @@ pub fn try_file_runs(
 
 // A bound of accelerator a, which the tree may not have.
 fn try_bound(t: Tree, a: u8, d: &mut [usize; 16384]) {
-    let same = same_bound(t, a, d, NO_WRONG_RULE);
+    let same = same_bound(t, a, d, Wrong::Nothing);
     note(d, DIFFERENCES, 0, same);
-    let wrongly = same_bound(t, a, d, UNKNOWN_FIRST);
-    note(d, WRONG, UNKNOWN_FIRST, wrongly);
-    let refusal = bound_refusal(d, a as usize, NO_WRONG_RULE);
+    let wrongly = same_bound(t, a, d, Wrong::UnknownFirst);
+    note(d, WRONG, Wrong::UnknownFirst as usize, wrongly);
+    let refusal = bound_refusal(d, a as usize, Wrong::Nothing);
     add(d, BOUND_ANSWERS, refusal, 1);
 }
 
@@ -346,8 +359,8 @@ pub fn try_altered(
     out: &mut [u8; 131074],
 ) {
     try_other_tree(t, altered(t, d), channel, s, d, out);
-    let way = number_below(d, WAYS);
+    let way = some_way(d);
     if !try_other_tree(t, tangled(t, way, d), channel, s, d, out) {
-        add(d, TANGLED, way, 1);
+        add(d, TANGLED, way as usize, 1);
     }
 }

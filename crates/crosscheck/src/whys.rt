@@ -1,14 +1,14 @@
 // Why a transaction waited: the library's answer and every byte of its buffer, beside those of `second`.
-use crate::compare::fill;
+use crate::compare::over;
 use crate::results::{
     LONG_RUNS, RUNS_ASKED, WHY_SLOTS, WHYS, WHYS_ASKED, WHYS_AT_ONCE, WHYS_CUT, WRITE_WHYS,
 };
-use answercheck::{OURS, same_bytes, same_told, told_by, told_of};
+use answercheck::{OURS, same_bytes, same_told, told_of};
 use callcheck::channel_of;
 use model::Tree;
 use second::past::{Told, keep_run, services, why};
-use second::{NO_WRONG_RULE, NOT_OUTSTANDING, SERVICE_LISTED, Said};
-use store::{DIFFERENCES, WRONG, add, get, least, note};
+use second::{Said, Wrong};
+use store::{DIFFERENCES, WRONG, add, get, note};
 
 // A question: a channel, an accelerator, the number of one of its transactions, and the size of the buffer that is lent.
 #[derive(Clone, Copy)]
@@ -19,39 +19,12 @@ pub struct Question {
     pub size: usize,
 }
 
-fn ask_library(t: Tree, s: &[u8], q: Question, out: &mut [u8]) -> Told {
-    fill(out);
-    let c = channel_of(q.channel);
-    told_of(waits::why(t, c, s, q.accelerator, q.number, out))
-}
-
 // The library's answer, over the first bytes.
-fn library_why(t: Tree, s: &[u8], q: Question, out: &mut [u8]) -> Told {
-    let n = q.size;
-    if out.len() < n {
-        return told_by(0, 0, 0, 0);
-    }
-    ask_library(t, s, q, &mut out[0..n])
-}
-
-fn ask_second(
-    said: Said,
-    d: &[usize; 16384],
-    past: &[usize],
-    q: Question,
-    out: &mut [u8],
-    wrong: usize,
-) -> Told {
-    fill(out);
-    why(
-        said,
-        d,
-        past,
-        q.accelerator as usize,
-        q.number as usize,
-        out,
-        wrong,
-    )
+fn library_why(t: Tree, s: &[u8], q: Question, out: &mut [u8; 131074]) -> Told {
+    let c = channel_of(q.channel);
+    over(out, 0, q.size, |part| {
+        told_of(waits::why(t, c, s, q.accelerator, q.number, part))
+    })
 }
 
 // The second answer, over bytes from OURS on.
@@ -60,14 +33,14 @@ pub fn second_why(
     d: &[usize; 16384],
     past: &[usize],
     q: Question,
-    out: &mut [u8],
-    wrong: usize,
+    out: &mut [u8; 131074],
+    wrong: Wrong,
 ) -> Told {
-    let to = OURS + q.size % 65538;
-    if out.len() < to {
-        return told_by(0, 0, 0, 0);
-    }
-    ask_second(said, d, past, q, &mut out[OURS..to], wrong)
+    let a = q.accelerator as usize;
+    let k = q.number as usize;
+    over(out, OURS, q.size, |part| {
+        why(said, d, past, a, k, part, wrong)
+    })
 }
 
 // An answer: by its number, and of those told the slots, those served in the slot of admission, and those cut by their buffer.
@@ -85,6 +58,16 @@ fn count_why(w: Told, size: usize, d: &mut [usize; 16384]) {
     }
 }
 
+// The wrong rules of a question.
+const RULES: [Wrong; 6] = [
+    Wrong::ServiceListed,
+    Wrong::AdmittedLate,
+    Wrong::RootMeets,
+    Wrong::OwnMeets,
+    Wrong::HalfPair,
+    Wrong::NumberFirst,
+];
+
 // The question by each wrong rule, against what the library answered.
 fn try_wrong_whys(
     said: Said,
@@ -94,12 +77,12 @@ fn try_wrong_whys(
     out: &mut [u8; 131074],
     right: Told,
 ) {
-    for wrong in SERVICE_LISTED..NOT_OUTSTANDING {
+    for wrong in RULES {
         let w = second_why(said, d, past, q, out, wrong);
         note(
             d,
             WRONG,
-            wrong,
+            wrong as usize,
             same_told(w, right) & same_bytes(out, q.size),
         );
     }
@@ -115,7 +98,7 @@ fn try_why(
     out: &mut [u8; 131074],
 ) {
     let right = library_why(t, s, q, out);
-    let w = second_why(said, d, past, q, out, NO_WRONG_RULE);
+    let w = second_why(said, d, past, q, out, Wrong::Nothing);
     note(
         d,
         DIFFERENCES,
@@ -132,22 +115,19 @@ fn try_why(
 // The numbers that are asked of an accelerator, so many of which are served: 0, the first, one in the middle, the last, one more,
 // and the highest of the type.
 fn number_asked(i: usize, served: usize) -> u32 {
-    let mut k = 4294967295;
-    if i < 2 {
-        k = i;
-    } else if i == 2 {
-        k = std::num::wrapping_add_usize(served, 1) / 2;
-    } else if i == 3 {
-        k = served;
-    } else if i == 4 {
-        k = std::num::wrapping_add_usize(served, 1);
-    }
+    let k = match i {
+        0 | 1 => i,
+        2 => served.wrapping_add(1) / 2,
+        3 => served,
+        4 => served.wrapping_add(1),
+        _ => 4294967295,
+    };
     (k % 4294967296) as u32
 }
 
 // The sizes of buffers for a list of so many slots: 0, 1, short and odd, short, just enough, one byte more, and larger.
 fn size_lent(i: usize, count: usize) -> usize {
-    let slots = least(count, 32748);
+    let slots = count.min(32748);
     match i {
         0 => 0,
         1 => 1,
@@ -175,12 +155,12 @@ pub fn next_question(
     past: &[usize],
     a: u8,
     i: usize,
-    out: &mut [u8],
+    out: &mut [u8; 131074],
 ) -> Question {
     let k = number_asked(i % 6, services(past, a as usize));
     let said = Said { number: 0, line: 0 };
     let q = question_of(channel, a, k, 0);
-    let w = second_why(said, d, past, q, out, NO_WRONG_RULE);
+    let w = second_why(said, d, past, q, out, Wrong::Nothing);
     let turn = get(d, WHYS_ASKED, 0);
     add(d, WHYS_ASKED, 0, 1);
     question_of(channel, a, k, size_lent(turn % 7, w.count))
@@ -213,7 +193,7 @@ fn try_accelerators(
 ) {
     for a in 0..33u8 {
         if a <= t.accs {
-            let i = std::num::wrapping_add_usize(turn, a as usize);
+            let i = turn.wrapping_add(a as usize);
             try_number(t, channel, s, d, past, a, i, out);
         }
     }

@@ -1,6 +1,6 @@
 // A tree written back: the library's answer and every byte of its buffer, beside those of `second`; and other texts of the tree, which
 // are read as the same tree and written as the same text.
-use crate::compare::fill;
+use crate::compare::over;
 use crate::results::{TEXTS, WRITING_TURNS, WRITINGS, WRITTEN};
 use crate::trials::tree_of;
 use answercheck::exported::same_page;
@@ -10,95 +10,72 @@ use model::Tree;
 use razhikum::{Page, razhikum_rewrite};
 use reader::read_tree;
 use second::written::{Written, text_size, write_back};
-use second::{AS_READ, LONG_FIRST, NAME_LOST, NO_WRONG_RULE, Said, WRITTEN_SHORT};
-use store::{DIFFERENCES, WRONG, add, get, least, note};
+use second::{Said, Wrong};
+use store::{DIFFERENCES, WRONG, add, get, note};
 use treecheck::same_tree;
 use writer::write_tree;
 
-fn write_library(t: Tree, out: &mut [u8]) -> Written {
-    fill(out);
-    written_of(write_tree(t, out))
-}
-
 // The library's writing, over n bytes from a place on.
-fn library_written(t: Tree, out: &mut [u8], from: usize, n: usize) -> Written {
-    let at = from % 65538;
-    let to = at + n % 65538;
-    if out.len() < to {
-        return written_by(0, 0, 0);
-    }
-    write_library(t, &mut out[at..to])
-}
-
-fn rewrite(tree: &[u8], out: &mut [u8]) -> Page {
-    fill(out);
-    razhikum_rewrite(tree, out)
+fn library_written(t: Tree, out: &mut [u8; 131074], from: usize, n: usize) -> Written {
+    over(out, from, n, |part| written_of(write_tree(t, part)))
 }
 
 // The exported writing, over n bytes from a place on.
-pub fn exported_written(tree: &[u8], out: &mut [u8], from: usize, n: usize) -> Page {
-    let at = from % 65538;
-    let to = at + n % 65538;
-    if out.len() < to {
-        return Page {
-            bytes: 0,
-            number: 255,
-            line: 0,
-        };
-    }
-    rewrite(tree, &mut out[at..to])
-}
-
-fn write_second(tree: Said, d: &[usize; 16384], out: &mut [u8], wrong: usize) -> Written {
-    fill(out);
-    write_back(tree, d, out, wrong)
+pub fn exported_written(tree: &[u8], out: &mut [u8; 131074], from: usize, n: usize) -> Page {
+    over(out, from, n, |part| razhikum_rewrite(tree, part))
 }
 
 // The second writing, over n bytes from OURS on.
 pub fn second_written(
     tree: Said,
     d: &[usize; 16384],
-    out: &mut [u8],
+    out: &mut [u8; 131074],
     n: usize,
-    wrong: usize,
+    wrong: Wrong,
 ) -> Written {
-    let to = OURS + n % 65538;
-    if out.len() < to {
-        return written_by(0, 0, 0);
-    }
-    write_second(tree, d, &mut out[OURS..to], wrong)
+    over(out, OURS, n, |part| write_back(tree, d, part, wrong))
 }
 
 fn accepted() -> Said {
     Said { number: 0, line: 0 }
 }
 
-// A writing over n bytes by each of the wrong rules from one on to another, against what the library did.
+// The wrong rules of a text,
+const OF_TEXT: [Wrong; 5] = [
+    Wrong::AsRead,
+    Wrong::ByNumber,
+    Wrong::NoPort7,
+    Wrong::ZeroWritten,
+    Wrong::NameLost,
+];
+
+// and those of its refusals.
+const OF_REFUSALS: [Wrong; 3] = [Wrong::LongFirst, Wrong::ShortFirst, Wrong::WrittenShort];
+
+// A writing over n bytes by each of these wrong rules, against what the library did.
 fn try_wrong_writings(
     d: &mut [usize; 16384],
     out: &mut [u8; 131074],
     right: Written,
     n: usize,
-    from: usize,
-    to: usize,
+    rules: &[Wrong],
 ) {
-    for wrong in from..to {
+    for rule in rules {
+        let wrong = *rule;
         let w = second_written(accepted(), d, out, n, wrong);
-        note(d, WRONG, wrong, same_written(w, right) & same_bytes(out, n));
+        note(
+            d,
+            WRONG,
+            wrong as usize,
+            same_written(w, right) & same_bytes(out, n),
+        );
     }
 }
 
-// A writing over n bytes of each buffer, and by those wrong rules; what the library answers.
-fn try_writing(
-    t: Tree,
-    d: &mut [usize; 16384],
-    out: &mut [u8; 131074],
-    n: usize,
-    from: usize,
-    to: usize,
-) -> Written {
+// A writing over n bytes of each buffer, and by these wrong rules.
+fn try_writing(t: Tree, d: &mut [usize; 16384], out: &mut [u8; 131074], n: usize, rules: &[Wrong]) {
     let right = library_written(t, out, 0, n);
-    let w = second_written(accepted(), d, out, n, NO_WRONG_RULE);
+    let w = second_written(accepted(), d, out, n, Wrong::Nothing);
     note(
         d,
         DIFFERENCES,
@@ -106,17 +83,16 @@ fn try_writing(
         same_written(w, right) & same_bytes(out, n),
     );
     add(d, WRITINGS, w.number, 1);
-    try_wrong_writings(d, out, right, n, from, to);
-    right
+    try_wrong_writings(d, out, right, n, rules);
 }
 
 // The sizes of buffers for a text of n bytes: 0, short, one byte less, one byte more, larger, and at the size limit.
 fn size_in_turn(turn: usize, n: usize) -> usize {
-    let text = least(n, 4096);
+    let text = n.min(4096);
     match turn % 7 {
         0 => 0,
         1 => text / 2,
-        2 => std::num::wrapping_sub_usize(text, 1) % 4096,
+        2 => text.wrapping_sub(1) % 4096,
         3 => text + 1,
         4 => text + 40,
         5 => 65536,
@@ -170,12 +146,11 @@ fn try_order(t: Tree, d: &mut [usize; 16384], out: &mut [u8; 131074], n: usize, 
 // A configuration, of which the rows say whether it keeps its rules: over just enough bytes, one byte less, and a buffer in its turn.
 pub fn try_writings(t: Tree, d: &mut [usize; 16384], out: &mut [u8; 131074]) {
     let n = text_size(d) % 4096;
-    let right = try_writing(t, d, out, n, AS_READ, LONG_FIRST);
-    try_wrong_writings(d, out, right, n, NAME_LOST, NAME_LOST + 1);
-    let short = std::num::wrapping_sub_usize(n, 1) % 4096;
-    try_writing(t, d, out, short, LONG_FIRST, WRITTEN_SHORT + 1);
+    try_writing(t, d, out, n, &OF_TEXT);
+    let short = n.wrapping_sub(1) % 4096;
+    try_writing(t, d, out, short, &OF_REFUSALS);
     let size = next_size(d, n);
-    try_writing(t, d, out, size, LONG_FIRST, WRITTEN_SHORT + 1);
+    try_writing(t, d, out, size, &OF_REFUSALS);
 }
 
 // A tree that keeps its rules, and its texts: the written one, and another.

@@ -1,3 +1,4 @@
 pub mod Folds
 pub mod Entries
 pub mod Listed
+pub mod Ceiling

@@ -26,17 +26,17 @@ pub fn some_size(d: &mut [usize; 16384]) -> usize {
 
 // One less than n, n, or one more.
 fn about(d: &mut [usize; 16384], n: usize) -> usize {
-    std::num::wrapping_sub_usize(std::num::wrapping_add_usize(n, below(d, 3)), 1)
+    n.wrapping_add(below(d, 3)).wrapping_sub(1)
 }
 
 // About the beats of one piece, of two or of three.
 fn about_pieces(d: &mut [usize; 16384], n: usize) -> usize {
     let mut beats = n;
     if once_in(d, 2) {
-        beats = std::num::wrapping_add_usize(beats, n);
+        beats = beats.wrapping_add(n);
     }
     if once_in(d, 2) {
-        beats = std::num::wrapping_add_usize(beats, n);
+        beats = beats.wrapping_add(n);
     }
     about(d, beats)
 }
@@ -64,7 +64,7 @@ pub fn some_beats(d: &mut [usize; 16384], n: usize, most: usize) -> usize {
     if kind < 13 {
         return about_pieces(d, n);
     }
-    below(d, std::num::wrapping_add_usize(most, 2))
+    below(d, most.wrapping_add(2))
 }
 
 // How many bytes so many beats of this size have, unless they are more than a burst may have.
@@ -75,9 +75,9 @@ pub fn bytes_of(size: usize, beats: usize) -> usize {
 // A distance of at most 2 bytes, or of at most 128, going round.
 fn little(d: &mut [usize; 16384]) -> usize {
     if once_in(d, 2) {
-        return std::num::wrapping_sub_usize(below(d, 5), 2);
+        return below(d, 5).wrapping_sub(2);
     }
-    std::num::wrapping_sub_usize(below(d, 257), 128)
+    below(d, 257).wrapping_sub(128)
 }
 
 // A start address, for a burst of so many bytes: mostly the burst begins or ends within a little of a multiple of 4,096, which may be
@@ -88,14 +88,14 @@ pub fn some_start(d: &mut [usize; 16384], bytes: usize) -> usize {
     if kind == 0 {
         return any;
     }
-    let mut at = 0;
+    let mut at = 0usize;
     if kind % 2 == 0 {
-        at = std::num::wrapping_sub_usize(any, any % 4096);
+        at = any.wrapping_sub(any % 4096);
     }
     if kind < 5 {
-        at = std::num::wrapping_sub_usize(at, bytes);
+        at = at.wrapping_sub(bytes);
     }
-    std::num::wrapping_add_usize(at, little(d)) % ADDRESSES
+    at.wrapping_add(little(d)) % ADDRESSES
 }
 
 // Which piece an offered burst begins with: mostly the first.

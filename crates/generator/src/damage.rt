@@ -16,26 +16,22 @@ fn copy(w: &mut [u8; 16384], d: &mut [usize; 16384], from: usize, to: usize) {
 
 // Where the line of the byte at p begins.
 fn line_from(w: &[u8; 16384], p: usize) -> usize {
-    let mut at = p;
-    while 0 < at {
-        if w[(at - 1) % 8192] == 10 {
-            return at;
+    for at in (0..p).rev() {
+        if w[at % 8192] == b'\n' {
+            return at + 1;
         }
-        at -= 1;
     }
     0
 }
 
+// Where the first of these bytes from p on stands, or the end of the n bytes.
+fn byte_from(w: &[u8; 16384], p: usize, n: usize, b: u8) -> usize {
+    (p..n).find(|at| w[*at % 8192] == b).unwrap_or(n)
+}
+
 // Where the line after that of the byte at p begins, or the end of the n bytes.
 fn line_to(w: &[u8; 16384], p: usize, n: usize) -> usize {
-    let mut at = p;
-    while at < n {
-        if w[at % 8192] == 10 {
-            return at + 1;
-        }
-        at += 1;
-    }
-    n
+    byte_from(w, p, n, b'\n').saturating_add(1).min(n)
 }
 
 fn put_any_byte(w: &mut [u8; 16384], d: &mut [usize; 16384]) {
@@ -53,7 +49,7 @@ fn damage_byte(w: &mut [u8; 16384], d: &mut [usize; 16384], n: usize, kind: usiz
     if kind == 0 {
         copy(w, d, p, n);
     } else {
-        copy(w, d, std::num::wrapping_add_usize(p, 1), n);
+        copy(w, d, p.wrapping_add(1), n);
     }
 }
 
@@ -98,18 +94,6 @@ fn put_name(w: &mut [u8; 16384], d: &mut [usize; 16384]) {
     }
 }
 
-// Where the record name of the line at `from` ends: at its first tab, or at the end of the n bytes.
-fn name_to(w: &[u8; 16384], from: usize, n: usize) -> usize {
-    let mut at = from;
-    while at < n {
-        if w[at % 8192] == 9 {
-            return at;
-        }
-        at += 1;
-    }
-    n
-}
-
 // A line, mostly the first, has another name, or is doubled under another name.
 fn damage_name(w: &mut [u8; 16384], d: &mut [usize; 16384], n: usize, kind: usize) {
     let mut p = 0;
@@ -123,14 +107,15 @@ fn damage_name(w: &mut [u8; 16384], d: &mut [usize; 16384], n: usize, kind: usiz
     }
     copy(w, d, 0, to);
     put_name(w, d);
-    copy(w, d, name_to(w, from, n), n);
+    let rest = byte_from(w, from, n, b'\t');
+    copy(w, d, rest, n);
 }
 
 // The file is cut, at any byte or before its last one.
 fn cut(w: &mut [u8; 16384], d: &mut [usize; 16384], n: usize) {
     let mut p = below(d, n);
     if once_in(d, 2) {
-        p = std::num::wrapping_sub_usize(n, 1);
+        p = n.wrapping_sub(1);
     }
     copy(w, d, 0, p);
 }

@@ -1,7 +1,6 @@
 // Tree and trace files, made at random from a fixed seed: most are sound, and some break a rule here and there.
-ghost use Rattle.std.specs.Prelude.{◌≤◌};
-
-use store::{clear, get, least, put};
+use std::io::Write;
+use store::{clear, get, put};
 
 // The random number; where the text begins, and its length so far.
 pub const SEED: usize = 4096;
@@ -23,13 +22,20 @@ const TAKEN: usize = 4160;
 // For each channel which accelerators of the last tree have no transactions there: a bit for each.
 const IDLE: usize = 4368;
 
-// No port is free.
-const NONE: usize = 120;
+// Where an acc line stands that finds no free port: past the last one.
+const NOWHERE: usize = 120;
 
 // The limits of the bus line's delays.
-const LOWS: [usize; 8] = [1, 0, 0, 0, 0, 0, 1, 1];
-
-const HIGHS: [usize; 8] = [255, 255, 255, 255, 4095, 4095, 255, 255];
+const DELAYS: [(usize, usize); 8] = [
+    (1, 255),
+    (0, 255),
+    (0, 255),
+    (0, 255),
+    (0, 4095),
+    (0, 4095),
+    (1, 255),
+    (1, 255),
+];
 
 // A number below n, by Marsaglia's xorshift.
 pub fn below(d: &mut [usize; 16384], n: usize) -> usize {
@@ -60,7 +66,7 @@ fn mixed(d: &mut [usize; 16384], few: usize, n: usize, many: usize) -> usize {
 // Up to `few`, once in 3 times up to `many`, and once in 20 times the most.
 fn mixed_or_all(d: &mut [usize; 16384], few: usize, many: usize) -> usize {
     if once_in(d, 20) {
-        return std::num::wrapping_sub_usize(many, 1);
+        return many.wrapping_sub(1);
     }
     mixed(d, few, 3, many)
 }
@@ -68,38 +74,24 @@ fn mixed_or_all(d: &mut [usize; 16384], few: usize, many: usize) -> usize {
 // A byte goes to the end of the text, which has room for 8,192.
 pub fn put_byte(w: &mut [u8; 16384], d: &mut [usize; 16384], b: u8) {
     let n = get(d, LENGTH, 0) % 8192;
-    let at = std::num::wrapping_add_usize(get(d, SIDE, 0), n) % 16384;
+    let at = get(d, SIDE, 0).wrapping_add(n) % 16384;
     w[at] = b;
     put(d, LENGTH, 0, n + 1);
 }
 
 pub fn put_text(w: &mut [u8; 16384], d: &mut [usize; 16384], s: &[u8]) {
-    for i in 0..s.len() {
-        put_byte(w, d, s[i]);
+    for b in s {
+        put_byte(w, d, *b);
     }
 }
 
-// Puts the decimal digits of n at the end of the text and answers where the first stands.
-fn put_digits(text: &mut [u8; 20], n: usize) -> usize
-    ensures { result ≤ 20 }
-{
-    let mut at = 20;
-    let mut rest = n;
-    while at > 0 {
-        at -= 1;
-        text[at] = b'0' + (rest % 10) as u8;
-        rest /= 10;
-        if rest == 0 {
-            return at;
-        }
-    }
-    0
-}
-
+// The digits of n, twenty at most.
 pub fn put_number(w: &mut [u8; 16384], d: &mut [usize; 16384], n: usize) {
     let mut text = [0u8; 20];
-    let first = put_digits(&mut text, n);
-    put_text(w, d, &text[first..]);
+    let mut rest = &mut text[..20];
+    let _ = write!(rest, "{n}");
+    let left = rest.len();
+    put_text(w, d, &text[..20usize.saturating_sub(left)]);
 }
 
 // A tab and x.
@@ -111,15 +103,15 @@ pub fn put_column(w: &mut [u8; 16384], d: &mut [usize; 16384], x: usize) {
 // A number past one of its limits.
 fn beyond(d: &mut [usize; 16384], low: usize, high: usize) -> usize {
     if (low != 0) & once_in(d, 2) {
-        return std::num::wrapping_sub_usize(low, 1);
+        return low.wrapping_sub(1);
     }
-    std::num::wrapping_add_usize(high, 1)
+    high.wrapping_add(1)
 }
 
 // A tab and x, or in a field that is to break its limits a number past them.
 fn put_field(w: &mut [u8; 16384], d: &mut [usize; 16384], x: usize, low: usize, high: usize) {
     let left = get(d, FLAW, 0);
-    put(d, FLAW, 0, std::num::wrapping_sub_usize(left, 1));
+    put(d, FLAW, 0, left.wrapping_sub(1));
     let mut y = x;
     if left == 0 {
         y = beyond(d, low, high);
@@ -129,21 +121,21 @@ fn put_field(w: &mut [u8; 16384], d: &mut [usize; 16384], x: usize, low: usize, 
 
 // A tab and a number from low to high.
 fn put_any(w: &mut [u8; 16384], d: &mut [usize; 16384], low: usize, high: usize) {
-    let span = std::num::wrapping_sub_usize(std::num::wrapping_add_usize(high, 1), low);
-    let x = std::num::wrapping_add_usize(low, below(d, span));
+    let span = high.wrapping_add(1).wrapping_sub(low);
+    let x = low.wrapping_add(below(d, span));
     put_field(w, d, x, low, high);
 }
 
 // A number of 1 or more, mostly small.
 fn put_mostly(w: &mut [u8; 16384], d: &mut [usize; 16384], few: usize, n: usize, high: usize) {
-    let x = std::num::wrapping_add_usize(mixed(d, few, n, high), 1);
+    let x = mixed(d, few, n, high).wrapping_add(1);
     put_field(w, d, x, 1, high);
 }
 
 // A number below `many`, mostly small.
 fn put_mixed(w: &mut [u8; 16384], d: &mut [usize; 16384], few: usize, n: usize, many: usize) {
     let x = mixed(d, few, n, many);
-    put_field(w, d, x, 0, std::num::wrapping_sub_usize(many, 1));
+    put_field(w, d, x, 0, many.wrapping_sub(1));
 }
 
 // A return delay past its limit, "-", one that is empty, or a twelfth number after it.
@@ -151,7 +143,7 @@ fn put_wrong_delay(w: &mut [u8; 16384], d: &mut [usize; 16384]) {
     let kind = below(d, 4);
     if kind == 0 {
         let past = below(d, 3);
-        put_column(w, d, std::num::wrapping_add_usize(past, 16));
+        put_column(w, d, past.wrapping_add(16));
     } else if kind == 1 {
         put_text(w, d, b"\t-");
     } else if kind == 2 {
@@ -178,10 +170,10 @@ fn put_delay(w: &mut [u8; 16384], d: &mut [usize; 16384]) {
 fn put_burst(w: &mut [u8; 16384], d: &mut [usize; 16384], older: bool) {
     if older {
         let x = mixed(d, 16, 15, 256);
-        put_field(w, d, std::num::wrapping_add_usize(x, 1), 1, 16);
+        put_field(w, d, x.wrapping_add(1), 1, 16);
     } else {
         let x = mixed(d, 256, 5, 16);
-        put_field(w, d, std::num::wrapping_add_usize(x, 1), 1, 256);
+        put_field(w, d, x.wrapping_add(1), 1, 256);
     }
 }
 
@@ -194,34 +186,34 @@ fn bus_line(w: &mut [u8; 16384], d: &mut [usize; 16384]) {
         put_text(w, d, b"bus");
     }
     put_mostly(w, d, 14, 12, 65535);
-    for i in 0..8 {
-        put_any(w, d, LOWS[i], HIGHS[i]);
+    for (low, high) in DELAYS {
+        put_any(w, d, low, high);
     }
     put_burst(w, d, older);
     put_delay(w, d);
     put_byte(w, d, 10);
 }
 
-// A free port of the first `ints` interconnects, of those whose level is at most `top`: 8 x interconnect + port, or NONE.
-fn free_port(d: &mut [usize; 16384], ints: usize, top: usize) -> usize {
+// A free port of the first `ints` interconnects, of those whose level is at most `top`: 8 x interconnect + port.
+fn free_port(d: &mut [usize; 16384], ints: usize, top: usize) -> Option<usize> {
     let all = (ints % 16) * 8;
     if all == 0 {
-        return NONE;
+        return None;
     }
     let mut first = below(d, all);
     if once_in(d, 3) {
         first = all - 1;
     }
     if once_in(d, 150) {
-        return first;
+        return Some(first);
     }
     for i in 0..120 {
-        let at = std::num::wrapping_add_usize(first, i) % all;
+        let at = first.wrapping_add(i) % all;
         if (get(d, TAKEN, at) == 0) & (get(d, LEVEL, at / 8) <= top) {
-            return at;
+            return Some(at);
         }
     }
-    NONE
+    None
 }
 
 fn put_place(w: &mut [u8; 16384], d: &mut [usize; 16384], at: usize) {
@@ -233,26 +225,23 @@ fn put_place(w: &mut [u8; 16384], d: &mut [usize; 16384], at: usize) {
 // An int line, below the root if any port is left for it.
 fn int_line(w: &mut [u8; 16384], d: &mut [usize; 16384]) {
     let i = get(d, INTS, 0);
-    let mut at = NONE;
-    if i != 0 {
-        at = free_port(d, i, 3);
-        if at == NONE {
-            return;
-        }
+    let above = free_port(d, i, 3);
+    if above.is_none() & (i != 0) {
+        return;
     }
     put_text(w, d, b"int");
     put_field(w, d, i, 0, 14);
-    if i == 0 {
-        put_text(w, d, b"\t-\t-");
-        put(d, LEVEL, 0, 1);
-    } else {
-        let level = std::num::wrapping_add_usize(get(d, LEVEL, at / 8), 1);
+    if let Some(at) = above {
+        let level = get(d, LEVEL, at / 8).wrapping_add(1);
         put(d, LEVEL, i, level);
         put_place(w, d, at);
+    } else {
+        put_text(w, d, b"\t-\t-");
+        put(d, LEVEL, 0, 1);
     }
     put_mostly(w, d, 4, 4, 16);
     put_byte(w, d, 10);
-    put(d, INTS, 0, std::num::wrapping_add_usize(i, 1));
+    put(d, INTS, 0, i.wrapping_add(1));
 }
 
 // The transactions of accelerator a's job on a channel, or none.
@@ -284,7 +273,7 @@ fn put_job(w: &mut [u8; 16384], d: &mut [usize; 16384], a: usize) {
 
 fn acc_line(w: &mut [u8; 16384], d: &mut [usize; 16384], a: usize) {
     let ints = get(d, INTS, 0);
-    let at = free_port(d, ints, 4);
+    let at = free_port(d, ints, 4).unwrap_or(NOWHERE);
     put_text(w, d, b"acc");
     put_field(w, d, a, 0, 31);
     put_place(w, d, at);
@@ -305,33 +294,29 @@ fn number_of(d: &mut [usize; 16384], i: usize, n: usize, order: usize) -> usize 
         return 0;
     }
     if order == 0 {
-        return std::num::wrapping_sub_usize(n, std::num::wrapping_add_usize(i, 1));
+        return n.wrapping_sub(i.wrapping_add(1));
     }
     if order == 1 {
-        return std::num::wrapping_add_usize(i, 3) % n;
+        return i.wrapping_add(3) % n;
     }
     i
 }
 
 fn acc_lines(w: &mut [u8; 16384], d: &mut [usize; 16384]) {
     let ports = (get(d, INTS, 0) % 16) * 7 + 1;
-    let wanted = std::num::wrapping_add_usize(mixed_or_all(d, 8, 32), 1);
-    let n = least(wanted, ports);
+    let wanted = mixed_or_all(d, 8, 32).wrapping_add(1);
+    let n = wanted.min(ports);
     let order = below(d, 4);
-    for i in 0..32 {
-        if i < n {
-            let a = number_of(d, i, n, order);
-            acc_line(w, d, a);
-        }
+    for i in 0..n.min(32) {
+        let a = number_of(d, i, n, order);
+        acc_line(w, d, a);
     }
 }
 
 fn int_lines(w: &mut [u8; 16384], d: &mut [usize; 16384]) {
-    let n = std::num::wrapping_add_usize(mixed_or_all(d, 5, 15), 1);
-    for i in 0..15 {
-        if i < n {
-            int_line(w, d);
-        }
+    let n = mixed_or_all(d, 5, 15).wrapping_add(1);
+    for _ in 0..n.min(15) {
+        int_line(w, d);
     }
 }
 
@@ -379,7 +364,7 @@ fn asked(d: &mut [usize; 16384], accs: usize, skipped: usize) -> usize {
     }
     let first = below(d, n);
     for i in 0..32 {
-        let a = std::num::wrapping_add_usize(first, i) % n;
+        let a = first.wrapping_add(i) % n;
         if (skipped >> (a % 32)) % 2 == 0 {
             return a;
         }
@@ -397,11 +382,11 @@ fn request_line(
     let mut at = slot;
     let mut a = asked(d, accs, skipped);
     if once_in(d, 250) {
-        a = std::num::wrapping_add_usize(accs, below(d, 3));
+        a = accs.wrapping_add(below(d, 3));
     }
     if once_in(d, 250) {
         at = below(d, slot);
-        a = below(d, std::num::wrapping_add_usize(accs, 1));
+        a = below(d, accs.wrapping_add(1));
     }
     put_request(w, d, at, a);
 }
@@ -420,11 +405,9 @@ pub fn make_trace(w: &mut [u8; 16384], d: &mut [usize; 16384], accs: usize, chan
     begin(d);
     let skipped = left_out(d, channel);
     let lines = below(d, 30);
-    let mut slot = 0;
-    for i in 0..30 {
-        if i < lines {
-            slot = std::num::wrapping_add_usize(slot, stride(d)) % 4294967295;
-            request_line(w, d, slot, accs, skipped);
-        }
+    let mut slot = 0usize;
+    for _ in 0..lines {
+        slot = slot.wrapping_add(stride(d)) % 4294967295;
+        request_line(w, d, slot, accs, skipped);
     }
 }

@@ -1,5 +1,6 @@
 // The files that both implementations are run on: made at random from a fixed seed, damaged, at a limit, listed, or other texts of
-// a tree; and bursts.
+// a tree; and bursts. A text stands in one half of an array, and its length in the store, as every number of the tests does: a slice
+// could not be lent beside the other half, of which it is a copy.
 //
 // Test code, without contracts: it is proved that each function is safe and ends.
 #![tactic(auto)]

@@ -38,31 +38,36 @@ fn put_bus(w: &mut [u8; 16384], d: &mut [usize; 16384], burst: usize) {
     put_line(w, d, burst, b"");
 }
 
+// A line under this record name: the block's number, the interconnect above it and the port there; and the rest of the line.
+fn put_block(
+    w: &mut [u8; 16384],
+    d: &mut [usize; 16384],
+    name: &[u8],
+    place: [usize; 3],
+    rest: &[u8],
+) {
+    put_text(w, d, name);
+    for x in place {
+        put_column(w, d, x);
+    }
+    put_text(w, d, rest);
+}
+
 fn put_int(w: &mut [u8; 16384], d: &mut [usize; 16384], i: usize, parent: usize, port: usize) {
-    put_text(w, d, b"int");
-    put_column(w, d, i);
-    put_column(w, d, parent);
-    put_column(w, d, port);
-    put_text(w, d, b"\t1\n");
+    put_block(w, d, b"int", [i, parent, port], b"\t1\n");
 }
 
 fn put_acc(w: &mut [u8; 16384], d: &mut [usize; 16384], a: usize, i: usize, port: usize) {
-    put_text(w, d, b"acc");
-    put_column(w, d, a);
-    put_column(w, d, i);
-    put_column(w, d, port);
-    put_text(w, d, b"\t4\t8\t1\t1\t0\t1000\n");
+    put_block(w, d, b"acc", [a, i, port], b"\t4\t8\t1\t1\t0\t1000\n");
 }
 
 // Interconnects below one another, `levels` of them, and an accelerator on the lowest.
 fn chain(w: &mut [u8; 16384], d: &mut [usize; 16384], levels: usize) {
     put_bus(w, d, 16);
-    for i in 0..14 {
-        if i + 1 < levels {
-            put_int(w, d, i + 1, i, 1);
-        }
+    for i in 1..levels.min(15) {
+        put_int(w, d, i, i - 1, 1);
     }
-    put_acc(w, d, 0, std::num::wrapping_sub_usize(levels, 1), 0);
+    put_acc(w, d, 0, levels.wrapping_sub(1), 0);
 }
 
 // The bus line, the root, and four interconnects under it.
@@ -77,10 +82,8 @@ fn put_four(w: &mut [u8; 16384], d: &mut [usize; 16384]) {
 // Four interconnects under the root, and n accelerators on their ports; one more would be on the root.
 fn crowd(w: &mut [u8; 16384], d: &mut [usize; 16384], n: usize) {
     put_four(w, d);
-    for a in 0..33 {
-        if a < n {
-            put_acc(w, d, a, (a / 8 + 1) % 5, a % 8);
-        }
+    for a in 0..n.min(33) {
+        put_acc(w, d, a, (a / 8 + 1) % 5, a % 8);
     }
 }
 
@@ -89,7 +92,7 @@ fn put_one_of_15(w: &mut [u8; 16384], d: &mut [usize; 16384], i: usize) {
     if i < 8 {
         put_int(w, d, i, 0, i);
     } else {
-        put_int(w, d, i, 7, std::num::wrapping_sub_usize(i, 7));
+        put_int(w, d, i, 7, i.wrapping_sub(7));
     }
 }
 
@@ -118,46 +121,43 @@ fn single(w: &mut [u8; 16384], d: &mut [usize; 16384], burst: usize) {
 // How many files there are with a return delay at its limits.
 pub const DELAYS: usize = 8;
 
-// Of each its burst length and its return delay; the delay is empty at 3, twice there at 4, and "-" at 5.
-const BURSTS: [usize; 8] = [16, 16, 16, 16, 16, 16, 257, 256];
-
-const RETURNS: [usize; 8] = [0, 15, 16, 0, 1, 0, 15, 1];
-
-fn put_delay(w: &mut [u8; 16384], d: &mut [usize; 16384], i: usize) {
-    if i == 3 {
-        put_text(w, d, b"\t");
-        return;
-    }
-    if i == 5 {
-        put_text(w, d, b"\t-");
-        return;
-    }
-    put_column(w, d, RETURNS[i % 8]);
-    if i == 4 {
-        put_column(w, d, 1);
-    }
-}
+// Of each its burst length and its return delay, which is empty once, there twice, and "-".
+const DELAYED: [(usize, &[u8]); DELAYS] = [
+    (16, b"\t0"),
+    (16, b"\t15"),
+    (16, b"\t16"),
+    (16, b"\t"),
+    (16, b"\t1\t1"),
+    (16, b"\t-"),
+    (257, b"\t15"),
+    (256, b"\t1"),
+];
 
 // One of them: a bus line with more after its burst length, and two accelerators.
 pub fn make_delay(w: &mut [u8; 16384], d: &mut [usize; 16384], i: usize) {
-    put_head(w, d, BURSTS[i % 8]);
-    put_delay(w, d, i);
-    put_root(w, d);
-    put_acc(w, d, 0, 0, 0);
-    put_acc(w, d, 1, 0, 7);
+    let (burst, delay) = DELAYED[i % DELAYS];
+    put_head(w, d, burst);
+    put_text(w, d, delay);
+    put_rest(w, d);
 }
 
 // How many files there are by the record names of their bus lines.
 pub const NAMES: usize = 32;
 
-// Of the first twelve, of which eight are named bus3 and four bus, the burst length and the return delay, which is left out where it is
-// ABSENT.
-const NAMED_BURSTS: [usize; 12] = [16, 17, 16, 16, 16, 1, 0, 256, 16, 17, 256, 257];
-
-const ABSENT: usize = 99;
-
-const NAMED_RETURNS: [usize; 12] = [
-    ABSENT, ABSENT, 0, 15, 16, 1, ABSENT, ABSENT, ABSENT, ABSENT, ABSENT, ABSENT,
+// Of the first twelve, of which eight are named bus3 and four bus, the burst length and the return delay, which most leave out.
+const NAMED: [(usize, &[u8]); 12] = [
+    (16, b""),
+    (17, b""),
+    (16, b"\t0"),
+    (16, b"\t15"),
+    (16, b"\t16"),
+    (1, b"\t1"),
+    (0, b""),
+    (256, b""),
+    (16, b""),
+    (17, b""),
+    (256, b""),
+    (257, b""),
 ];
 
 // A bus line named bus3 or bus, up to the burst length.
@@ -178,11 +178,9 @@ fn put_rest(w: &mut [u8; 16384], d: &mut [usize; 16384]) {
 
 // One bus line, at the limits of its name.
 fn make_one(w: &mut [u8; 16384], d: &mut [usize; 16384], i: usize) {
-    put_either(w, d, i < 8, NAMED_BURSTS[i % 12]);
-    let delay = NAMED_RETURNS[i % 12];
-    if delay != ABSENT {
-        put_column(w, d, delay);
-    }
+    let (burst, delay) = NAMED[i % 12];
+    put_either(w, d, i < 8, burst);
+    put_text(w, d, delay);
     put_rest(w, d);
 }
 
@@ -209,19 +207,13 @@ fn make_last(w: &mut [u8; 16384], d: &mut [usize; 16384], first: bool) {
 }
 
 // What is nearly one of the two names.
+const NEAR: [&[u8]; 10] = [
+    b"bus33", b"BUS3", b"Bus3", b"bu3", b"bu", b"3bus", b"bus ", b"bus3 ", b"bus2", b"bus03",
+];
+
+// A bus line under one of them.
 fn make_near(w: &mut [u8; 16384], d: &mut [usize; 16384], i: usize) {
-    match i {
-        0 => put_named(w, d, b"bus33", 16),
-        1 => put_named(w, d, b"BUS3", 16),
-        2 => put_named(w, d, b"Bus3", 16),
-        3 => put_named(w, d, b"bu3", 16),
-        4 => put_named(w, d, b"bu", 16),
-        5 => put_named(w, d, b"3bus", 16),
-        6 => put_named(w, d, b"bus ", 16),
-        7 => put_named(w, d, b"bus3 ", 16),
-        8 => put_named(w, d, b"bus2", 16),
-        _ => put_named(w, d, b"bus03", 16),
-    }
+    put_named(w, d, NEAR[i.min(9)], 16);
     put_rest(w, d);
 }
 
@@ -247,19 +239,13 @@ pub fn make_wide_late(w: &mut [u8; 16384], d: &mut [usize; 16384]) {
 
 // One of the six files of case 11: levels 4 and 5, 32 accelerators and number 32, B 256 and 257; then the widest tree.
 pub fn make_case(w: &mut [u8; 16384], d: &mut [usize; 16384], i: usize) {
-    if i == 0 {
-        chain(w, d, 4);
-    } else if i == 1 {
-        chain(w, d, 5);
-    } else if i == 2 {
-        crowd(w, d, 32);
-    } else if i == 3 {
-        crowd(w, d, 33);
-    } else if i == 4 {
-        single(w, d, 256);
-    } else if i == 5 {
-        single(w, d, 257);
-    } else {
-        wide(w, d, b"");
+    match i {
+        0 => chain(w, d, 4),
+        1 => chain(w, d, 5),
+        2 => crowd(w, d, 32),
+        3 => crowd(w, d, 33),
+        4 => single(w, d, 256),
+        5 => single(w, d, 257),
+        _ => wide(w, d, b""),
     }
 }

@@ -10,19 +10,19 @@ pub struct Heading {
 // The heading at `at`: its last field is the size.
 pub fn heading_at(s: &[u8], at: usize) -> Heading {
     let mut size = 0;
-    let mut i = at;
-    while i < s.len() {
-        let b = s[i];
-        i += 1;
-        if b == 10 {
+    for i in at..s.len() {
+        if s[i] == b'\n' {
             return Heading {
                 size: size,
-                start: i,
+                start: i + 1,
             };
         }
-        size = number_so_far(size, b);
+        size = number_so_far(size, s[i]);
     }
-    Heading { size: 0, start: i }
+    Heading {
+        size: 0,
+        start: at.max(s.len()),
+    }
 }
 
 // The number that a digit makes longer, and any other byte ends.

@@ -6,8 +6,8 @@ fn repeat(page: &mut [u8], line: &[u8]) {
     if n == 0 {
         return;
     }
-    for i in 0..page.len() {
-        page[i] = line[i % n];
+    for (i, b) in page.iter_mut().enumerate() {
+        *b = line[i % n];
     }
 }
 
@@ -18,9 +18,7 @@ fn end_with(page: &mut [u8], lines: &[u8]) {
         return;
     }
     let from = page.len() - n;
-    for i in 0..n {
-        page[from + i] = lines[i];
-    }
+    page[from..].copy_from_slice(lines);
 }
 
 // The first n bytes of a page: a line, over and over, and `last` at their end.

@@ -3,19 +3,19 @@
 // A byte of the text; where the next one goes.
 fn put_at(w: &mut [u8; 4096], at: usize, b: u8) -> usize {
     w[at % 4096] = b;
-    std::num::wrapping_add_usize(at, 1)
+    at.wrapping_add(1)
 }
 
 // Where each line begins; how many there are.
 fn line_starts(s: &[u8], starts: &mut [usize; 64]) -> usize {
-    let mut lines = 0;
+    let mut lines = 0usize;
     let mut ended = true;
-    for i in 0..s.len() {
+    for (i, b) in s.iter().enumerate() {
         if ended {
             starts[lines % 64] = i;
-            lines = std::num::wrapping_add_usize(lines, 1);
+            lines = lines.wrapping_add(1);
         }
-        ended = s[i] == 10;
+        ended = *b == b'\n';
     }
     lines
 }
@@ -30,26 +30,19 @@ fn is_acc(s: &[u8], at: usize) -> bool {
 
 // How many lines come before the acc lines.
 fn head(s: &[u8], starts: &[usize; 64], lines: usize) -> usize {
-    let mut n = 0;
-    for i in 0..64 {
-        if (i < lines) & !is_acc(s, starts[i]) {
-            n = std::num::wrapping_add_usize(n, 1);
-        }
-    }
-    n
+    starts
+        .iter()
+        .take(lines)
+        .filter(|at| !is_acc(s, **at))
+        .count()
 }
 
-// So many steps of a turn: 1, or a prime above 32, which meets all of up to 32 lines.
+// The step of a turn: 1, or a prime above 32, which meets all of up to 32 lines.
+const STEPS: [usize; 6] = [1, 37, 41, 43, 47, 53];
+
+// So many steps of a turn.
 fn steps(n: usize, turn: usize) -> usize {
-    let k = n % 64;
-    match turn % 6 {
-        0 => k,
-        1 => k * 37,
-        2 => k * 41,
-        3 => k * 43,
-        4 => k * 47,
-        _ => k * 53,
-    }
+    (n % 64) * STEPS[turn % 6]
 }
 
 // The line at place i: the first ones stay, and the others go round; in turn 0 all stay.
@@ -60,21 +53,15 @@ fn line_at(i: usize, first: usize, lines: usize, turn: usize) -> usize {
     if lines <= first {
         return i;
     }
-    let far = std::num::wrapping_add_usize(steps(i - first, turn), turn);
-    std::num::wrapping_add_usize(first, far % (lines - first))
+    let far = steps(i - first, turn).wrapping_add(turn);
+    first.wrapping_add(far % (lines - first))
 }
 
 // The line that begins at `from`, without its LF.
 fn put_line(w: &mut [u8; 4096], at: usize, s: &[u8], from: usize) -> usize {
     let mut next = at;
-    let mut i = from;
-    while i < s.len() {
-        let b = s[i];
-        if b == 10 {
-            return next;
-        }
-        next = put_at(w, next, b);
-        i += 1;
+    for b in s.iter().skip(from).take_while(|b| **b != b'\n') {
+        next = put_at(w, next, *b);
     }
     next
 }
@@ -86,16 +73,14 @@ pub fn other_text(s: &[u8], w: &mut [u8; 4096], turn: usize, zero: bool) -> usiz
     let lines = line_starts(s, &mut starts);
     let first = head(s, &starts, lines);
     let mut next = 0;
-    for i in 0..64 {
-        if i < lines {
-            let from = starts[line_at(i, first, lines, turn) % 64];
-            next = put_line(w, next, s, from);
-            if (i == 0) & zero {
-                next = put_at(w, next, 9);
-                next = put_at(w, next, 48);
-            }
-            next = put_at(w, next, 10);
+    for i in 0..lines.min(64) {
+        let from = starts[line_at(i, first, lines, turn) % 64];
+        next = put_line(w, next, s, from);
+        if (i == 0) & zero {
+            next = put_at(w, next, b'\t');
+            next = put_at(w, next, b'0');
         }
+        next = put_at(w, next, b'\n');
     }
     next
 }

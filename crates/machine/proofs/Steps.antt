@@ -4,7 +4,7 @@ use mathlib.Core.Path.{◌≡◌, refl, ap, ap₂, sym, ◌∙◌}
 use mathlib.Core.Bool.{Bool, true, false, not}
 use mathlib.Core.List.{List, ◌++◌, map}
 use Prim.Native.Nat.{ℕ, zero, suc, ◌+◌, ◌-◌, ◌/◌, ◌≤◌, ◌<◌}
-use native.Mathlib.Nat.{sub-zero, zero-sub, suc-sub-suc, le_antisymm, div-zero}
+use native.Mathlib.Nat.{sub-zero, zero-sub, suc-sub-suc, div-zero}
 use native.Mathlib.Omega.{arith}
 use lib.ListN.{length, set, replicate, drop}
 use lib.Seq.{set_out}

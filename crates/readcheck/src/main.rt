@@ -2,16 +2,15 @@
 // delay, and bus3 where that is the name of its bus line, for a trace its requests and the sum of their counts, walked from the bytes; or the refusal's number and line.
 //
 // Standard input holds the files, each after a line of three fields: t for a tree or o for a trace, a name, and how many
-// bytes the file has. A trace is read on the first tree of document 01's report. Files near the size limit are made here.
+// bytes the file has. A trace is read on the first tree of document 01's report. Files near the size limit are made by `generator`.
 #![tactic(auto)]
 
-ghost use Rattle.std.specs.Prelude.{◌≡◌, ◌≤◌, length};
-
+use generator::pages::long_file;
+use input::read_all;
 use lines::FileError;
 use model::{Bus, Tree};
 use reader::read_tree;
 use records::empty_tree;
-use std::io::Read;
 use text::{Field, part_end, read_field};
 use trace::{read_trace, request_at};
 
@@ -68,14 +67,12 @@ fn walk(out: &impl Print, s: &[u8]) {
     let mut at = 0;
     let mut lines: u64 = 0;
     let mut sum: u64 = 0;
-    let mut turns: u32 = 0;
-    while turns < 8193 {
+    for _ in 0..8193u32 {
         if let Some((r, next)) = request_at(s, at) {
             at = next;
-            lines = std::num::wrapping_add_u64(lines, 1);
-            sum = std::num::wrapping_add_u64(sum, r.count as u64);
+            lines = lines.wrapping_add(1);
+            sum = sum.wrapping_add(r.count as u64);
         }
-        turns += 1;
     }
     figure(out, lines);
     figure(out, sum);
@@ -87,6 +84,14 @@ fn try_trace(out: &impl Print, name: &[u8], t: Tree, s: &[u8]) {
         walk(out, s);
     }
     words(out, b"\n");
+}
+
+fn try_file(out: &impl Print, t: Tree, is_tree: bool, name: &[u8], s: &[u8]) {
+    if is_tree {
+        try_tree(out, name, s);
+    } else {
+        try_trace(out, name, t, s);
+    }
 }
 
 fn size_of(s: &[u8]) -> usize {
@@ -121,90 +126,15 @@ fn next_file(out: &impl Print, t: Tree, s: &[u8], at: usize) -> usize {
         return n;
     }
     let stop = start + size;
-    if s[at] == 116 {
-        try_tree(out, &s[from..mid], &s[start..stop]);
-    } else {
-        try_trace(out, &s[from..mid], t, &s[start..stop]);
-    }
+    try_file(out, t, s[at] == b't', &s[from..mid], &s[start..stop]);
     stop
-}
-
-fn space() -> [u8; 65537]
-    ensures { 65537 ≡ length result }
-{
-    [0u8; 65537]
-}
-
-// Fills a buffer with a line, over and over.
-fn fill(buf: &mut [u8], line: &[u8]) {
-    let n = line.len();
-    if n == 0 {
-        return;
-    }
-    let mut i = 0;
-    while i < buf.len() {
-        buf[i] = line[i % n];
-        i += 1;
-    }
-}
-
-// Puts lines at the end of a buffer.
-fn put_last(buf: &mut [u8], lines: &[u8]) {
-    let m = lines.len();
-    if buf.len() < m {
-        return;
-    }
-    let from = buf.len() - m;
-    let mut i = 0;
-    while i < m {
-        buf[from + i] = lines[i];
-        i += 1;
-    }
-}
-
-// A trace of `n` bytes: `line` over and over, and `last` at its end.
-fn try_long_trace(
-    out: &impl Print,
-    buf: &mut [u8],
-    name: &[u8],
-    t: Tree,
-    line: &[u8],
-    last: &[u8],
-    n: usize,
-) {
-    if buf.len() < n {
-        return;
-    }
-    fill(&mut buf[0..n], line);
-    put_last(&mut buf[0..n], last);
-    try_trace(out, name, t, &buf[0..n]);
-}
-
-fn long_trace(out: &impl Print, name: &[u8], t: Tree, line: &[u8], last: &[u8], n: usize) {
-    let mut buf = space();
-    try_long_trace(out, &mut buf, name, t, line, last, n);
-}
-
-fn try_long_tree(out: &impl Print, buf: &mut [u8], name: &[u8], n: usize) {
-    if buf.len() < n {
-        return;
-    }
-    fill(&mut buf[0..n], b"x");
-    try_tree(out, name, &buf[0..n]);
-}
-
-fn long_tree(out: &impl Print, name: &[u8], n: usize) {
-    let mut buf = space();
-    try_long_tree(out, &mut buf, name, n);
 }
 
 // Each file of the input.
 fn try_files(out: &impl Print, t: Tree, s: &[u8]) {
     let mut at = 0;
-    let mut turns: u32 = 0;
-    while turns < 1000 {
+    for _ in 0..1000u32 {
         at = next_file(out, t, s, at);
-        turns += 1;
     }
 }
 
@@ -215,40 +145,26 @@ fn report_tree() -> Tree {
     ).unwrap_or(empty_tree())
 }
 
-// Traces at the limit of a total.
-fn long_totals(out: &impl Print, t: Tree) {
-    let full = b"o\t0\t0\t16\n";
-    long_trace(
-        out,
-        b"total 65535",
-        t,
-        full,
-        b"o\t1\t0\t15\no\t2\t1\t16\n",
-        36873,
-    );
-    long_trace(
-        out,
-        b"total 65536",
-        t,
-        full,
-        b"o\t1\t1\t16\no\t2\t0\t16\n",
-        36873,
-    );
-    long_trace(
-        out,
-        b"falling slot over the total",
-        t,
-        b"o\t1\t0\t16\n",
-        b"o\t0\t0\t16\n",
-        36864,
-    );
-}
+// The files at the limits of sizes and totals, by their numbers in `generator`, and their names.
+const LONG: [(usize, &[u8]); 7] = [
+    (5, b"65536 bytes"),
+    (6, b"65537 bytes"),
+    (0, b"total 65535"),
+    (1, b"total 65536"),
+    (2, b"falling slot over the total"),
+    (3, b"8192 lines"),
+    (4, b"65537 bytes"),
+];
 
-// Traces at the size limit.
-fn long_sizes(out: &impl Print, t: Tree) {
-    let least = b"o\t0\t0\t1\n";
-    long_trace(out, b"8192 lines", t, least, b"", 65536);
-    long_trace(out, b"65537 bytes", t, least, b"", 65537);
+// Each of them, the first two as trees.
+fn try_long(out: &impl Print, t: Tree) {
+    let mut page = [0u8; 65537];
+    for (i, name) in LONG {
+        let n = long_file(&mut page, i);
+        if n <= page.len() {
+            try_file(out, t, 4 < i, name, &page[..n]);
+        }
+    }
 }
 
 // A trace on a tree that breaks its rules.
@@ -256,30 +172,13 @@ fn try_broken(out: &impl Print) {
     try_trace(out, b"broken tree", empty_tree(), b"");
 }
 
-// Reads until the buffer is full, the input ends or a read fails, and answers how many bytes were read.
-fn read_full(from: &mut impl Read, buf: &mut [u8]) -> usize
-    ensures { result ≤ length buf.new }
-{
-    let mut done = 0;
-    while done < buf.len() {
-        let more = from.read(&mut buf[done..]).unwrap_or(0);
-        if more == 0 {
-            return done;
-        }
-        done += more;
-    }
-    done
-}
-
 fn main(rt: HostRuntime) {
     let out = &rt;
     let t = report_tree();
     let mut input = [0u8; 65536];
-    let n = read_full(&mut rt.stdin(), &mut input);
-    try_files(out, t, &input[..n]);
-    long_tree(out, b"65536 bytes", 65536);
-    long_tree(out, b"65537 bytes", 65537);
-    long_totals(out, t);
-    long_sizes(out, t);
+    if let Ok(n) = read_all(&mut rt.stdin(), &mut input) {
+        try_files(out, t, &input[..n]);
+    }
+    try_long(out, t);
     try_broken(out);
 }

@@ -128,6 +128,7 @@ fn run_slots(
         count: 0,
     };
     let mut used: usize = 0;
+    // A `while`: the run answers how many slots it used, and a `for` would hold that number beside its index.
     while used < out.len() && !is_done(trace, line.at, &arrays) {
         line = before_slot(
             trace,

@@ -8,19 +8,7 @@ ghost use Rattle.runner.specs.Arrays.{arrays_from, slot_on, serve_on, left_on, s
 use crate::{DueLines, IDLE, NextLine, SlotEnd};
 use admit::Arrays;
 use counts::{Ports, Table};
-use rules::less_one;
 use trace::request_at;
-
-// What an accelerator holds with a line's count added: no more than the type has.
-fn more_held(held: u32, count: u8) -> u32
-    ensures { result ≡ min 4294967295 (held + count) }
-{
-    let more = count as u32;
-    if 4294967295 - more < held {
-        return 4294967295;
-    }
-    held + more
-}
 
 // Adds the lines due in this slot to the held counts.
 fn take_due(trace: &[u8], slot: u32, line: NextLine, held: &mut [u32; 32]) -> DueLines
@@ -34,16 +22,7 @@ fn take_due(trace: &[u8], slot: u32, line: NextLine, held: &mut [u32; 32]) -> Du
         };
     }
     let mut place = line.at;
-    while place < trace.len() {
-        let Some((request, next)) = request_at(trace, place) else {
-            return DueLines {
-                next: NextLine {
-                    at: place,
-                    due: 4294967295,
-                },
-                accelerators: accelerators,
-            };
-        };
+    while let Some((request, next)) = request_at(trace, place) {
         if slot < request.slot {
             return DueLines {
                 next: NextLine {
@@ -54,7 +33,7 @@ fn take_due(trace: &[u8], slot: u32, line: NextLine, held: &mut [u32; 32]) -> Du
             };
         }
         let a = request.accelerator as usize;
-        held[a] = more_held(held[a], request.count);
+        held[a] = held[a].saturating_add(request.count as u32);
         accelerators = accelerators | (1 << request.accelerator);
         place = next;
     }
@@ -81,10 +60,7 @@ fn none_held(held: &[u32; 32]) -> bool
 pub fn is_done(trace: &[u8], at: usize, arrays: &Arrays) -> bool
     ensures { result ≡ (eqb at (length trace.now) && none_held arrays.now.held && eqb (get_or arrays.now.ports.live 0 0) 0) }
 {
-    if arrays.ports.live[0] != 0 {
-        return false;
-    }
-    (at == trace.len()) && none_held(&arrays.held)
+    arrays.ports.live[0] == 0 && at == trace.len() && none_held(&arrays.held)
 }
 
 // Serves the transaction whose turn it is, and answers its accelerator, or that the slot is idle. It is outstanding as before.
@@ -104,7 +80,7 @@ fn left_after(window: u32, left: u32) -> u32
     if left == 1 {
         return window;
     }
-    less_one(left)
+    left.saturating_sub(1)
 }
 
 // The accelerator whose answer comes home before the slot that follows these bytes, one a slot: the one served `delay` + 1 slots
@@ -125,7 +101,7 @@ fn come_home(home: u8, outstanding: &mut [u32; 32])
 {
     let i = home as usize;
     if i < 32 {
-        outstanding[i] = less_one(outstanding[i]);
+        outstanding[i] = outstanding[i].saturating_sub(1);
     }
 }
 

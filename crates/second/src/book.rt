@@ -4,12 +4,9 @@ ghost use Rattle.std.specs.Prelude.{◌≡◌};
 ghost use Rattle.second.specs.Rows.{cell_of, rows_of, ints_of, accs_of, is_older, int_row, acc_row, is_on, block_of, carried_of};
 
 use crate::scan::{
-    ACC, BUS, BUS3, INT, Scan, answer, any_dash, begun, close_field, field, field_byte, is_dash,
-    line_start, set_field, within,
+    ACC, BUS, BUS3, INT, Scan, any_dash, begun, field, is_dash, read_lines, set_field, within,
 };
-use crate::{
-    LONG_LET_IN, LONG_REFUSED, NO_WRONG_RULE, ORDER_FIRST, OTHER_CHANNEL, OTHER_NAME, Said,
-};
+use crate::{Said, Wrong, answer};
 use store::{add, clear, get, put};
 
 // How many rows there are, how many of them are int lines and acc lines, and for each accelerator its row.
@@ -27,12 +24,12 @@ const BROKEN: usize = 531;
 // 1 if the first line is named bus3.
 const OLDER: usize = 532;
 
-// The channels.
+// The channels: numbers and no enum, since the store has the channel of the state, and the tests draw it and count by it.
 pub const READ: usize = 0;
 
 pub const WRITE: usize = 1;
 
-// What a port carries: an accelerator's number, 32 + an interconnect's number, or nothing.
+// What a port carries: an accelerator's number, 32 + an interconnect's number, or nothing; one number, of which `carried_of` speaks.
 pub const NOTHING: usize = 255;
 
 // The number in a column of a row.
@@ -76,7 +73,7 @@ pub fn most_beats(older: bool) -> usize {
 pub fn int_row(i: usize) -> usize
     ensures { result ≡ int_row i }
 {
-    std::num::wrapping_add_usize(i, 1)
+    i.wrapping_add(1)
 }
 
 pub fn acc_row(d: &[usize; 16384], a: usize) -> usize
@@ -99,8 +96,8 @@ pub fn other(channel: usize) -> usize {
 }
 
 // Has the job of accelerator a no transactions on a channel? A wrong rule looks at the other one.
-pub fn is_jobless(d: &[usize; 16384], a: usize, channel: usize, wrong: usize) -> bool {
-    if wrong == OTHER_CHANNEL {
+pub fn is_jobless(d: &[usize; 16384], a: usize, channel: usize, wrong: Wrong) -> bool {
+    if wrong == Wrong::OtherChannel {
         return job(d, a, other(channel)) == 0;
     }
     job(d, a, channel) == 0
@@ -135,7 +132,7 @@ fn block(d: &[usize; 16384], row: usize) -> usize
 {
     let number = cell(d, row, 0);
     if row <= ints(d) {
-        return std::num::wrapping_add_usize(number, 32);
+        return number.wrapping_add(32);
     }
     number
 }
@@ -156,11 +153,11 @@ pub fn carried(d: &[usize; 16384], i: usize, p: usize) -> usize
 // The level of an interconnect: one more than the steps from it up to the root.
 pub(crate) fn level(d: &[usize; 16384], i: usize) -> usize {
     let mut here = i;
-    let mut steps = 1;
+    let mut steps = 1usize;
     for _ in 0..14usize {
         if here != 0 {
             here = cell(d, int_row(here), 1);
-            steps = std::num::wrapping_add_usize(steps, 1);
+            steps = steps.wrapping_add(1);
         }
     }
     steps
@@ -168,16 +165,7 @@ pub(crate) fn level(d: &[usize; 16384], i: usize) -> usize {
 
 // The deepest level of the tree in the rows.
 pub fn deepest(d: &[usize; 16384]) -> usize {
-    let mut most = 0;
-    for i in 0..15 {
-        if i < ints(d) {
-            let here = level(d, i);
-            if most < here {
-                most = here;
-            }
-        }
-    }
-    most
+    (0..ints(d).min(15)).map(|i| level(d, i)).max().unwrap_or(0)
 }
 
 fn grain(d: &[usize; 16384], i: usize) -> usize {
@@ -200,13 +188,7 @@ fn unlike(d: &[usize; 16384], i: usize) -> bool {
 
 // Is there an accelerator on such an interconnect?
 pub fn varied(d: &[usize; 16384]) -> bool {
-    let mut found = false;
-    for a in 0..32 {
-        if a < accs(d) {
-            found = found | unlike(d, cell(d, acc_row(d, a), 1));
-        }
-    }
-    found
+    (0..accs(d).min(32)).any(|a| unlike(d, cell(d, acc_row(d, a), 1)))
 }
 
 // The numbers of a bus line: ten, or eleven with the return delay.
@@ -228,7 +210,7 @@ fn shaped(s: Scan, d: &[usize; 16384]) -> bool {
     }
     let name = s.name;
     if is_bus(name) {
-        return bus_shaped(std::num::wrapping_sub_usize(s.fields, 1), d);
+        return bus_shaped(s.fields.wrapping_sub(1), d);
     }
     if name == INT {
         return (s.fields == 5) & !is_dash(d, 1) & !is_dash(d, 4);
@@ -240,11 +222,11 @@ fn shaped(s: Scan, d: &[usize; 16384]) -> bool {
 }
 
 // The most that B may be on a line of this name. A wrong rule has one limit for both names.
-fn longest(name: usize, wrong: usize) -> usize {
-    if wrong == LONG_LET_IN {
+fn longest(name: usize, wrong: Wrong) -> usize {
+    if wrong == Wrong::LongLetIn {
         return most_beats(false);
     }
-    if wrong == LONG_REFUSED {
+    if wrong == Wrong::LongRefused {
         return most_beats(true);
     }
     most_beats(name == BUS3)
@@ -273,7 +255,7 @@ fn acc_limits(d: &[usize; 16384]) -> bool {
     place & limits & job & within(d, 8, 0, 4294967295) & within(d, 9, 1, 4294967295)
 }
 
-fn limits(name: usize, d: &[usize; 16384], wrong: usize) -> bool {
+fn limits(name: usize, d: &[usize; 16384], wrong: Wrong) -> bool {
     if is_bus(name) {
         return bus_limits(d, longest(name, wrong));
     }
@@ -298,13 +280,7 @@ pub(crate) fn is_acc(d: &[usize; 16384], row: usize) -> bool {
 
 // Is there an acc line of this number?
 fn listed(d: &[usize; 16384], a: usize) -> bool {
-    let mut found = false;
-    for row in 2..48 {
-        if is_acc(d, row) {
-            found = found | (cell(d, row, 0) == a);
-        }
-    }
-    found
+    (2..48).any(|row| is_acc(d, row) & (cell(d, row, 0) == a))
 }
 
 fn in_order(name: usize, d: &[usize; 16384]) -> bool {
@@ -321,7 +297,7 @@ fn in_order(name: usize, d: &[usize; 16384]) -> bool {
 fn enter(name: usize, d: &mut [usize; 16384]) {
     let row = rows(d) % 48;
     for i in 0..11 {
-        let x = field(d, std::num::wrapping_add_usize(i, 1));
+        let x = field(d, i + 1);
         put(d, row * 11, i, x);
     }
     add(d, ROWS, 0, 1);
@@ -355,7 +331,7 @@ fn misplaced(name: usize, d: &[usize; 16384]) -> usize {
 
 // A line of the right shape: is it accepted? Then it is in its row.
 pub(crate) fn fits(name: usize, d: &mut [usize; 16384]) -> bool {
-    if !limits(name, d, NO_WRONG_RULE) {
+    if !limits(name, d, Wrong::Nothing) {
         return false;
     }
     if !in_order(name, d) {
@@ -384,19 +360,19 @@ fn is_other(name: usize, d: &[usize; 16384]) -> bool {
 }
 
 // The refusal of a line, or 0 and the line is in its row; by a wrong rule a second bus line may be in none.
-fn judge(s: Scan, d: &mut [usize; 16384], wrong: usize) -> usize {
+fn judge(s: Scan, d: &mut [usize; 16384], wrong: Wrong) -> usize {
     let name = s.name;
     if !shaped(s, d) {
         return 1;
     }
     fill_in(s, d);
-    if (wrong == ORDER_FIRST) & !in_order(name, d) {
+    if (wrong == Wrong::OrderFirst) & !in_order(name, d) {
         return 3;
     }
     if !limits(name, d, wrong) {
         return 2;
     }
-    if (wrong == OTHER_NAME) & is_other(name, d) {
+    if (wrong == Wrong::OtherName) & is_other(name, d) {
         return 0;
     }
     if !in_order(name, d) {
@@ -411,13 +387,7 @@ fn judge(s: Scan, d: &mut [usize; 16384], wrong: usize) -> usize {
 
 // Is the number of some acc line not below their count? As no number is repeated, that is so exactly if one is missing.
 fn has_gap(d: &[usize; 16384]) -> bool {
-    let mut found = false;
-    for row in 2..48 {
-        if is_acc(d, row) {
-            found = found | (accs(d) <= cell(d, row, 0));
-        }
-    }
-    found
+    (2..48).any(|row| is_acc(d, row) & (accs(d) <= cell(d, row, 0)))
 }
 
 fn at_end(s: Scan, d: &[usize; 16384]) -> Said {
@@ -431,27 +401,13 @@ fn at_end(s: Scan, d: &[usize; 16384]) -> Said {
 }
 
 // Reads a tree file into the rows.
-pub fn read_book(s: &[u8], d: &mut [usize; 16384], wrong: usize) -> Said {
+pub fn read_book(s: &[u8], d: &mut [usize; 16384], wrong: Wrong) -> Said {
     clear(d, 0, 1024);
     if 65536 < s.len() {
         return answer(2, 0);
     }
-    let mut scan = line_start(1);
-    let mut at = 0;
-    while at < s.len() {
-        let b = s[at];
-        if b == 10 {
-            let number = judge(close_field(scan, d), d, wrong);
-            if number != 0 {
-                return answer(number, scan.line);
-            }
-            scan = line_start(std::num::wrapping_add_usize(scan.line, 1));
-        } else if b == 9 {
-            scan = close_field(scan, d);
-        } else {
-            scan = field_byte(scan, b);
-        }
-        at += 1;
+    match read_lines(s, d, |line, d| judge(line, d, wrong)) {
+        Ok(rest) => at_end(rest, d),
+        Err(said) => said,
     }
-    at_end(scan, d)
 }

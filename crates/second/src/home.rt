@@ -3,10 +3,10 @@
 ghost use Rattle.std.specs.Prelude.{◌≡◌};
 ghost use Rattle.second.specs.Machine.{returning_of, due_of, is_due};
 
+use crate::Wrong;
 use crate::book::delay;
-use crate::queues::{SERVED, SLOT, queued};
-use crate::{DUE_NOW, HOME_EARLY, HOME_LATE, NOT_OUTSTANDING};
-use store::{add, get, least, put};
+use crate::queues::{SERVED, SLOT, queued, total};
+use store::{add, get, put};
 
 // For each accelerator how many of those served are home.
 const HOME: usize = 2240;
@@ -18,14 +18,14 @@ const DUE: usize = 5120;
 pub fn returning(d: &[usize; 16384], a: usize) -> usize
     ensures { result ≡ returning_of d.now a }
 {
-    std::num::wrapping_sub_usize(get(d, SERVED, a), get(d, HOME, a))
+    get(d, SERVED, a).wrapping_sub(get(d, HOME, a))
 }
 
 // The slot in which one of them comes home, the one served first at k = 0.
 fn due(d: &[usize; 16384], a: usize, k: usize) -> usize
     ensures { result ≡ due_of d.now a k }
 {
-    let ticket = std::num::wrapping_add_usize(get(d, HOME, a), k);
+    let ticket = get(d, HOME, a).wrapping_add(k);
     get(d, DUE, (a % 32) * 32 + ticket % 32)
 }
 
@@ -33,7 +33,7 @@ fn due(d: &[usize; 16384], a: usize, k: usize) -> usize
 pub fn is_due(d: &[usize; 16384], a: usize, n: usize) -> bool
     ensures { result ≡ is_due d.now a n }
 {
-    let many = least(returning(d, a), 32);
+    let many = returning(d, a).min(32);
     let mut found = false;
     for k in 0..many {
         found = found | (due(d, a, k) == n);
@@ -42,11 +42,11 @@ pub fn is_due(d: &[usize; 16384], a: usize, n: usize) -> bool
 }
 
 // What counts against phi: what waits and what returns. A wrong rule leaves out what returns.
-pub(crate) fn outstanding(d: &[usize; 16384], a: usize, wrong: usize) -> usize {
-    if wrong == NOT_OUTSTANDING {
+pub(crate) fn outstanding(d: &[usize; 16384], a: usize, wrong: Wrong) -> usize {
+    if wrong == Wrong::NotOutstanding {
         return queued(d, a);
     }
-    std::num::wrapping_add_usize(queued(d, a), returning(d, a))
+    queued(d, a).wrapping_add(returning(d, a))
 }
 
 // Where the slot of a ticket stands.
@@ -55,19 +55,19 @@ fn place_of(a: usize, ticket: usize) -> usize {
 }
 
 // The slot in which one that is served now comes home. A wrong rule has it come a slot early or late.
-fn home_slot(d: &[usize; 16384], wrong: usize) -> usize {
-    let r = std::num::wrapping_add_usize(get(d, SLOT, 0), delay(d));
-    if wrong == HOME_EARLY {
+fn home_slot(d: &[usize; 16384], wrong: Wrong) -> usize {
+    let r = get(d, SLOT, 0).wrapping_add(delay(d));
+    if wrong == Wrong::HomeEarly {
         return r;
     }
-    if wrong == HOME_LATE {
-        return std::num::wrapping_add_usize(r, 2);
+    if wrong == Wrong::HomeLate {
+        return r.wrapping_add(2);
     }
-    std::num::wrapping_add_usize(r, 1)
+    r.wrapping_add(1)
 }
 
 // The transaction of accelerator a that has this ticket is served now.
-pub(crate) fn send_home(d: &mut [usize; 16384], a: usize, ticket: usize, wrong: usize) {
+pub(crate) fn send_home(d: &mut [usize; 16384], a: usize, ticket: usize, wrong: Wrong) {
     let slot = home_slot(d, wrong);
     put(d, DUE, place_of(a, ticket), slot);
 }
@@ -94,33 +94,23 @@ pub(crate) fn take_home(d: &mut [usize; 16384]) {
 
 // One more transaction of accelerator a returns, before the others: it comes home in slot n.
 pub fn put_return(d: &mut [usize; 16384], a: usize, n: usize) {
-    let ticket = std::num::wrapping_sub_usize(get(d, HOME, a), 1);
+    let ticket = get(d, HOME, a).wrapping_sub(1);
     put(d, HOME, a, ticket);
     put(d, DUE, place_of(a, ticket), n);
 }
 
 // Is slot n one of the r slots after this one? An earlier slot is very far ahead, going round. A wrong rule lets it be this one.
-fn is_ahead(d: &[usize; 16384], n: usize, wrong: usize) -> bool {
-    let ahead = std::num::wrapping_sub_usize(n, get(d, SLOT, 0));
-    (ahead <= delay(d)) & ((ahead != 0) | (wrong == DUE_NOW))
+fn is_ahead(d: &[usize; 16384], n: usize, wrong: Wrong) -> bool {
+    let ahead = n.wrapping_sub(get(d, SLOT, 0));
+    (ahead <= delay(d)) & ((ahead != 0) | (wrong == Wrong::DueNow))
 }
 
 // Does each of accelerator a's returning transactions come home in one of the next r slots?
-pub(crate) fn returns_keep(d: &[usize; 16384], a: usize, wrong: usize) -> bool {
-    let mut keeps = true;
-    for k in 0..32 {
-        if k < returning(d, a) {
-            keeps = keeps & is_ahead(d, due(d, a, k), wrong);
-        }
-    }
-    keeps
+pub(crate) fn returns_keep(d: &[usize; 16384], a: usize, wrong: Wrong) -> bool {
+    (0..returning(d, a).min(32)).all(|k| is_ahead(d, due(d, a, k), wrong))
 }
 
 // How many return in all.
 pub(crate) fn all_returning(d: &[usize; 16384]) -> usize {
-    let mut sum = 0;
-    for a in 0..32 {
-        sum = std::num::wrapping_add_usize(sum, returning(d, a));
-    }
-    sum
+    total(|a| returning(d, a))
 }

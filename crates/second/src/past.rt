@@ -1,14 +1,10 @@
 // Why a transaction waited, by the tickets: a run is kept slot by slot, each as who is served and the slot in which the ticket of that
 // transaction was put into its queue.
 use crate::book::{acc_row, accs, cell, int_row};
-use crate::queues::{nothing_left, run_refusal, run_slot, said, since, start};
-use crate::requests::lines;
-use crate::{
-    ADMITTED_LATE, HALF_PAIR, NO_WRONG_RULE, NUMBER_FIRST, OWN_MEETS, ROOT_MEETS, SERVICE_LISTED,
-    Said,
-};
+use crate::queues::{run_over, run_refusal, since};
+use crate::{Said, Wrong, answer};
 
-// What is said of a transaction: the number and line of a refusal, or 0; how many slots it waited, and the slot of its admission.
+// What is answer of a transaction: the number and line of a refusal, or 0; how many slots it waited, and the slot of its admission.
 #[derive(Clone, Copy)]
 pub struct Told {
     pub number: usize,
@@ -31,47 +27,32 @@ fn admitted_in(x: usize) -> usize {
 
 // Runs the lines of the log on a channel over as many slots as the past has places, and keeps each slot; how many are used.
 pub fn keep_run(d: &mut [usize; 16384], channel: usize, past: &mut [usize]) -> usize {
-    let lines = lines(d);
-    start(d, channel);
-    let mut used = 0;
-    while used < past.len() {
-        if nothing_left(d, lines, NO_WRONG_RULE) {
-            return used;
-        }
-        let a = run_slot(d, lines, NO_WRONG_RULE);
-        past[used] = packed(a, since(d, a));
-        used += 1;
-    }
-    used
+    run_over(
+        d,
+        channel,
+        past,
+        Wrong::Nothing,
+        |d, a| packed(a, since(d, a)),
+    )
 }
 
 // How many transactions of accelerator a are served.
 pub fn services(past: &[usize], a: usize) -> usize {
-    let mut n = 0;
-    let mut s = 0;
-    while s < past.len() {
-        if served_in(past[s]) == a {
-            n = std::num::wrapping_add_usize(n, 1);
-        }
-        s += 1;
-    }
-    n
+    past.iter().filter(|x| served_in(**x) == a).count()
 }
 
-// The slot that serves transaction k of accelerator a, the first at 1; the number of slots if none does.
-fn service(past: &[usize], a: usize, k: usize) -> usize {
-    let mut n = 0;
-    let mut s = 0;
-    while s < past.len() {
-        if served_in(past[s]) == a {
-            n = std::num::wrapping_add_usize(n, 1);
+// The slot that serves transaction k of accelerator a, the first at 1.
+fn service(past: &[usize], a: usize, k: usize) -> Option<usize> {
+    let mut n = 0usize;
+    for (s, x) in past.iter().enumerate() {
+        if served_in(*x) == a {
+            n = n.wrapping_add(1);
             if n == k {
-                return s;
+                return Some(s);
             }
         }
-        s += 1;
     }
-    s
+    None
 }
 
 // The deepest interconnect on the ways of accelerators a and b. A parent has the lower number: of two interconnects, the one with
@@ -91,18 +72,18 @@ fn meeting(d: &[usize; 16384], a: usize, b: usize) -> usize {
 
 // What is told beside an accelerator b that is served while one of a waits. A wrong rule names the root, or an interconnect for a's
 // own.
-fn met(d: &[usize; 16384], a: usize, b: usize, wrong: usize) -> usize {
-    if (a == b) & (wrong != OWN_MEETS) {
+fn met(d: &[usize; 16384], a: usize, b: usize, wrong: Wrong) -> usize {
+    if (a == b) & (wrong != Wrong::OwnMeets) {
         return 255;
     }
-    if wrong == ROOT_MEETS {
+    if wrong == Wrong::RootMeets {
         return 0;
     }
     meeting(d, a, b)
 }
 
 // Byte p of a list, where slot x is told of: whom it serves if p is even, and else where the paths meet.
-fn byte_of(d: &[usize; 16384], a: usize, x: usize, p: usize, wrong: usize) -> u8 {
+fn byte_of(d: &[usize; 16384], a: usize, x: usize, p: usize, wrong: Wrong) -> u8 {
     let b = served_in(x);
     if p % 2 == 0 {
         return (b % 256) as u8;
@@ -118,15 +99,15 @@ fn write_list(
     from: usize,
     until: usize,
     out: &mut [u8],
-    wrong: usize,
+    wrong: Wrong,
 ) {
     let n = out.len();
     for p in 0..n {
-        let s = std::num::wrapping_add_usize(from, p / 2);
+        let s = from.wrapping_add(p / 2);
         if past.len() <= s {
             return;
         }
-        if (until <= s) | ((p % 2 == 0) & (n - p == 1) & (wrong != HALF_PAIR)) {
+        if (until <= s) | ((p % 2 == 0) & (n - p == 1) & (wrong != Wrong::HalfPair)) {
             return;
         }
         out[p] = byte_of(d, a, past[s], p, wrong);
@@ -140,20 +121,20 @@ fn refusal(
     n: usize,
     a: usize,
     served: bool,
-    wrong: usize,
+    wrong: Wrong,
 ) -> Said {
-    let r = run_refusal(trace, d, n, NO_WRONG_RULE);
+    let r = run_refusal(trace, d, n, Wrong::Nothing);
     if r.number != 0 {
         return r;
     }
     let unknown = accs(d) <= a;
-    if !served & (!unknown | (wrong == NUMBER_FIRST)) {
-        return said(12, 0);
+    if !served & (!unknown | (wrong == Wrong::NumberFirst)) {
+        return answer(12, 0);
     }
     if unknown {
-        return said(7, 0);
+        return answer(7, 0);
     }
-    said(0, 0)
+    answer(0, 0)
 }
 
 fn tell(r: Said, count: usize, slot: usize) -> Told {
@@ -166,24 +147,24 @@ fn tell(r: Said, count: usize, slot: usize) -> Told {
 }
 
 // Lists the slots that the transaction served in slot s waited. A wrong rule begins one slot late, or lists slot s too.
-fn list(d: &[usize; 16384], past: &[usize], s: usize, out: &mut [u8], wrong: usize) -> Told {
+fn list(d: &[usize; 16384], past: &[usize], s: usize, out: &mut [u8], wrong: Wrong) -> Told {
     if past.len() <= s {
-        return tell(said(0, 0), 0, 0);
+        return tell(answer(0, 0), 0, 0);
     }
     let x = past[s];
     let mut from = admitted_in(x);
     let mut until = s;
-    if wrong == ADMITTED_LATE {
-        from = std::num::wrapping_add_usize(from, 1);
+    if wrong == Wrong::AdmittedLate {
+        from = from.wrapping_add(1);
     }
-    if wrong == SERVICE_LISTED {
-        until = std::num::wrapping_add_usize(s, 1);
+    if wrong == Wrong::ServiceListed {
+        until = s.wrapping_add(1);
     }
     write_list(d, past, served_in(x), from, until, out, wrong);
     if until < from {
-        return tell(said(0, 0), 0, from);
+        return tell(answer(0, 0), 0, from);
     }
-    tell(said(0, 0), until - from, from)
+    tell(answer(0, 0), until - from, from)
 }
 
 // Why transaction k of accelerator a waited, in the run whose slots the past has; the trace is refused so, or accepted.
@@ -194,12 +175,12 @@ pub fn why(
     a: usize,
     k: usize,
     out: &mut [u8],
-    wrong: usize,
+    wrong: Wrong,
 ) -> Told {
-    let s = service(past, a, k);
-    let r = refusal(trace, d, out.len(), a, s < past.len(), wrong);
-    if r.number != 0 {
-        return tell(r, 0, 0);
+    let service = service(past, a, k);
+    let r = refusal(trace, d, out.len(), a, service.is_some(), wrong);
+    match service {
+        Some(s) if r.number == 0 => list(d, past, s, out, wrong),
+        _ => tell(r, 0, 0),
     }
-    list(d, past, s, out, wrong)
 }

@@ -6,11 +6,8 @@ ghost use Rattle.second.specs.Machine.{queued_of, channel_of};
 use crate::book::{acc_row, carried, cell, int_row, ints, is_broken, is_jobless};
 use crate::home::{all_returning, forget_returns, outstanding, send_home, take_home};
 use crate::requests::{LINES, LOG, acc_in, count_in, slot_in};
-use crate::{
-    DONE_AT_HOME, DONE_HOLDING, FROM_ZERO, GROWING, HOME_AT_WINDOW, JOBLESS_ADMITTED, LOWER_RESET,
-    NO_WRONG_RULE, SIZE_FIRST, Said, TRACE_FIRST, WHOLE_RUN,
-};
-use store::{add, clear, get, least, put};
+use crate::{Said, Wrong, answer};
+use store::{add, clear, get, put};
 
 // For each accelerator how many transactions were requested since the start,
 const REQUESTED: usize = 2048;
@@ -66,7 +63,7 @@ pub fn set_channel(d: &mut [usize; 16384], channel: usize) {
 }
 
 // Has accelerator a no transactions on the channel of the state?
-pub(crate) fn is_idle(d: &[usize; 16384], a: usize, wrong: usize) -> bool {
+pub(crate) fn is_idle(d: &[usize; 16384], a: usize, wrong: Wrong) -> bool {
     is_jobless(d, a, channel(d), wrong)
 }
 
@@ -74,11 +71,11 @@ pub(crate) fn is_idle(d: &[usize; 16384], a: usize, wrong: usize) -> bool {
 pub(crate) fn queued(d: &[usize; 16384], a: usize) -> usize
     ensures { result ≡ queued_of d.now a }
 {
-    std::num::wrapping_sub_usize(get(d, ADMITTED, a), get(d, SERVED, a))
+    get(d, ADMITTED, a).wrapping_sub(get(d, SERVED, a))
 }
 
 fn held(d: &[usize; 16384], a: usize) -> usize {
-    std::num::wrapping_sub_usize(get(d, REQUESTED, a), get(d, ADMITTED, a))
+    get(d, REQUESTED, a).wrapping_sub(get(d, ADMITTED, a))
 }
 
 pub(crate) fn place_in_queue(a: usize, ticket: usize) -> usize {
@@ -96,7 +93,7 @@ pub(crate) fn push(d: &mut [usize; 16384], a: usize) {
 }
 
 // Takes the first ticket of the queue, to come home later. Is it the oldest that is not served?
-fn pop(d: &mut [usize; 16384], a: usize, wrong: usize) -> bool {
+fn pop(d: &mut [usize; 16384], a: usize, wrong: Wrong) -> bool {
     let oldest = get(d, SERVED, a);
     let ticket = get(d, QUEUE, place_in_queue(a, oldest));
     send_home(d, a, oldest, wrong);
@@ -106,7 +103,7 @@ fn pop(d: &mut [usize; 16384], a: usize, wrong: usize) -> bool {
 
 // The slot in which the transaction of accelerator a that was served last had been admitted.
 pub(crate) fn since(d: &[usize; 16384], a: usize) -> usize {
-    let ticket = std::num::wrapping_sub_usize(get(d, SERVED, a), 1);
+    let ticket = get(d, SERVED, a).wrapping_sub(1);
     get(d, SINCE, place_in_queue(a, ticket))
 }
 
@@ -126,69 +123,73 @@ pub(crate) fn passes(d: &[usize; 16384], a: usize, i: usize, p: usize) -> bool {
     false
 }
 
-// How many transactions wait under the port p of interconnect i.
-pub(crate) fn waits(d: &[usize; 16384], i: usize, p: usize) -> usize {
-    let mut sum = 0;
+// The sum of what each accelerator has; it goes round.
+pub(crate) fn total<F: Fn(usize) -> usize>(of: F) -> usize
+    requires { F.IsAlwaysCallable of }
+{
+    let mut sum = 0usize;
     for a in 0..32 {
-        let n = queued(d, a);
-        if n != 0 {
-            if passes(d, a, i, p) {
-                sum = std::num::wrapping_add_usize(sum, n);
-            }
-        }
+        sum = sum.wrapping_add(of(a));
     }
     sum
 }
 
+// How many transactions of accelerator a wait under the port p of interconnect i.
+fn waiting_under(d: &[usize; 16384], a: usize, i: usize, p: usize) -> usize {
+    let n = queued(d, a);
+    if (n != 0) && passes(d, a, i, p) { n } else { 0 }
+}
+
+// How many transactions wait under the port p of interconnect i.
+pub(crate) fn waits(d: &[usize; 16384], i: usize, p: usize) -> usize {
+    total(|a| waiting_under(d, a, i, p))
+}
+
 // The first port after `last`, going round, under which something waits; `last` itself comes last.
 fn seek(d: &[usize; 16384], i: usize, last: usize) -> usize {
-    let mut p = last % 8;
-    for _ in 0..8usize {
-        p = (p + 1) % 8;
-        if waits(d, i, p) != 0 {
-            return p;
-        }
-    }
-    p
+    (1..8)
+        .map(|k| (last % 8 + k) % 8)
+        .find(|p| waits(d, i, *p) != 0)
+        .unwrap_or(last % 8)
 }
 
 // A new turn at interconnect i, on the port sought. A wrong rule has the circle begin at port 0, or the allowance g.
-fn new_turn(d: &mut [usize; 16384], i: usize, wrong: usize) {
+fn new_turn(d: &mut [usize; 16384], i: usize, wrong: Wrong) {
     let mut last = get(d, LAST, i);
-    if wrong == FROM_ZERO {
+    if wrong == Wrong::FromZero {
         last = 7;
     }
     let p = seek(d, i, last);
     let grain = cell(d, int_row(i), 3);
-    let mut allowance = least(grain, waits(d, i, p));
-    if wrong == GROWING {
+    let mut allowance = grain.min(waits(d, i, p));
+    if wrong == Wrong::Growing {
         allowance = grain;
     }
     put(d, LAST, i, p);
     put(d, ALLOWANCE, i, allowance);
     let below = carried(d, i, p);
-    if (wrong == LOWER_RESET) & (31 < below) {
+    if (wrong == Wrong::LowerReset) & (31 < below) {
         put(d, LAST, below % 16, 7);
         put(d, ALLOWANCE, below % 16, 0);
     }
 }
 
 // The port that interconnect i goes on with, one taken off its allowance.
-fn turn(d: &mut [usize; 16384], i: usize, wrong: usize) -> usize {
+fn turn(d: &mut [usize; 16384], i: usize, wrong: Wrong) -> usize {
     let mut over = get(d, ALLOWANCE, i) == 0;
-    if wrong == GROWING {
+    if wrong == Wrong::Growing {
         over = over | (waits(d, i, get(d, LAST, i)) == 0);
     }
     if over {
         new_turn(d, i, wrong);
     }
-    let left = std::num::wrapping_sub_usize(get(d, ALLOWANCE, i), 1);
+    let left = get(d, ALLOWANCE, i).wrapping_sub(1);
     put(d, ALLOWANCE, i, left);
     get(d, LAST, i)
 }
 
 // The accelerator that is served, from the root down.
-fn choose(d: &mut [usize; 16384], wrong: usize) -> usize {
+fn choose(d: &mut [usize; 16384], wrong: Wrong) -> usize {
     let mut i = 0;
     for _ in 0..4usize {
         let p = turn(d, i, wrong);
@@ -202,53 +203,41 @@ fn choose(d: &mut [usize; 16384], wrong: usize) -> usize {
 }
 
 fn all_queued(d: &[usize; 16384]) -> usize {
-    let mut sum = 0;
-    for a in 0..32 {
-        sum = std::num::wrapping_add_usize(sum, queued(d, a));
-    }
-    sum
+    total(|a| queued(d, a))
 }
 
-// Is what accelerator a holds left to do? A wrong rule leaves out what those without a job hold.
-fn is_left(d: &[usize; 16384], a: usize, wrong: usize) -> bool {
-    if wrong == DONE_HOLDING {
-        return !is_idle(d, a, wrong);
+// What accelerator a holds that is left to do. A wrong rule leaves out what those without a job hold.
+fn held_to_do(d: &[usize; 16384], a: usize, wrong: Wrong) -> usize {
+    if (wrong == Wrong::DoneHolding) && is_idle(d, a, wrong) {
+        return 0;
     }
-    true
+    held(d, a)
 }
 
-fn all_held(d: &[usize; 16384], wrong: usize) -> usize {
-    let mut sum = 0;
-    for a in 0..32 {
-        if is_left(d, a, wrong) {
-            sum = std::num::wrapping_add_usize(sum, held(d, a));
-        }
-    }
-    sum
+fn all_held(d: &[usize; 16384], wrong: Wrong) -> usize {
+    total(|a| held_to_do(d, a, wrong))
 }
 
 // Is a request held of an accelerator without a job on the channel? It stays held.
 pub fn is_stuck(d: &[usize; 16384]) -> bool {
-    all_held(d, NO_WRONG_RULE) != all_held(d, DONE_HOLDING)
+    all_held(d, Wrong::Nothing) != all_held(d, Wrong::DoneHolding)
 }
 
 // The lines whose slot has come are requested.
 fn take_due(d: &mut [usize; 16384], lines: usize) {
     let now = get(d, SLOT, 0);
-    let mut next = get(d, NEXT, 0);
-    while next < lines {
+    for next in get(d, NEXT, 0)..lines {
         let x = get(d, LOG, next % 8192);
         if now < slot_in(x) {
-            break;
+            return;
         }
         add(d, REQUESTED, acc_in(x) % 32, count_in(x));
-        next += 1;
+        put(d, NEXT, 0, next + 1);
     }
-    put(d, NEXT, 0, next);
 }
 
 // Has accelerator a a transaction to offer, and room for it: fewer than phi are outstanding and its budget is not used?
-fn may_offer(d: &[usize; 16384], a: usize, wrong: usize) -> bool {
+fn may_offer(d: &[usize; 16384], a: usize, wrong: Wrong) -> bool {
     let row = acc_row(d, a);
     let room = (outstanding(d, a, wrong) < cell(d, row, 3)) & (get(d, USED, a) < cell(d, row, 4));
     room & (held(d, a) != 0)
@@ -256,8 +245,8 @@ fn may_offer(d: &[usize; 16384], a: usize, wrong: usize) -> bool {
 
 // Accelerator a offers until it holds none, phi of it are outstanding or its budget is used; without a job, all stay held. A wrong rule
 // does not ask for the job.
-fn offer(d: &mut [usize; 16384], a: usize, wrong: usize) {
-    if is_idle(d, a, wrong) & (wrong != JOBLESS_ADMITTED) {
+fn offer(d: &mut [usize; 16384], a: usize, wrong: Wrong) {
+    if is_idle(d, a, wrong) & (wrong != Wrong::JoblessAdmitted) {
         return;
     }
     for _ in 0..16usize {
@@ -267,7 +256,7 @@ fn offer(d: &mut [usize; 16384], a: usize, wrong: usize) {
     }
 }
 
-fn offer_all(d: &mut [usize; 16384], wrong: usize) {
+fn offer_all(d: &mut [usize; 16384], wrong: Wrong) {
     for a in 0..32 {
         if held(d, a) != 0 {
             offer(d, a, wrong);
@@ -276,10 +265,10 @@ fn offer_all(d: &mut [usize; 16384], wrong: usize) {
 }
 
 // The budgets begin anew. A wrong rule has every transaction come home.
-fn reopen(d: &mut [usize; 16384], wrong: usize) {
+fn reopen(d: &mut [usize; 16384], wrong: Wrong) {
     for a in 0..32 {
         put(d, USED, a, 0);
-        if wrong == HOME_AT_WINDOW {
+        if wrong == Wrong::HomeAtWindow {
             forget_returns(d, a);
         }
     }
@@ -287,19 +276,19 @@ fn reopen(d: &mut [usize; 16384], wrong: usize) {
 
 // The slot count rises; those that are due then are home, and where that opens a window the budgets begin anew. A wrong rule keeps
 // the budgets for the whole run.
-pub(crate) fn advance(d: &mut [usize; 16384], wrong: usize) {
+pub(crate) fn advance(d: &mut [usize; 16384], wrong: Wrong) {
     add(d, SLOT, 0, 1);
     take_home(d);
     let window = cell(d, 0, 0);
     if window != 0 {
-        if (get(d, SLOT, 0) % window == 0) & (wrong != WHOLE_RUN) {
+        if (get(d, SLOT, 0) % window == 0) & (wrong != Wrong::WholeRun) {
             reopen(d, wrong);
         }
     }
 }
 
 // One slot: what it serves, or 255.
-pub(crate) fn one_slot(d: &mut [usize; 16384], wrong: usize) -> usize {
+pub(crate) fn one_slot(d: &mut [usize; 16384], wrong: Wrong) -> usize {
     if all_queued(d) == 0 {
         return 255;
     }
@@ -308,7 +297,7 @@ pub(crate) fn one_slot(d: &mut [usize; 16384], wrong: usize) -> usize {
 }
 
 // One slot of a run over the lines of the log, its offers first.
-pub(crate) fn run_slot(d: &mut [usize; 16384], lines: usize, wrong: usize) -> usize {
+pub(crate) fn run_slot(d: &mut [usize; 16384], lines: usize, wrong: Wrong) -> usize {
     take_due(d, lines);
     offer_all(d, wrong);
     let a = one_slot(d, wrong);
@@ -317,8 +306,8 @@ pub(crate) fn run_slot(d: &mut [usize; 16384], lines: usize, wrong: usize) -> us
 }
 
 // Is the run done? What returns is not asked, except by a wrong rule.
-pub(crate) fn nothing_left(d: &[usize; 16384], lines: usize, wrong: usize) -> bool {
-    if (wrong == DONE_AT_HOME) & (all_returning(d) != 0) {
+pub(crate) fn nothing_left(d: &[usize; 16384], lines: usize, wrong: Wrong) -> bool {
+    if (wrong == Wrong::DoneAtHome) & (all_returning(d) != 0) {
         return false;
     }
     (lines <= get(d, NEXT, 0)) & (all_held(d, wrong) == 0) & (all_queued(d) == 0)
@@ -333,10 +322,8 @@ pub(crate) fn clear_state(d: &mut [usize; 16384], channel: usize) {
 // The state of a channel in which the last port of each interconnect is 7, and all else is 0.
 pub fn start(d: &mut [usize; 16384], channel: usize) {
     clear_state(d, channel);
-    for i in 0..15 {
-        if i < ints(d) {
-            put(d, LAST, i, 7);
-        }
+    for i in 0..ints(d).min(15) {
+        put(d, LAST, i, 7);
     }
 }
 
@@ -358,41 +345,47 @@ pub fn refused(number: usize, line: usize) -> Ended {
     }
 }
 
-// Runs the lines of the log on a channel of the tree in the rows.
-fn run_log(d: &mut [usize; 16384], channel: usize, out: &mut [u8], wrong: usize) -> Ended {
+// Runs the lines of the log on a channel of the tree in the rows, a slot to each place, which is given what `of` says of the accelerator
+// served; how many are used.
+pub(crate) fn run_over<T: Copy, F: Fn(&[usize; 16384], usize) -> T>(
+    d: &mut [usize; 16384],
+    channel: usize,
+    places: &mut [T],
+    wrong: Wrong,
+    of: F,
+) -> usize
+    requires { F.IsAlwaysCallable of }
+{
     let lines = get(d, LINES, 0);
+    let n = places.len();
     start(d, channel);
-    let mut used = 0;
-    while used < out.len() {
+    for (used, place) in places.iter_mut().enumerate() {
         if nothing_left(d, lines, wrong) {
-            return run_end(true, used);
+            return used;
         }
         let a = run_slot(d, lines, wrong);
-        out[used] = (a % 256) as u8;
-        used += 1;
+        *place = of(d, a);
     }
-    run_end(nothing_left(d, lines, wrong), used)
+    n
 }
 
-pub(crate) fn said(number: usize, line: usize) -> Said {
-    Said {
-        number: number,
-        line: line,
-    }
+fn run_log(d: &mut [usize; 16384], channel: usize, out: &mut [u8], wrong: Wrong) -> Ended {
+    let used = run_over(d, channel, out, wrong, |_, a| (a % 256) as u8);
+    run_end(nothing_left(d, get(d, LINES, 0), wrong), used)
 }
 
 // The refusal of a run over n bytes: 11, the buffer's size, the trace; or 0. A wrong rule tests the size first, or the trace
 // before the size.
-pub fn run_refusal(trace: Said, d: &[usize; 16384], n: usize, wrong: usize) -> Said {
+pub fn run_refusal(trace: Said, d: &[usize; 16384], n: usize, wrong: Wrong) -> Said {
     let large = 65536 < n;
-    if large & (wrong == SIZE_FIRST) {
-        return said(2, 0);
+    if large & (wrong == Wrong::SizeFirst) {
+        return answer(2, 0);
     }
     if is_broken(d) {
-        return said(11, 0);
+        return answer(11, 0);
     }
-    if large & ((trace.number == 0) | (wrong != TRACE_FIRST)) {
-        return said(2, 0);
+    if large & ((trace.number == 0) | (wrong != Wrong::TraceFirst)) {
+        return answer(2, 0);
     }
     trace
 }
@@ -403,7 +396,7 @@ pub fn run_trace(
     d: &mut [usize; 16384],
     channel: usize,
     out: &mut [u8],
-    wrong: usize,
+    wrong: Wrong,
 ) -> Ended {
     let r = run_refusal(trace, d, out.len(), wrong);
     if r.number != 0 {

@@ -1,9 +1,7 @@
 // The second reader of a trace. Each line goes into a log.
 use crate::book::{accs, is_broken};
-use crate::scan::{
-    OFFER, Scan, answer, any_dash, begun, close_field, field, field_byte, line_start, within,
-};
-use crate::{FALLING_FIRST, Said};
+use crate::scan::{OFFER, Scan, any_dash, begun, field, read_lines, within};
+use crate::{Said, Wrong, answer};
 use store::{add, clear, get, put};
 
 // The total of each accelerator's counts, the slot of the line before, and how many lines are in the log.
@@ -57,7 +55,7 @@ fn falls(d: &[usize; 16384]) -> bool {
 }
 
 // The refusal of a line, or 0.
-fn fault(s: Scan, d: &[usize; 16384], known: usize, wrong: usize) -> usize {
+fn fault(s: Scan, d: &[usize; 16384], known: usize, wrong: Wrong) -> usize {
     if s.bad | (s.name != OFFER) | (s.fields != 4) {
         return 1;
     }
@@ -67,7 +65,7 @@ fn fault(s: Scan, d: &[usize; 16384], known: usize, wrong: usize) -> usize {
     if !within(d, 1, 0, 4294967294) | !within(d, 3, 1, 16) {
         return 2;
     }
-    if (wrong == FALLING_FIRST) & falls(d) {
+    if (wrong == Wrong::FallingFirst) & falls(d) {
         return 6;
     }
     let a = field(d, 2);
@@ -77,7 +75,7 @@ fn fault(s: Scan, d: &[usize; 16384], known: usize, wrong: usize) -> usize {
     if falls(d) {
         return 6;
     }
-    if 65535 < std::num::wrapping_add_usize(get(d, TOTAL, a), field(d, 3)) {
+    if 65535 < get(d, TOTAL, a).wrapping_add(field(d, 3)) {
         return 2;
     }
     0
@@ -95,7 +93,7 @@ fn enter(d: &mut [usize; 16384]) {
 }
 
 // The refusal of a line, or 0 and the line is in the log.
-fn judge(s: Scan, d: &mut [usize; 16384], known: usize, wrong: usize) -> usize {
+fn judge(s: Scan, d: &mut [usize; 16384], known: usize, wrong: Wrong) -> usize {
     let number = fault(s, d, known, wrong);
     if number == 0 {
         enter(d);
@@ -103,39 +101,23 @@ fn judge(s: Scan, d: &mut [usize; 16384], known: usize, wrong: usize) -> usize {
     number
 }
 
-fn read_lines(s: &[u8], d: &mut [usize; 16384], wrong: usize) -> Said {
+fn read_requests(s: &[u8], d: &mut [usize; 16384], wrong: Wrong) -> Said {
     clear(d, TOTAL, 64);
     if 65536 < s.len() {
         return answer(2, 0);
     }
     let known = accs(d);
-    let mut scan = line_start(1);
-    let mut at = 0;
-    while at < s.len() {
-        let b = s[at];
-        if b == 10 {
-            let number = judge(close_field(scan, d), d, known, wrong);
-            if number != 0 {
-                return answer(number, scan.line);
-            }
-            scan = line_start(std::num::wrapping_add_usize(scan.line, 1));
-        } else if b == 9 {
-            scan = close_field(scan, d);
-        } else {
-            scan = field_byte(scan, b);
-        }
-        at += 1;
+    match read_lines(s, d, |line, d| judge(line, d, known, wrong)) {
+        Ok(rest) if begun(rest) => answer(1, rest.line),
+        Ok(_) => answer(0, 0),
+        Err(said) => said,
     }
-    if begun(scan) {
-        return answer(1, scan.line);
-    }
-    answer(0, 0)
 }
 
 // Reads a trace file, for the tree in the rows, into the log.
-pub fn read_log(s: &[u8], d: &mut [usize; 16384], wrong: usize) -> Said {
+pub fn read_log(s: &[u8], d: &mut [usize; 16384], wrong: Wrong) -> Said {
     if is_broken(d) {
         return answer(11, 0);
     }
-    read_lines(s, d, wrong)
+    read_requests(s, d, wrong)
 }

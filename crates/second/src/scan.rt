@@ -1,9 +1,9 @@
 // The second reader's first half: a file is taken byte by byte. What has been seen of the current line is a Scan, and the
 // fields that are closed stand in the store, as numbers.
-use crate::Said;
+use crate::{Said, answer};
 use store::{get, put};
 
-// A record name is held as one number: a 1 and then its bytes, in base 256.
+// A record name is held as one number, and no enum, since this reader takes a line byte by byte: a 1 and then its bytes, in base 256.
 pub const BUS: usize = 23229811;
 
 pub const BUS3: usize = 5946831667;
@@ -30,13 +30,6 @@ pub struct Scan {
     pub number: usize,
     pub dash: bool,
     pub bad: bool,
-}
-
-pub fn answer(number: usize, line: usize) -> Said {
-    Said {
-        number: number,
-        line: line,
-    }
 }
 
 pub fn line_start(line: usize) -> Scan {
@@ -68,7 +61,7 @@ fn name_byte(mut s: Scan, b: u8) -> Scan {
     }
     let longer = (s.name % 4294967296) * 256 + (b as usize);
     s.name = longer;
-    s.bytes = std::num::wrapping_add_usize(s.bytes, 1);
+    s.bytes = s.bytes.wrapping_add(1);
     s
 }
 
@@ -94,7 +87,7 @@ fn digit_byte(mut s: Scan, b: u8) -> Scan {
     }
     let digit = (b - 48) as usize;
     s.number = (s.number % 10000000000) * 10 + digit;
-    s.bytes = std::num::wrapping_add_usize(s.bytes, 1);
+    s.bytes = s.bytes.wrapping_add(1);
     s
 }
 
@@ -119,7 +112,7 @@ pub fn close_field(mut s: Scan, d: &mut [usize; 16384]) -> Scan {
         x = DASH;
     }
     set_field(d, s.fields, x);
-    s.fields = std::num::wrapping_add_usize(s.fields, 1);
+    s.fields = s.fields.wrapping_add(1);
     s.bytes = 0;
     s.number = 0;
     s.dash = false;
@@ -144,14 +137,36 @@ pub fn is_dash(d: &[usize; 16384], i: usize) -> bool {
 
 // Is one of the fields 1 to n "-"?
 pub fn any_dash(d: &[usize; 16384], n: usize) -> bool {
-    let mut found = false;
-    for i in 0..n {
-        found = found | is_dash(d, std::num::wrapping_add_usize(i, 1));
-    }
-    found
+    (1..=n).any(|i| is_dash(d, i))
 }
 
 pub fn within(d: &[usize; 16384], i: usize, low: usize, high: usize) -> bool {
     let x = field(d, i);
     (low <= x) & (x <= high)
+}
+
+// Takes the lines of a file, of each of which `judge` gives the number of its refusal, or 0: what there is after the last line, or the
+// answer on the first that is refused.
+pub fn read_lines<F: Fn(Scan, &mut [usize; 16384]) -> usize>(
+    s: &[u8],
+    d: &mut [usize; 16384],
+    judge: F,
+) -> Result<Scan, Said>
+    requires { F.IsAlwaysCallable judge }
+{
+    let mut scan = line_start(1);
+    for b in s {
+        if *b == b'\n' {
+            let number = judge(close_field(scan, d), d);
+            if number != 0 {
+                return Err(answer(number, scan.line));
+            }
+            scan = line_start(scan.line.wrapping_add(1));
+        } else if *b == b'\t' {
+            scan = close_field(scan, d);
+        } else {
+            scan = field_byte(scan, *b);
+        }
+    }
+    Ok(scan)
 }

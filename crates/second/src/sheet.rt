@@ -1,36 +1,30 @@
 // The second report: the text of document 01, with document 02's two shares, for the tree in the rows, from the second bounds.
-use crate::NO_WRONG_RULE;
+use crate::Wrong;
 use crate::book::accs;
 use crate::response::{Row, figures};
+use std::io::Write;
 
 // A byte goes to the page; where the next one goes.
 pub(crate) fn byte(page: &mut [u8; 65536], at: usize, b: u8) -> usize {
     page[at % 65536] = b;
-    std::num::wrapping_add_usize(at, 1)
+    at.wrapping_add(1)
 }
 
 pub(crate) fn word(page: &mut [u8; 65536], at: usize, s: &[u8]) -> usize {
     let mut next = at;
-    for i in 0..s.len() {
-        next = byte(page, next, s[i]);
+    for b in s {
+        next = byte(page, next, *b);
     }
     next
 }
 
-// The digits of n, from the highest power of ten down; those before the first that is not 0 are left out, but the last never.
+// The digits of n, twenty at most.
 pub(crate) fn number(page: &mut [u8; 65536], at: usize, n: usize) -> usize {
-    let mut next = at;
-    let mut begun = false;
-    let mut power: usize = 10000000000000000000;
-    while 0 < power {
-        let digit = n / power % 10;
-        begun = begun | (digit != 0) | (power == 1);
-        if begun {
-            next = byte(page, next, 48 + (digit as u8));
-        }
-        power = power / 10;
-    }
-    next
+    let mut text = [0u8; 20];
+    let mut rest = &mut text[..];
+    let _ = write!(rest, "{n}");
+    let left = rest.len();
+    word(page, at, &text[..20usize.saturating_sub(left)])
 }
 
 // A number and a tab.
@@ -47,14 +41,12 @@ fn verdict(page: &mut [u8; 65536], at: usize, meets: bool) -> usize {
 }
 
 fn line(page: &mut [u8; 65536], at: usize, a: usize, r: Row) -> usize {
-    let mut next = column(page, at, a);
-    next = column(page, next, r.level);
-    next = column(page, next, r.sr);
-    next = column(page, next, r.sw);
-    next = column(page, next, r.reads);
-    next = column(page, next, r.writes);
-    next = column(page, next, r.response);
-    next = column(page, next, r.period);
+    let mut next = at;
+    for n in [
+        a, r.level, r.sr, r.sw, r.reads, r.writes, r.response, r.period,
+    ] {
+        next = column(page, next, n);
+    }
     verdict(page, next, r.meets)
 }
 
@@ -66,12 +58,10 @@ pub fn write_report(d: &[usize; 16384], page: &mut [u8; 65536]) -> usize {
         b"acc\tlevel\tsr\tsw\tyr\tyw\tresp\tperiod\tverdict\n",
     );
     let mut all = true;
-    for a in 0..32 {
-        if a < accs(d) {
-            let r = figures(d, a, NO_WRONG_RULE);
-            next = line(page, next, a, r);
-            all = all & r.meets;
-        }
+    for a in 0..accs(d).min(32) {
+        let r = figures(d, a, Wrong::Nothing);
+        next = line(page, next, a, r);
+        all = all & r.meets;
     }
     next = word(page, next, b"all\t");
     verdict(page, next, all)

@@ -1,10 +1,11 @@
 // One block of numbers, the store, holds all that the second implementation, the generator and the counts keep, in parts that
 // begin at fixed places: those of `second` lie below 3072, from 5120 and from 8192 on, the counts of `crosscheck`, `callcheck` and
-// `burstcheck` from 3072 on, those of `generator` from 4096 on. There are no structs for a tree, a state or their records. A place
-// past the end goes round.
+// `burstcheck` from 3072 on, those of `generator` from 4096 on. A place past the end goes round. There are no structs for a tree, a
+// state or their records: the second implementation keeps them in another form than the library on purpose, so that an error in one
+// form is not in both, and the equations of its `specs/` speak of these numbers.
 #![tactic(auto)]
 
-ghost use Rattle.std.specs.Prelude.{◌≡◌, ◌<◌, min};
+ghost use Rattle.std.specs.Prelude.{◌≡◌, ◌<◌};
 ghost use Rattle.store.specs.Store.{place_of, number_at, stored, added, cleared, noted};
 
 // For each wrong rule of `second` the inputs on which it is seen; there is room for 128.
@@ -17,7 +18,7 @@ pub const DIFFERENCES: usize = 3152;
 fn place(part: usize, i: usize) -> usize
     ensures { (result ≡ place_of part i) × (result < 16384) }
 {
-    std::num::wrapping_add_usize(part, i) % 16384
+    part.wrapping_add(i) % 16384
 }
 
 // Number i of a part.
@@ -41,7 +42,7 @@ pub fn add(d: &mut [usize; 16384], part: usize, i: usize, x: usize)
     ensures { d.new ≡ added d.old part i x }
 {
     let at = place(part, i);
-    d[at] = std::num::wrapping_add_usize(d[at], x);
+    d[at] = d[at].wrapping_add(x);
 }
 
 // Sets n numbers of a part to 0.
@@ -51,13 +52,6 @@ pub fn clear(d: &mut [usize; 16384], part: usize, n: usize)
     for i in 0..n {
         put(d, part, i, 0);
     }
-}
-
-// The smaller of two numbers.
-pub fn least(x: usize, y: usize) -> usize
-    ensures { result ≡ min x y }
-{
-    if x < y { x } else { y }
 }
 
 // Counts one at i of a part, unless two answers are the same.

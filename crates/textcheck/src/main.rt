@@ -5,52 +5,40 @@
 
 use answers::channel_number;
 use burst::Burst;
+use input::page_text;
 use model::Channel;
 use plan::{PlanError, refused_line, refused_number};
+use printing::put_text;
 use simulation::{Part, Simulation};
 use std::io;
 use std::io::Read;
 use std::rt::Files;
-use text::{part_end, same_bytes};
+use text::same_bytes;
 use usage::{Asked, Denied, Source};
 use waits::Waited;
 
-fn show(out: &impl Print, page: &[u8], n: usize) {
-    if n <= page.len() {
-        let _ = out.write_all(&page[..n]);
-    }
+fn say_line(out: &impl Print, line: &[u8]) {
+    let _ = out.write_all(line);
 }
 
-fn show_page(out: &impl Print, page: &[u8; 65536], n: usize) {
-    show(out, page, n);
+// The text that is put into an empty page.
+fn show<F: FnOnce(&mut [u8; 65536]) -> usize>(out: &impl Print, text: F)
+    requires { F.IsAlwaysCallable text }
+{
+    say_line(out, put_text(&mut [0u8; 65536], text));
 }
 
 fn show_usage(out: &impl Print) {
-    let mut page = [0u8; 65536];
-    let n = usage::report_usage(&mut page);
-    show_page(out, &page, n);
-    let n = usage::report_help(&mut page);
-    show_page(out, &page, n);
-    let n = usage::rewrite_usage(&mut page);
-    show_page(out, &page, n);
-    let n = usage::rewrite_help(&mut page);
-    show_page(out, &page, n);
-    let n = usage::simulate_usage(&mut page);
-    show_page(out, &page, n);
-    let n = usage::simulate_help(&mut page);
-    show_page(out, &page, n);
-    let n = usage::why_usage(&mut page);
-    show_page(out, &page, n);
-    let n = usage::why_help(&mut page);
-    show_page(out, &page, n);
-    let n = usage::split_usage(&mut page);
-    show_page(out, &page, n);
-    let n = usage::split_help(&mut page);
-    show_page(out, &page, n);
-}
-
-fn say_line(out: &impl Print, line: &[u8]) {
-    let _ = out.write_all(line);
+    show(out, usage::report_usage);
+    show(out, usage::report_help);
+    show(out, usage::rewrite_usage);
+    show(out, usage::rewrite_help);
+    show(out, usage::simulate_usage);
+    show(out, usage::simulate_help);
+    show(out, usage::why_usage);
+    show(out, usage::why_help);
+    show(out, usage::split_usage);
+    show(out, usage::split_help);
 }
 
 fn say_number(out: &impl Print, n: u64) {
@@ -59,35 +47,20 @@ fn say_number(out: &impl Print, n: u64) {
 
 // The word that a line begins with: each is ended by a semicolon. Of an empty line no byte, as of a word that was not given.
 fn word(line: &[u8]) -> &[u8] {
-    let end = part_end(line, 0, b';');
-    if end < line.len() {
-        return &line[0..end];
-    }
-    line
+    line.split(|b| *b == b';').next().unwrap_or(line)
 }
 
 // What stands after that word.
 fn after(line: &[u8]) -> &[u8] {
-    let end = part_end(line, 0, b';');
-    if end < line.len() {
-        return &line[end + 1..];
+    match line.iter().position(|b| *b == b';') {
+        Some(end) => &line[end + 1..],
+        None => line,
     }
-    line
 }
 
 // How many words a line has.
 fn word_count(line: &[u8]) -> usize {
-    let mut count = 0;
-    let mut at = 0;
-    while at < line.len() {
-        let end = part_end(line, at, b';');
-        if line.len() <= end {
-            return count;
-        }
-        count += 1;
-        at = end + 1;
-    }
-    count
+    line.iter().filter(|b| **b == b';').count()
 }
 
 // What `report` does, started with these words; `rewrite` does the same.
@@ -219,14 +192,8 @@ fn does(out: &impl Print, line: &[u8]) {
 
 // What is done by each line of the table.
 fn do_lines(out: &impl Print, table: &[u8]) {
-    let mut at = 0;
-    while at < table.len() {
-        let end = part_end(table, at, b'\n');
-        if table.len() <= end {
-            return;
-        }
-        does(out, &table[at..end]);
-        at = end + 1;
+    for line in table.split(|b| *b == b'\n') {
+        does(out, line);
     }
 }
 
@@ -407,7 +374,7 @@ fn load(rt: &(impl Files + Print), stdin: &mut impl Read, errors: &impl Print, n
     match read {
         Some(n) => {
             say_line(rt, b"read: ");
-            show(rt, &bytes, n);
+            say_line(rt, &bytes[..n]);
             say_line(rt, b"\n");
         }
         None => say_line(rt, b"cannot be read\n"),
@@ -442,13 +409,15 @@ fn load_all(rt: &(impl Files + Print), stdin: &mut impl Read, errors: &impl Prin
 }
 
 // The text of a tree in the page; of a refused tree the first byte of the page, which is left as it was, and the refusal.
-fn show_printed(out: &impl Print, r: Result<usize, PlanError>, page: &mut [u8; 65536]) {
+fn show_printed(out: &impl Print, r: Result<usize, PlanError>, page: &[u8; 65536]) {
     match r {
-        Ok(n) => show_page(out, page, n),
+        Ok(n) => say_line(out, page_text(page, n)),
         Err(e) => {
-            show_page(out, page, 1);
-            let n = listing::refusal_text(refused_number(e), refused_line(e), page);
-            show_page(out, page, n);
+            say_line(out, &page[..1]);
+            show(
+                out,
+                |p| listing::refusal_text(refused_number(e), refused_line(e), p),
+            );
         }
     }
 }
@@ -456,32 +425,27 @@ fn show_printed(out: &impl Print, r: Result<usize, PlanError>, page: &mut [u8; 6
 fn report(out: &impl Print, tree: &[u8]) {
     let mut page = [b'.'; 65536];
     let r = plan::report(tree, &mut page);
-    show_printed(out, r, &mut page);
+    show_printed(out, r, &page);
 }
 
 fn rewrite(out: &impl Print, tree: &[u8]) {
     let mut page = [b'.'; 65536];
     let r = plan::rewrite(tree, &mut page);
-    show_printed(out, r, &mut page);
+    show_printed(out, r, &page);
 }
 
 // A refusal of the bytes in words.
 fn say(out: &impl Print, trace: bool, bytes: &[u8], number: u8, line: u32) {
-    let mut page = [0u8; 65536];
-    let n = reasons::reason_text(trace, bytes, number, line, &mut page);
-    show_page(out, &page, n);
+    show(
+        out,
+        |page| reasons::reason_text(trace, bytes, number, line, page),
+    );
 }
 
 // Refusals in words of files, each ended by a semicolon.
 fn say_each(out: &impl Print, trace: bool, files: &[u8], number: u8, line: u32) {
-    let mut at = 0;
-    while at < files.len() {
-        let end = part_end(files, at, b';');
-        if files.len() <= end {
-            return;
-        }
-        say(out, trace, &files[at..end], number, line);
-        at = end + 1;
+    for file in files.split_inclusive(|b| *b == b';') {
+        say(out, trace, word(file), number, line);
     }
 }
 
@@ -639,8 +603,8 @@ fn say_lines(out: &impl Print, bus: &[u8], offers: &[u8]) {
 
 // These numbers, a byte each, of a tree file.
 fn say_of_tree(out: &impl Print, tree: &[u8], numbers: &[u8], line: u32) {
-    for i in 0..numbers.len() {
-        say(out, false, tree, numbers[i], line);
+    for &number in numbers {
+        say(out, false, tree, number, line);
     }
 }
 
@@ -689,9 +653,7 @@ fn say_older(out: &impl Print) {
 // Of a refusal also what is refused.
 fn run_over(out: &impl Print, served: &mut [u8], channel: Channel, tree: &[u8], trace: &[u8]) {
     let o = razhikum::razhikum_run(tree, channel_number(channel), trace, served);
-    let mut page = [0u8; 65536];
-    let n = simulation::page_text(o, served, 0, &mut page);
-    show_page(out, &page, n);
+    show(out, |page| simulation::page_text(o, served, 0, page));
     let part = simulation::refused_part(o, served.len());
     match part {
         None => {}
@@ -713,18 +675,11 @@ fn simulate(out: &impl Print, channel: Channel, tree: &[u8], trace: &[u8], word:
     }
 }
 
-// The first page of the reply's text.
-fn show_reply(out: &impl Print, reply: Result<Waited, Denied<inquiry::Part>>, list: &[u8; 65536]) {
-    let mut page = [0u8; 65536];
-    let n = inquiry::page_text(reply, list, 0, &mut page);
-    show_page(out, &page, n);
-}
-
-// Of a refusal also what is refused.
+// The first page of the reply's text; of a refusal also what is refused.
 fn why(out: &impl Print, channel: Channel, tree: &[u8], trace: &[u8], a: u8, k: u32) {
     let mut list = [0u8; 65536];
     let reply = inquiry::inquire(tree, channel, trace, a, k, &mut list);
-    show_reply(out, reply, &list);
+    show(out, |page| inquiry::page_text(reply, &list, 0, page));
     let Err(e) = reply else {
         return;
     };
@@ -767,18 +722,15 @@ fn show_pieces(
     starts: &[u32; 256],
     beats: &[u32; 256],
 ) {
-    let mut page = [0u8; 65536];
-    let n = splitting::reply_text(reply, starts, beats, &mut page);
-    show_page(out, &page, n);
+    show(
+        out,
+        |page| splitting::reply_text(reply, starts, beats, page),
+    );
 }
 
 // Of a refusal also what is refused.
 fn split(out: &impl Print, tree: &[u8], start: u32, beats: u32, size: u32) {
-    let b = Burst {
-        start: start,
-        beats: beats,
-        size: size,
-    };
+    let b = Burst { start, beats, size };
     let mut starts = [7u32; 256];
     let mut lengths = [8u32; 256];
     let reply = splitting::split_file(tree, b, &mut starts, &mut lengths);

@@ -36,11 +36,7 @@ fn same_numbers(b: Bus, d: &[usize; 16384]) -> bool
 fn same_name(axi3: bool, d: &[usize; 16384]) -> bool
     ensures { result ≡ same_name axi3 d.now }
 {
-    let older = is_older(d);
-    if axi3 {
-        return older;
-    }
-    !older
+    axi3 == is_older(d)
 }
 
 // The ten numbers that each bus line has, the return delay, and the record name.
@@ -65,10 +61,8 @@ fn same_ports(t: Tree, i: u8, d: &[usize; 16384]) -> bool
     ensures { result ≡ same_ports t i d.now }
 {
     let mut same = true;
-    let mut p: u8 = 0;
-    while p < 8 {
+    for p in 0..8u8 {
         same = same & (code(port_at(t, i, p)) == carried(d, i as usize, p as usize));
-        p += 1;
     }
     same
 }
@@ -137,10 +131,8 @@ fn same_interconnects(t: Tree, d: &[usize; 16384]) -> bool
     ensures { result ≡ all 15 (λ i. same_int (interconnect_of t i) i d.now && same_ports t i d.now) }
 {
     let mut same = true;
-    let mut i: u8 = 0;
-    while i < 15 {
+    for i in 0..15u8 {
         same = same & same_interconnect(t, i, d);
-        i += 1;
     }
     same
 }
@@ -149,10 +141,8 @@ fn same_accelerators(t: Tree, d: &[usize; 16384]) -> bool
     ensures { result ≡ all 32 (λ a. same_acc (accelerator_of t a) a d.now) }
 {
     let mut same = true;
-    let mut a: u8 = 0;
-    while a < 32 {
+    for a in 0..32u8 {
         same = same & same_acc(accelerator_at(t, a), a as usize, d);
-        a += 1;
     }
     same
 }
@@ -176,14 +166,15 @@ pub fn same_tree(t: Tree, d: &[usize; 16384]) -> bool
     same_bus(t.bus, d) & same_ints(t, d) & same_accs(t, d)
 }
 
-// Nine numbers, from field 1 of the line on.
-fn put_nine(numbers: [usize; 9], d: &mut [usize; 16384]) {
-    for i in 0..9usize {
-        put_entry(d, i + 1, numbers[i]);
+// The numbers of a line, from field 1 on.
+fn put_numbers<const N: usize>(numbers: [usize; N], d: &mut [usize; 16384]) {
+    for (i, x) in numbers.iter().enumerate() {
+        put_entry(d, i.wrapping_add(1), *x);
     }
 }
 
-fn put_delays(b: Bus, d: &mut [usize; 16384]) {
+// The bus line, named bus3 if the tree is one of AXI3.
+fn put_bus(b: Bus, d: &mut [usize; 16384]) -> bool {
     let numbers = [
         b.window as usize,
         b.ta as usize,
@@ -194,15 +185,10 @@ fn put_delays(b: Bus, d: &mut [usize; 16384]) {
         b.pw as usize,
         b.td as usize,
         b.tb as usize,
+        b.burst as usize,
+        b.delay as usize,
     ];
-    put_nine(numbers, d);
-}
-
-// The bus line, named bus3 if the tree is one of AXI3.
-fn put_bus(b: Bus, d: &mut [usize; 16384]) -> bool {
-    put_delays(b, d);
-    put_entry(d, 10, b.burst as usize);
-    put_entry(d, 11, b.delay as usize);
+    put_numbers(numbers, d);
     if b.axi3 {
         return bus3_fits(d);
     }
@@ -211,10 +197,13 @@ fn put_bus(b: Bus, d: &mut [usize; 16384]) -> bool {
 
 // The line of interconnect i; that of the root has "-" for parent and port.
 fn put_int(x: Interconnect, i: usize, d: &mut [usize; 16384]) -> bool {
-    put_entry(d, 1, i);
-    put_entry(d, 2, x.parent as usize);
-    put_entry(d, 3, x.port as usize);
-    put_entry(d, 4, x.granularity as usize);
+    let numbers = [
+        i,
+        x.parent as usize,
+        x.port as usize,
+        x.granularity as usize,
+    ];
+    put_numbers(numbers, d);
     if i == 0 {
         put_dash(d, 2);
         put_dash(d, 3);
@@ -234,27 +223,23 @@ fn put_acc(x: Accelerator, a: usize, d: &mut [usize; 16384]) -> bool {
         x.computing as usize,
         x.period as usize,
     ];
-    put_nine(numbers, d);
+    put_numbers(numbers, d);
     acc_fits(d)
 }
 
 // The int lines: the sixteenth, if there is one, does not fit.
 fn put_ints(t: Tree, d: &mut [usize; 16384]) -> bool {
     let mut fit = true;
-    for i in 0..16u8 {
-        if i < t.ints {
-            fit = put_int(interconnect_at(t, i), i as usize, d) & fit;
-        }
+    for i in 0..t.ints.min(16) {
+        fit = put_int(interconnect_at(t, i), i as usize, d) & fit;
     }
     fit
 }
 
 fn put_accs(t: Tree, d: &mut [usize; 16384]) -> bool {
     let mut fit = true;
-    for a in 0..33u8 {
-        if a < t.accs {
-            fit = put_acc(accelerator_at(t, a), a as usize, d) & fit;
-        }
+    for a in 0..t.accs.min(33) {
+        fit = put_acc(accelerator_at(t, a), a as usize, d) & fit;
     }
     fit
 }

@@ -1,11 +1,8 @@
 -- `same_turns` meets its contract: the loop has tested each interconnect below the next one.
-use Rattle.std.proofs.Common.{◌≡◌, ◌-◌, ◌≤◌}
+use Rattle.std.proofs.Common.{◌≡◌}
 use Rattle.folds.specs.Fold.{all}
 use Rattle.callcheck.specs.Same.{same_turn}
 use Rattle.callcheck.proofs.same_turns.Given as goal
 
 abbrev pub invariant-loop-j : goal.invariant-loop-j
-invariant-loop-j l = (l.j ≤ 15) × (l.same ≡ all l.j (λ i. same_turn l.s i l.d))
-
-abbrev pub decreases-loop-j : goal.decreases-loop-j
-decreases-loop-j l = 15 - l.j
+invariant-loop-j l = l.same ≡ all l.j (λ i. same_turn l.s i l.d)

@@ -1,7 +1,7 @@
 -- `limits` meets its contract: each entry below the next one is its accelerator's limit, and past the end both are 0.
 use mathlib.Core.List.{List}
 use mathlib.Core.Path.{◌≡◌}
-use Prim.Native.Nat.{ℕ, ◌-◌, ◌≤◌, ◌<◌}
+use Prim.Native.Nat.{ℕ, ◌<◌}
 use lib.ListN.{length, get_or}
 use Rattle.model.specs.Tree.{limit_of}
 use Rattle.shares.proofs.limits.Given as goal

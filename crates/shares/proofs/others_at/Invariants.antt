@@ -1,6 +1,6 @@
 -- `others_at` meets its contract: the loop has added what each port below the next one counts for.
 use mathlib.Core.Path.{◌≡◌}
-use Prim.Native.Nat.{◌≤◌, ◌-◌, ◌*◌}
+use Prim.Native.Nat.{◌≤◌, ◌*◌}
 use Rattle.folds.specs.Fold.{sum as total}
 use Rattle.model.specs.Beneath.{weight_in}
 use Rattle.shares.specs.Shares.{counted}

@@ -1,10 +1,7 @@
 -- `clear` meets its contract: the loop has set each number before the next one.
-use Rattle.std.proofs.Common.{◌≡◌, ◌-◌, ◌≤◌}
+use Rattle.std.proofs.Common.{◌≡◌}
 use Rattle.store.specs.Store.{cleared}
 use Rattle.store.proofs.clear.Given as goal
 
 abbrev pub invariant-loop-i : goal.invariant-loop-i
-invariant-loop-i l = (l.i ≤ l.n) × (l.d ≡ cleared l.initial.d l.part l.i)
-
-abbrev pub decreases-loop-i : goal.decreases-loop-i
-decreases-loop-i l = l.n - l.i
+invariant-loop-i l = l.d ≡ cleared l.initial.d l.part l.i

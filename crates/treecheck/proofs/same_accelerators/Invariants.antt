@@ -1,5 +1,4 @@
 -- `same_accelerators` meets its contract: the loop has tested each number below the next one.
-use Prim.Native.Nat.{◌≤◌, ◌-◌}
 use mathlib.Core.Path.{◌≡◌}
 use Rattle.folds.specs.Fold.{all}
 use Rattle.model.specs.Tree.{accelerator_of}
@@ -7,7 +6,4 @@ use Rattle.treecheck.specs.Same.{same_acc}
 use Rattle.treecheck.proofs.same_accelerators.Given as goal
 
 abbrev pub invariant-loop-a : goal.invariant-loop-a
-invariant-loop-a l = (l.a ≤ 32) × (l.same ≡ all l.a (λ b. same_acc (accelerator_of l.t b) b l.d))
-
-abbrev pub decreases-loop-a : goal.decreases-loop-a
-decreases-loop-a l = 32 - l.a
+invariant-loop-a l = l.same ≡ all l.a (λ b. same_acc (accelerator_of l.t b) b l.d)

@@ -1,5 +1,4 @@
 -- `same_ports` meets its contract: the loop has tested each port below the next one.
-use Prim.Native.Nat.{◌≤◌, ◌-◌}
 use mathlib.Core.Path.{◌≡◌}
 use Rattle.folds.specs.Fold.{all}
 use lib.Dec.{eqb}
@@ -9,7 +8,4 @@ use Rattle.treecheck.specs.Same.{code_of}
 use Rattle.treecheck.proofs.same_ports.Given as goal
 
 abbrev pub invariant-loop-p : goal.invariant-loop-p
-invariant-loop-p l = (l.p ≤ 8) × (l.same ≡ all l.p (λ q. eqb (code_of (port_of l.t l.i q)) (carried_of l.d l.i q)))
-
-abbrev pub decreases-loop-p : goal.decreases-loop-p
-decreases-loop-p l = 8 - l.p
+invariant-loop-p l = l.same ≡ all l.p (λ q. eqb (code_of (port_of l.t l.i q)) (carried_of l.d l.i q))

@@ -1,11 +1,8 @@
 -- `same_bits` meets its contract: the loop has tested each bit below the next one.
-use Rattle.std.proofs.Common.{◌≡◌, ◌-◌, ◌≤◌}
+use Rattle.std.proofs.Common.{◌≡◌}
 use Rattle.folds.specs.Fold.{all}
 use Rattle.callcheck.specs.Same.{due_slot, same_return}
 use Rattle.callcheck.proofs.returns.same_bits.Given as goal
 
 abbrev pub invariant-loop-k : goal.invariant-loop-k
-invariant-loop-k l = (l.k ≤ 32) × (l.same ≡ all l.k (λ i. same_return l.x i l.a (due_slot l.n l.delay i) l.d))
-
-abbrev pub decreases-loop-k : goal.decreases-loop-k
-decreases-loop-k l = 32 - l.k
+invariant-loop-k l = l.same ≡ all l.k (λ i. same_return l.x i l.a (due_slot l.n l.delay i) l.d)

@@ -6,8 +6,8 @@ use lib.ListN.{length}
 use Rattle.runner.proofs.Due.{left}
 use Rattle.runner.proofs.steps.take_due.Given as goal
 
-abbrev pub invariant-loop-place : goal.invariant-loop-place
-invariant-loop-place l = left l.slot l.trace l.place l.held l.accelerators ≡ left l.slot l.trace l.initial.place l.initial.held 0
+abbrev pub invariant-loop-request : goal.invariant-loop-request
+invariant-loop-request l = left l.slot l.trace l.place l.held l.accelerators ≡ left l.slot l.trace l.initial.place l.initial.held 0
 
-abbrev pub decreases-loop-place : goal.decreases-loop-place
-decreases-loop-place l = length l.trace - l.place
+abbrev pub decreases-loop-request : goal.decreases-loop-request
+decreases-loop-request l = length l.trace - l.place
