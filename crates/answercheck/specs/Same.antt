@@ -38,8 +38,10 @@ use Rattle.answers.specs.declared.Row.{Row}
 use Rattle.answers.specs.declared.Wait.{Wait}
 use Rattle.razhikum.specs.declared.Page.{Page}
 use Rattle.model.specs.Answer.{number_of}
-use Rattle.waits.specs.declared.WhyAnswer.{WhyAnswer}
-use Rattle.waits.specs.declared.WhyAnswer.TheVariants.{Refused, Broken, Unknown, NotServed, Waited}
+use Rattle.lines.specs.declared.FileError.TheVariants as unread
+use Rattle.waits.specs.declared.Waited.{Waited}
+use Rattle.waits.specs.declared.WhyError.{WhyError}
+use Rattle.waits.specs.declared.WhyError.TheVariants.{Run, Unknown, NotServed}
 use Rattle.writer.specs.declared.WriteError.{WriteError}
 use Rattle.writer.specs.declared.WriteError.TheVariants as writing
 use Rattle.second.specs.declared.Said.{Said}
@@ -137,12 +139,12 @@ same_request x s a n = eqb x.slot s && eqb x.accelerator a && eqb x.count n
 abbrev pub told_by : ℕ → ℕ → ℕ → ℕ → Told
 told_by n l c s = record { number = n; line = l; count = c; slot = s }
 
-abbrev pub told_of : WhyAnswer → Told
-told_of (Refused r n) = told_by (number_of r) n 0 0
-told_of Broken = told_by 11 0 0 0
-told_of Unknown = told_by 7 0 0 0
-told_of NotServed = told_by 12 0 0 0
-told_of (Waited c s) = told_by 0 0 c s
+abbrev pub told_of : Result Waited WhyError → Told
+told_of (Err (Run (unread.Refused r n))) = told_by (number_of r) n 0 0
+told_of (Err (Run unread.Broken)) = told_by 11 0 0 0
+told_of (Err Unknown) = told_by 7 0 0 0
+told_of (Err NotServed) = told_by 12 0 0 0
+told_of (Ok w) = told_by 0 0 w.count w.admission
 
 abbrev pub same_told : Told → Told → Bool
 same_told x y = eqb x.number y.number && eqb x.line y.line && eqb x.count y.count && eqb x.slot y.slot

@@ -18,7 +18,7 @@ use second::queues::Ended;
 use second::response::Row;
 use second::written::Written;
 use trace::Request;
-use waits::WhyAnswer;
+use waits::{Waited, WhyError};
 use writer::WriteError;
 
 // Two buffers stand in one array: the library's at its start, and ours from here on.
@@ -83,15 +83,17 @@ pub fn told_by(number: usize, line: usize, count: usize, slot: usize) -> Told
 }
 
 // The library's answer in the second implementation's terms.
-pub fn told_of(x: WhyAnswer) -> Told
+pub fn told_of(x: Result<Waited, WhyError>) -> Told
     ensures { result ≡ told_of x }
 {
     match x {
-        WhyAnswer::Refused(r, line) => told_by(number(r) as usize, line as usize, 0, 0),
-        WhyAnswer::Broken => told_by(11, 0, 0, 0),
-        WhyAnswer::Unknown => told_by(7, 0, 0, 0),
-        WhyAnswer::NotServed => told_by(12, 0, 0, 0),
-        WhyAnswer::Waited(count, slot) => told_by(0, 0, count as usize, slot as usize),
+        Err(WhyError::Run(FileError::Refused(r, line))) => {
+            told_by(number(r) as usize, line as usize, 0, 0)
+        }
+        Err(WhyError::Run(FileError::Broken)) => told_by(11, 0, 0, 0),
+        Err(WhyError::Unknown) => told_by(7, 0, 0, 0),
+        Err(WhyError::NotServed) => told_by(12, 0, 0, 0),
+        Ok(w) => told_by(0, 0, w.count as usize, w.admission as usize),
     }
 }
 

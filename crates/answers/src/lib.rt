@@ -17,10 +17,10 @@ use bounds::Figures;
 use burst::joiner::{JoinReply, Progress};
 use lines::{FileError, answer_line, answer_number};
 use model::{Channel, Refusal, number};
-use runner::RunAnswer;
+use runner::RunEnd;
 use splitting::Part;
 use usage::Denied;
-use waits::WhyAnswer;
+use waits::{Waited, WhyError};
 
 // What a reader answers. `file` says which file is refused: 0 neither, 1 the tree, 2 the trace.
 #[repr(C)]
@@ -163,29 +163,19 @@ pub fn count_of(answer: Result<(), FileError>, accelerators: u8) -> Count
 }
 
 // How a run ended.
-pub fn outcome_of(answer: RunAnswer) -> Outcome
+pub fn outcome_of(answer: Result<RunEnd, FileError>) -> Outcome
     ensures { result ≡ outcome_of (run_means answer) }
 {
     match answer {
-        RunAnswer::Refused(r, n) => Outcome {
-            kind: 3,
-            number: number(r),
-            line: n,
-            slots: 0,
-        },
-        RunAnswer::Broken => Outcome {
-            kind: 3,
-            number: 11,
-            line: 0,
-            slots: 0,
-        },
-        RunAnswer::Done(n) => Outcome {
+        Err(FileError::Refused(r, n)) => refused_by(3, number(r), n),
+        Err(FileError::Broken) => refused_by(3, 11, 0),
+        Ok(RunEnd::Done(n)) => Outcome {
             kind: 0,
             number: 0,
             line: 0,
             slots: n,
         },
-        RunAnswer::Stopped(n) => Outcome {
+        Ok(RunEnd::Stopped(n)) => Outcome {
             kind: 1,
             number: 0,
             line: 0,
@@ -227,20 +217,20 @@ pub fn no_wait(kind: u8, number: u8, at: u32) -> Wait
 }
 
 // How a transaction waited.
-pub fn wait_of(answer: WhyAnswer) -> Wait
+pub fn wait_of(answer: Result<Waited, WhyError>) -> Wait
     ensures { result ≡ wait_of (why_means answer) }
 {
     match answer {
-        WhyAnswer::Refused(r, n) => no_wait(3, number(r), n),
-        WhyAnswer::Broken => no_wait(4, 11, 0),
-        WhyAnswer::Unknown => no_wait(4, 7, 0),
-        WhyAnswer::NotServed => no_wait(4, 12, 0),
-        WhyAnswer::Waited(n, at) => Wait {
+        Err(WhyError::Run(FileError::Refused(r, n))) => no_wait(3, number(r), n),
+        Err(WhyError::Run(FileError::Broken)) => no_wait(4, 11, 0),
+        Err(WhyError::Unknown) => no_wait(4, 7, 0),
+        Err(WhyError::NotServed) => no_wait(4, 12, 0),
+        Ok(w) => Wait {
             kind: 0,
             number: 0,
             line: 0,
-            count: n,
-            slot: at,
+            count: w.count,
+            slot: w.admission,
         },
     }
 }

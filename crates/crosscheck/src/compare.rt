@@ -1,8 +1,8 @@
 // The library and the second implementation, side by side on one input.
 use answercheck::{OURS, same_figures};
 use callcheck::channel_of;
+use lines::FileError;
 use model::Tree;
-use runner::RunAnswer;
 use second::queues::{Ended, refused, run_end, run_trace};
 use second::response::{bound_refusal, figures};
 use second::{Said, Wrong};
@@ -51,10 +51,10 @@ pub fn over<T, F: FnOnce(&mut [u8]) -> T>(
 // The library's run on a channel, its answer in the second implementation's terms.
 fn run_library(t: Tree, channel: usize, trace: &[u8], out: &mut [u8]) -> Ended {
     match runner::run(t, channel_of(channel), trace, out) {
-        RunAnswer::Refused(r, line) => refused(model::number(r) as usize, line as usize),
-        RunAnswer::Broken => refused(11, 0),
-        RunAnswer::Done(n) => run_end(true, n as usize),
-        RunAnswer::Stopped(n) => run_end(false, n as usize),
+        Err(FileError::Refused(r, line)) => refused(model::number(r) as usize, line as usize),
+        Err(FileError::Broken) => refused(11, 0),
+        Ok(runner::RunEnd::Done(n)) => run_end(true, n as usize),
+        Ok(runner::RunEnd::Stopped(n)) => run_end(false, n as usize),
     }
 }
 

@@ -27,7 +27,7 @@ use Rattle.waits.specs.Why.{Why, refused_at, denied, waited, why_of}
 use Rattle.inquiry.specs.declared.Transaction.{Transaction}
 use Rattle.inquiry.specs.declared.Part.{Part}
 use Rattle.inquiry.specs.declared.Part.TheVariants.{Tree, Trace, Accelerator, Number}
-use Rattle.inquiry.specs.declared.Waited.{Waited}
+use Rattle.waits.specs.declared.Waited.{Waited}
 
 abbrev pub most_acc : ℕ
 most_acc = 255

@@ -12,13 +12,13 @@ ghost use Rattle.razhikum.specs.Exports.{list_from};
 ghost use Rattle.inquiry.specs.Inquiry.{wait_asked, why_asked, refused, reply_of, reply_from};
 ghost use Rattle.inquiry.specs.Lines.{line_text, lines_text, count_text, wait_page, pages_of, reply_page};
 
-use lines::{answer_line, answer_number};
+use lines::{FileError, answer_line, answer_number};
 use listing::refusal_text;
 use model::{Channel, number};
 use put::Text;
 use reader::read_tree;
 use usage::{Asked, Denied, asks_help, channel_asked, help_asked, number_asked, two_files};
-use waits::{WhyAnswer, why};
+use waits::{Waited, WhyError, why};
 
 // The transaction of an accelerator, on a channel, whose wait `why` tells where its words ask for one. 255 stands for every
 // accelerator above 255, and 4,294,967,295 for every number above it: neither is in any run.
@@ -36,13 +36,6 @@ pub enum Part {
     Trace,
     Accelerator,
     Number,
-}
-
-// How many slots a transaction waited, and the slot of its admission.
-#[derive(Clone, Copy)]
-pub struct Waited {
-    pub count: u32,
-    pub admission: u32,
 }
 
 // The transaction that the words CHANNEL, ACC and NUMBER name; usage where the first is no channel or another no number.
@@ -97,18 +90,15 @@ fn refused(part: Part, number: u8, line: u32) -> Result<Waited, Denied<Part>>
 }
 
 // The answer for two files of which the tree is accepted.
-fn reply_of(answer: WhyAnswer) -> Result<Waited, Denied<Part>>
+fn reply_of(answer: Result<Waited, WhyError>) -> Result<Waited, Denied<Part>>
     ensures { result ≡ reply_of (why_means answer) }
 {
     match answer {
-        WhyAnswer::Refused(r, line) => refused(Part::Trace, number(r), line),
-        WhyAnswer::Broken => refused(Part::Tree, 11, 0),
-        WhyAnswer::Unknown => refused(Part::Accelerator, 7, 0),
-        WhyAnswer::NotServed => refused(Part::Number, 12, 0),
-        WhyAnswer::Waited(n, from) => Ok(Waited {
-            count: n,
-            admission: from,
-        }),
+        Err(WhyError::Run(FileError::Refused(r, line))) => refused(Part::Trace, number(r), line),
+        Err(WhyError::Run(FileError::Broken)) => refused(Part::Tree, 11, 0),
+        Err(WhyError::Unknown) => refused(Part::Accelerator, 7, 0),
+        Err(WhyError::NotServed) => refused(Part::Number, 12, 0),
+        Ok(w) => Ok(w),
     }
 }
 

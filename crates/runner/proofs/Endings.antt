@@ -16,14 +16,17 @@ use Rattle.folds.specs.Fold.{pick}
 use Rattle.rules.specs.Rules.{tree_keeps}
 use Rattle.folds.proofs.Folds.{picked, passed, clash}
 use Rattle.text.specs.Text.{lines}
-use Rattle.lines.specs.Answer.{FileAnswer, Accepted, Refused, Broken}
+use Rattle.lines.specs.declared.FileError.{FileError}
+use Rattle.lines.specs.declared.FileError.TheVariants.{Refused as refused, Broken as broken_rules}
+use Rattle.lines.specs.Answer.{FileAnswer, Accepted, Refused, Broken, file_error}
 use Rattle.trace.specs.declared.Request.{Request}
 use Rattle.trace.specs.TraceFile.{read_trace, requests}
 use Rattle.model.specs.Builders.{zero_state}
 use Rattle.machine.specs.Answers.{fresh_outcome}
 use Rattle.machine.specs.Machine.{started, not_started, Beginning, beginning, fresh_state, freshened}
 use Rattle.runner.specs.Run.{Trail, run_for, Ending, refused_at, broken, done, stopped, end_after, end_of, answered, over, overwritten, ran_of, buffer_after}
-use Rattle.runner.specs.Wait.{no_wait, wait_for, told_read, told_of}
+use Rattle.runner.specs.Answers.{run_means}
+use Rattle.runner.specs.Wait.{Waits, no_wait, wait_for, told_read, told_of}
 
 -- what the start's answer says of the configuration
 module _ (t : Tree) (ch : Channel) where
@@ -73,6 +76,12 @@ module _ (t : Tree) (ch : Channel) (s d : List ℕ) where
       ap (λ (y : FileAnswer). overwritten y (run_for t ch (requests (lines s)) (length d)) d) (sym e)
           ∙ sym (passed _ _ _ (ap not k) ∙ passed _ _ _ (le-ltb _ _ l)),
     )
+
+-- a trace that is refused, as the runner answers it
+pub refused_read : (e : FileError) (z : Trail) (d : List ℕ) (w : Waits)
+    → (run_means (Err e) ≡ answered (file_error e) z) × (d ≡ overwritten (file_error e) z d) × (no_wait ≡ told_read (file_error e) w)
+refused_read (refused r n) z d w = (refl, refl, refl)
+refused_read broken_rules z d w = (refl, refl, refl)
 
 -- and what it tells of a transaction
 module _ (t : Tree) (ch : Channel) (s : List ℕ) (a k n : ℕ) where

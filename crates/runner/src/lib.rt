@@ -24,12 +24,9 @@ use waiting::{number_asked, tell};
 // The byte of an idle slot.
 pub const IDLE: u8 = 255;
 
-// What a run answers: refused, with a line of the trace, or 0 for a size; refused because the configuration breaks its
-// rules, which has no line; or done or stopped, with the number of slots used.
-#[derive(Clone, Copy)]
-pub enum RunAnswer {
-    Refused(Refusal, u32),
-    Broken,
+// How a run ended: done or stopped, with the number of slots used.
+#[derive(Clone, Copy, PartialEq, Eq)]
+pub enum RunEnd {
     Done(u32),
     Stopped(u32),
 }
@@ -64,20 +61,21 @@ pub struct Wait {
     pub count: u32,
 }
 
-// What a run answers, and what it tells of one transaction.
+// What a run answers, how it ended, or what is refused: a line of the trace, 0 for a size, or the configuration, which breaks its rules;
+// and what the run tells of one transaction.
 #[derive(Clone, Copy)]
 pub struct RunWait {
-    pub answer: RunAnswer,
+    pub answer: Result<RunEnd, FileError>,
     pub wait: Wait,
 }
 
-// Nothing is told.
-fn untold(answer: RunAnswer) -> RunWait
-    ensures answer { result.answer ≡ answer }
+// What is refused, and nothing is told.
+fn untold(error: FileError) -> RunWait
+    ensures answer { result.answer ≡ Err error }
     ensures wait { wait_of result.wait ≡ no_wait }
 {
     RunWait {
-        answer: answer,
+        answer: Err(error),
         wait: Wait {
             admission: 0,
             service: 0,
@@ -87,13 +85,13 @@ fn untold(answer: RunAnswer) -> RunWait
 }
 
 // How a run that used so many slots ended.
-fn ended(done: bool, used: u32) -> RunAnswer
-    ensures { run_means result ≡ end_after done used }
+fn ended(done: bool, used: u32) -> RunEnd
+    ensures { run_means (Ok result) ≡ end_after done used }
 {
     if done {
-        return RunAnswer::Done(used);
+        return RunEnd::Done(used);
     }
-    RunAnswer::Stopped(used)
+    RunEnd::Stopped(used)
 }
 
 // The run of an accepted trace on a channel, one byte a slot, until nothing is left or the buffer is full, and what it tells of transaction k of
@@ -148,7 +146,7 @@ fn run_slots(
         used += 1;
     }
     RunWait {
-        answer: ended(is_done(trace, line.at, &arrays), used as u32),
+        answer: Ok(ended(is_done(trace, line.at, &arrays), used as u32)),
         wait: told,
     }
 }
@@ -161,23 +159,22 @@ pub fn run_wait(t: Tree, channel: Channel, trace: &[u8], a: u8, k: u32, out: &mu
     ensures wait { wait_of result.wait ≡ told_of t channel trace.now a k (length out.old) }
 {
     let Ok(start) = fresh(t, channel) else {
-        return untold(RunAnswer::Broken);
+        return untold(FileError::Broken);
     };
     if 65536 < out.len() {
-        return untold(RunAnswer::Refused(Refusal::Limit, 0));
+        return untold(FileError::Refused(Refusal::Limit, 0));
     }
     match read_requests(t.accs, trace) {
         Ok(()) => {
             let number = number_asked(t.accs, a, k);
             run_slots(t, channel, start, trace, a, number, out)
         }
-        Err(FileError::Refused(why, line)) => untold(RunAnswer::Refused(why, line)),
-        Err(FileError::Broken) => untold(RunAnswer::Broken),
+        Err(error) => untold(error),
     }
 }
 
 // Runs the trace on a channel of the configuration and writes one byte a slot into `out`.
-pub fn run(t: Tree, channel: Channel, trace: &[u8], out: &mut [u8]) -> RunAnswer
+pub fn run(t: Tree, channel: Channel, trace: &[u8], out: &mut [u8]) -> Result<RunEnd, FileError>
     ensures answer { run_means result ≡ ran_of t channel trace.now (length out.old) }
     ensures bytes { out.new ≡ buffer_after t channel trace.now out.old }
 {

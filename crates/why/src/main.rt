@@ -3,12 +3,13 @@
 // error.
 #![tactic(auto)]
 
-use inquiry::{Part, Transaction, Waited};
+use inquiry::{Part, Transaction};
 use printing::{NamedFile, Streams, load, say_text, show_pages, show_text};
 use reasons::explain;
 use std::io::Read;
 use std::rt::Files;
 use usage::{Asked, Denied};
+use waits::Waited;
 
 // The pages of the reply's text: 32,768 lines and the last have at most 33.
 fn show(

@@ -1,15 +1,14 @@
 -- `run_wait` meets its contract: each return is the ending that the tests before it pick, and what is told is told by a run alone.
-use mathlib.Core.Path.{ap, ap₂, sym, ◌∙◌}
-use Rattle.lines.specs.Answer.{file_error, file_answer}
+use mathlib.Core.Path.{ap, sym, ◌∙◌}
+use Rattle.lines.specs.Answer.{file_answer}
 use Rattle.trace.proofs.Traces.{reads_kept}
-use Rattle.model.specs.Answer.{number_of}
-use Rattle.runner.specs.Run.{refused_at, start}
+use Rattle.runner.specs.Run.{start}
 use Rattle.runner.specs.Places.{left_at}
 use Rattle.runner.specs.Answers.{run_means}
 use Rattle.runner.specs.Wait.{waits_after, used_by}
 use Rattle.runner.proofs.Trace.{accepts_start}
 use Rattle.runner.proofs.Telling.{asked_known}
-use Rattle.runner.proofs.Endings.{begun, unbegun, ran_broken, ran_size, ran_read, told_broken, told_size, told_read_lem}
+use Rattle.runner.proofs.Endings.{begun, unbegun, ran_broken, ran_size, ran_read, refused_read, told_broken, told_size, told_read_lem}
 use Rattle.runner.proofs.run_wait.Goals as goal
 
 pub returns-in_default : goal.returns-in_default
@@ -68,34 +67,15 @@ returns-in-Ok-read_requests c =
       wait = r.wait ∙ asked ∙ w;
     }
 
-pub returns-in-Err-Refused : goal.returns-in-Err-Refused
-returns-in-Err-Refused c =
-    let why = c in
-    let read = why in
-    let small = read in
-    let fresh = small in
-    let x = fresh.args in
-    let u = c.untold-in-Err-Refused.ensures in
-    let g = begun x.t x.channel _ fresh.fresh.ensures _ small.in-Ok.is in
-    let y = sym (read.read_requests.ensures ∙ reads_kept x.t _ g.0) ∙ ap file_answer why.in-Err-Refused.is ∙ ap file_error why.in-Err-Refused.field-0-is in
-    let e = ran_read x.t x.channel x.trace.now x.out.now g.0 small.if-out-gt65536.false _ y in record {
-      answer = ap run_means u.answer ∙ ap₂ (λ r n. refused_at (number_of r) n) why.in-Err-Refused.why-is why.in-Err-Refused.line-is ∙ e.0;
-      bytes = e.1;
-      wait = u.wait ∙ told_read_lem x.t x.channel x.trace.now x.a x.k _ g.0 small.if-out-gt65536.false _ y;
-    }
-
-pub returns-in-Err-Broken : goal.returns-in-Err-Broken
-returns-in-Err-Broken c =
-    let broken = c in
-    let read = broken in
-    let small = read in
-    let fresh = small in
-    let x = fresh.args in
-    let u = c.untold-in-Err-Broken.ensures in
-    let g = begun x.t x.channel _ fresh.fresh.ensures _ small.in-Ok.is in
-    let y = sym (read.read_requests.ensures ∙ reads_kept x.t _ g.0) ∙ ap file_answer broken.in-Err-Broken.is ∙ ap file_error broken.in-Err-Broken.field-0-is in
-    let e = ran_read x.t x.channel x.trace.now x.out.now g.0 small.if-out-gt65536.false _ y in record {
-      answer = ap run_means u.answer ∙ e.0;
-      bytes = e.1;
-      wait = u.wait ∙ told_read_lem x.t x.channel x.trace.now x.a x.k _ g.0 small.if-out-gt65536.false _ y;
+pub returns-in-Err : goal.returns-in-Err
+returns-in-Err c =
+    let x = c.args in
+    let u = c.untold-in-Err.ensures in
+    let g = begun x.t x.channel _ c.fresh.ensures _ c.in-Ok.is in
+    let y = sym (c.read_requests.ensures ∙ reads_kept x.t _ g.0) ∙ ap file_answer c.in-Err.is in
+    let e = ran_read x.t x.channel x.trace.now x.out.now g.0 c.if-out-gt65536.false _ y in
+    let r = refused_read _ _ x.out.now _ in record {
+      answer = ap run_means u.answer ∙ r.0 ∙ e.0;
+      bytes = r.1 ∙ e.1;
+      wait = u.wait ∙ r.2 ∙ told_read_lem x.t x.channel x.trace.now x.a x.k _ g.0 c.if-out-gt65536.false _ y;
     }
