@@ -27,7 +27,7 @@ use Rattle.rules.specs.Rules.{is_empty, bus_keeps, tree_keeps}
 use Rattle.rules.proofs.Sound.{sound}
 use Rattle.rules.proofs.Beneath.{only, only_same, only_other}
 use Rattle.folds.proofs.Folds.{picked, passed, both, tests}
-use Rattle.lines.specs.declared.FileAnswer.TheVariants.{Accepted}
+use Rattle.lines.specs.Answer.{Accepted}
 use Rattle.lines.specs.declared.Kind.{Kind}
 use Rattle.lines.specs.declared.Kind.TheVariants.{NoRecord, BusLine, IntLine, AccLine, OfferLine, Bus3Line}
 use Rattle.lines.specs.declared.Line.{Line}
@@ -36,8 +36,7 @@ use Rattle.lines.proofs.Limits.{least, most}
 use Rattle.lines.proofs.Back.{field_at, absent_zero, shape_count, shape_exact, line_written, numbers_written, no_dash_at}
 use Rattle.model.specs.Builders.{with_bus}
 use Rattle.records.specs.Records.{empty_tree, bus_of, with_root, with_child, acc_of, with_acc}
-use Rattle.placing.specs.declared.TreeRead.{TreeRead}
-use Rattle.placing.specs.Placing.{refused_at, given, int_in_order, bus_line, child_line, int_line, complete, finish, record_line, tree_line}
+use Rattle.placing.specs.Placing.{TreeRead, refused_at, given, int_in_order, bus_line, child_line, int_line, complete, finish, record_line, tree_line}
 use Rattle.placing.proofs.Tests.{bus_record, line_record, int_root, int_child, child_given}
 use Rattle.reader.specs.TreeFile.{onward, read_lines, read_tree}
 use Rattle.reader.proofs.Files.{tree_size, tree_start}

@@ -17,13 +17,12 @@ use Rattle.model.specs.Tree.{granularity_of, parent_of, parent_port_of, accelera
 use Rattle.rules.specs.Rules.{tree_keeps}
 use Rattle.folds.proofs.Folds.{picked, passed, joined, at_all}
 use Rattle.rules.proofs.Sound.{Sound, sound}
-use Rattle.placing.specs.declared.TreeRead.{TreeRead}
 use Rattle.lines.specs.declared.Kind.{Kind}
 use Rattle.lines.specs.declared.Kind.TheVariants.{NoRecord, BusLine, IntLine, AccLine, OfferLine, Bus3Line}
 use Rattle.lines.specs.Lines.{bus_kind, name_of, line_of}
 use Rattle.model.specs.Builders.{with_bus}
 use Rattle.records.specs.Records.{empty_tree, with_acc}
-use Rattle.placing.specs.Placing.{given, complete, finish, tree_line}
+use Rattle.placing.specs.Placing.{TreeRead, given, complete, finish, tree_line}
 use Rattle.reader.specs.TreeFile.{onward, read_lines, read_tree}
 use Rattle.writer.specs.Lines.{bus_front, acc_values, bus_text, int_text, acc_text}
 use Rattle.accepts.specs.TreeText.{WritesBus, with_delay, without_delay, lines_after, tree_text}

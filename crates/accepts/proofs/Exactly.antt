@@ -17,13 +17,12 @@ use Rattle.folds.specs.Fold.{pick}
 use Rattle.folds.proofs.Folds.{picked, passed}
 use Rattle.rules.specs.Rules.{tree_keeps}
 use Rattle.model.specs.declared.Refusal.{Refusal}
-use Rattle.lines.specs.declared.FileAnswer.TheVariants.{Accepted, Refused}
+use Rattle.lines.specs.Answer.{Accepted, Refused}
 use Rattle.lines.specs.declared.Kind.TheVariants.{AccLine}
 use Rattle.lines.specs.Lines.{kind_of, line_from, line_of}
 use Rattle.lines.proofs.Written.{name_clean}
 use Rattle.lines.proofs.Back.{pushed_kind}
-use Rattle.placing.specs.declared.TreeRead.{TreeRead}
-use Rattle.placing.specs.Placing.{given}
+use Rattle.placing.specs.Placing.{TreeRead, given}
 use Rattle.reader.specs.TreeFile.{read_tree}
 use Rattle.writer.specs.Lines.{bus_whole, bus_short, int_text, acc_text}
 use Rattle.writer.specs.Writer.{times}

@@ -27,9 +27,8 @@ use Rattle.model.specs.Tree.{accelerator_of, port_of, home_of, home_port_of, phi
 use Rattle.rules.specs.Rules.{bus_keeps, is_empty, is_acc, is_int, carries, root_placed, child_placed, is_placed, tree_keeps}
 use Rattle.rules.specs.Rules.{used_interconnect, unused_interconnect, interconnect_keeps, used_accelerator, unused_accelerator, accelerator_keeps}
 use Rattle.folds.proofs.Folds.{picked, passed, tests, both, all_at, clash}
-use Rattle.lines.specs.declared.FileAnswer.{FileAnswer}
-use Rattle.lines.specs.declared.FileAnswer.TheVariants.{Accepted, Refused, Broken}
-use Rattle.placing.specs.declared.TreeRead.{TreeRead}
+use Rattle.lines.specs.Answer.{FileAnswer, Accepted, Refused, Broken}
+use Rattle.placing.specs.Placing.{TreeRead}
 use Rattle.lines.specs.declared.Kind.{Kind}
 use Rattle.lines.specs.declared.Kind.TheVariants.{NoRecord, BusLine, IntLine, AccLine, OfferLine, Bus3Line}
 use Rattle.lines.specs.declared.Line.{Line}

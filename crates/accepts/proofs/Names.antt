@@ -11,10 +11,10 @@ use Rattle.text.specs.Write.{numbers, fields_text, line_text, file_text}
 use Rattle.text.proofs.Written.{Clean, clean_none, clean_more}
 use Rattle.model.specs.declared.Tree.{Tree}
 use Rattle.lines.specs.declared.Kind.{Kind}
-use Rattle.lines.specs.declared.FileAnswer.TheVariants.{Accepted}
+use Rattle.lines.specs.Answer.{Accepted}
 use Rattle.lines.specs.Lines.{bus_kind, name_of}
 use Rattle.lines.proofs.Written.{name_clean}
-use Rattle.placing.specs.declared.TreeRead.{TreeRead}
+use Rattle.placing.specs.Placing.{TreeRead}
 use Rattle.reader.specs.TreeFile.{read_tree}
 use Rattle.writer.specs.Lines.{bus_front, bus_values, bus_name}
 use Rattle.accepts.specs.TreeText.{WritesBus, with_delay, without_delay, Writes}

@@ -23,16 +23,14 @@ use Rattle.model.specs.declared.Refusal.TheVariants.{Shape, Limit, Order, Taken}
 use Rattle.folds.specs.Fold.{pick}
 use Rattle.model.specs.Tree.{no_interconnect, accelerator_of, port_of, phi_of}
 use Rattle.rules.specs.Rules.{is_empty}
-use Rattle.lines.specs.declared.FileAnswer.{FileAnswer}
-use Rattle.lines.specs.declared.FileAnswer.TheVariants.{Accepted, Refused, Broken}
-use Rattle.placing.specs.declared.TreeRead.{TreeRead}
+use Rattle.lines.specs.Answer.{FileAnswer, Accepted, Refused, Broken}
 use Rattle.lines.specs.declared.Kind.{Kind}
 use Rattle.lines.specs.declared.Kind.TheVariants.{AccLine}
 use Rattle.lines.specs.declared.Line.{Line}
 use Rattle.lines.specs.Lines.{line_of, in_tree, shaped, limits_kept}
 use Rattle.model.specs.Builders.{with_interconnects, with_accelerators, carrying}
 use Rattle.records.specs.Records.{empty_tree, acc_of, with_acc}
-use Rattle.placing.specs.Placing.{refused_at, given, acc_line, record_line, tree_line}
+use Rattle.placing.specs.Placing.{TreeRead, refused_at, given, acc_line, record_line, tree_line}
 use Rattle.reader.specs.TreeFile.{onward, read_lines, read_tree}
 use Rattle.reader.proofs.Files.{tree_size, tree_start}
 use Rattle.lines.proofs.Limits.{least}

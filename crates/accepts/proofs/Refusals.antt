@@ -24,15 +24,14 @@ use Rattle.rules.specs.Rules.{is_empty}
 use Rattle.lines.specs.declared.Kind.{Kind}
 use Rattle.lines.specs.declared.Kind.TheVariants.{NoRecord, BusLine, IntLine, AccLine, OfferLine, Bus3Line}
 use Rattle.lines.specs.declared.Line.{Line}
-use Rattle.lines.specs.declared.FileAnswer.{FileAnswer}
-use Rattle.lines.specs.declared.FileAnswer.TheVariants.{Accepted, Refused, Broken}
+use Rattle.lines.specs.Answer.{FileAnswer, Accepted, Refused, Broken}
 use Rattle.lines.specs.FirstRule.{Rule, rule, broken}
 use Rattle.lines.specs.Lines.{named, pushed, line_with, line_of, value_at, in_tree, shaped, limits_kept}
 use Rattle.lines.specs.LineText.{WritesLine}
 use Rattle.lines.proofs.Written.{fields_from, limits_below, numbers_read}
 use Rattle.lines.proofs.Back.{pushed_kind, line_said, shaped_exactly}
 use Rattle.records.specs.Records.{empty_tree, with_root, acc_of}
-use Rattle.placing.specs.declared.TreeRead.{TreeRead}
+use Rattle.placing.specs.Placing.{TreeRead}
 use Rattle.placing.specs.Placing.{refused_at, given, int_in_order, bus_line, child_line, int_line, acc_line, complete, finish, record_line, tree_line}
 use Rattle.placing.proofs.Tests.{line_record, int_root, int_child, child_given, acc_given}
 use Rattle.reader.specs.TreeFile.{onward, read_lines, read_tree}

@@ -19,9 +19,8 @@ use Rattle.model.specs.Tree.{port_of, home_of, home_port_of}
 use Rattle.rules.specs.Rules.{tree_keeps}
 use Rattle.rules.proofs.Sound.{Sound, sound}
 use Rattle.rules.proofs.Beneath.{only, only_same, only_other, at_port}
-use Rattle.lines.specs.declared.FileAnswer.TheVariants.{Accepted}
-use Rattle.placing.specs.declared.TreeRead.{TreeRead}
-use Rattle.placing.specs.Placing.{given}
+use Rattle.lines.specs.Answer.{Accepted}
+use Rattle.placing.specs.Placing.{TreeRead, given}
 use Rattle.reader.specs.TreeFile.{read_tree}
 use Rattle.put.specs.Page.{joined as gathered}
 use Rattle.writer.specs.Lines.{bus_short, bus_text, int_text, acc_text}

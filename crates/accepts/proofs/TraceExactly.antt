@@ -1,5 +1,6 @@
 -- "a file as exactly the .. trace that it writes". One way by the lines of an accepted trace, each of which is the o line of its
 -- request; the other by induction on the requests, each of whose lines passes its tests.
+use Rattle.std.specs.Prelude.{Result, Ok}
 use Prim.Native.Nat.{ℕ, zero, suc, ◌+◌, ◌≤◌, ◌<◌}
 use mathlib.Core.Bool.{Bool, true, false, ◌&&◌}
 use mathlib.Core.List.{List, [], ◌∷◌, map}
@@ -22,13 +23,11 @@ use Rattle.rules.specs.Rules.{tree_keeps}
 use Rattle.rules.proofs.Sound.{sound}
 use Rattle.lines.specs.declared.Kind.TheVariants.{OfferLine}
 use Rattle.lines.specs.declared.Line.{Line}
-use Rattle.lines.specs.declared.FileAnswer.TheVariants.{Accepted, Refused}
+use Rattle.lines.specs.Answer.{Accepted, Refused}
 use Rattle.lines.specs.Lines.{pushed, line_of, in_trace, shaped, limits_kept}
 use Rattle.lines.proofs.Written.{name_clean, Below, below_none, below_more, numbers_clean, numbers_read}
 use Rattle.lines.proofs.Back.{shape_exact, numbers_written, no_dash_at, value_small, never_dash}
 use Rattle.trace.specs.declared.Request.{Request}
-use Rattle.trace.specs.declared.OfferRead.{OfferRead}
-use Rattle.trace.specs.declared.OfferRead.TheVariants.{Offer}
 use Rattle.trace.specs.TraceFile.{request_of, total_of, added, offer_line, after_offer, read_offers, no_totals, read_trace, requests}
 use Rattle.trace.specs.TraceFile.{rising, in_range, all_in_range, total_for}
 use Rattle.accepts.specs.TraceText.{request_text, TraceKeeps, WritesTrace}
@@ -97,7 +96,7 @@ module _ (accs : ℕ) (m : accs ≤ 32) (r : Request) (e : in_range accs r ≡ t
       (joined _ _ (le-leb 1 r.count h.2) (le-leb r.count 16 h.3))
 
   pub request_read : (last : ℕ) (totals : List ℕ) → last ≤ r.slot → total_of totals r.accelerator + r.count ≤ 65535
-      → offer_line accs last totals (line_of (request_text r)) ≡ Offer r
+      → offer_line accs last totals (line_of (request_text r)) ≡ Ok r
   request_read last totals h k =
       let l = offer_of r.slot r.accelerator r.count in
       ap (offer_line accs last totals) (request_line r range_digits)
@@ -138,7 +137,7 @@ requests_read (r ∷ rs) n accs last totals m z o g t =
     let u : (a : ℕ) → get_or (added totals r) a 0 + total_for a rs ≤ 65535 = λ a. omega (arith, added_total totals r a h, t a) in
     let i = requests_read rs (n + 1) accs r.slot (added totals r) m (length-set totals r.accelerator _ ∙ z) b.1 c.1 u in
     let k = request_read accs m r c.0 last totals (leb-true _ _ b.0) (own_fits totals r rs (t r.accelerator)) in (
-      ap (λ (y : OfferRead). after_offer n y (λ q. read_offers (n + 1) accs q.slot (added totals q) (map request_text rs) [])) k ∙ i.0,
+      ap (λ (y : Result Request Refusal). after_offer n y (λ q. read_offers (n + 1) accs q.slot (added totals q) (map request_text rs) [])) k ∙ i.0,
       ap₂ ◌∷◌ (ap (λ (l : Line). request_of l.values) (request_line r (range_digits accs m r c.0))) i.1,
       all_more (request_clean r) i.2,
     )

@@ -1,5 +1,6 @@
 -- A refusal's number and line are those of the first line of the trace that breaks a rule, and of the first rule that it breaks. By
 -- cases along the tests of a line, and by induction on the lines before it.
+use Rattle.std.specs.Prelude.{Result, Ok, Err}
 use Prim.Native.Nat.{ℕ, suc, ◌+◌, ◌≤◌, ◌<◌}
 use mathlib.Core.Bool.{Bool, true, false, ◌&&◌, not}
 use mathlib.Core.List.{List, [], ◌∷◌, ◌++◌, map}
@@ -20,13 +21,10 @@ use Rattle.folds.proofs.Folds.{passed, both, joined, clash}
 use Rattle.rules.specs.Rules.{tree_keeps}
 use Rattle.rules.proofs.Sound.{sound}
 use Rattle.lines.specs.declared.Kind.TheVariants.{OfferLine}
-use Rattle.lines.specs.declared.FileAnswer.{FileAnswer}
-use Rattle.lines.specs.declared.FileAnswer.TheVariants.{Accepted, Refused}
+use Rattle.lines.specs.Answer.{FileAnswer, Accepted, Refused}
 use Rattle.lines.specs.FirstRule.{broken}
 use Rattle.lines.specs.Lines.{line_of, limits_kept}
 use Rattle.trace.specs.declared.Request.{Request}
-use Rattle.trace.specs.declared.OfferRead.{OfferRead}
-use Rattle.trace.specs.declared.OfferRead.TheVariants.{NoOffer, Offer}
 use Rattle.trace.specs.TraceFile.{request_of, total_of, added, offer_line, after_offer, read_offers, no_totals, read_trace}
 use Rattle.trace.specs.TraceFile.{rising, in_range, all_in_range, total_for}
 use Rattle.accepts.specs.TraceText.{request_text}
@@ -80,7 +78,7 @@ answered n limits known order total =
 -- the tests of a request are the rules in their order
 module _ (n : ℕ) where
   answers : (b c d e : Bool) (r : Request)
-      → after_offer n (pick (not b) (NoOffer Limit) (pick c (NoOffer Unknown) (pick d (NoOffer Falling) (pick e (NoOffer Limit) (Offer r))))) (λ q. Accepted)
+      → after_offer n (pick (not b) (Err Limit) (pick c (Err Unknown) (pick d (Err Falling) (pick e (Err Limit) (Ok r))))) (λ q. Accepted)
       ≡ answered n b (not c) (not d) (not e)
   answers false c d e r = refl
   answers true true d e r = refl
@@ -101,7 +99,7 @@ module _ (n : ℕ) where
   unfolding offer_line
   offer_rules_lem accs last totals l q d w =
       let x = offer_of q.slot q.accelerator q.count in
-      ap (λ (y : OfferRead). after_offer n y (λ r. Accepted))
+      ap (λ (y : Result Request Refusal). after_offer n y (λ r. Accepted))
       (ap (offer_line accs last totals) (ap line_of w ∙ request_line q d) ∙ passed _ _ _ (ap not (offer_shaped q.slot q.accelerator q.count)))
       ∙ answers (limits_kept OfferLine x.values) (leb accs q.accelerator) (ltb q.slot last) (ltb 65535 (total_of totals q.accelerator + q.count)) _
       ∙ rules_same accs last totals q _ (limits_same q d)
@@ -187,19 +185,19 @@ found (l ∷ ls) n accs last totals u x m b z e =
     go (is_offer_line (line_of l)) refl (offer_line accs last totals (line_of l)) refl e
     (λ r. found ls (n + 1) accs r.slot (added totals r) u x m b (length-set totals r.accelerator _ ∙ z))
   where
-    go : (c : Bool) → is_offer_line (line_of l) ≡ c → (o : OfferRead) → offer_line accs last totals (line_of l) ≡ o
+    go : (c : Bool) → is_offer_line (line_of l) ≡ c → (o : Result Request Refusal) → offer_line accs last totals (line_of l) ≡ o
         → after_offer n o (goes_on n accs totals ls u) ≡ Refused x m
         → ((r : Request) → read_offers (n + 1) accs r.slot (added totals r) ls u ≡ Refused x m → Found (n + 1) accs r.slot (added totals r) ls u x m)
         → Found n accs last totals (l ∷ ls) u x m
     go false p o q e rec =
-        found_at (ap (λ (o : OfferRead). after_offer n o (goes_on n accs totals ls u)) (sym (offer_shape accs last totals (line_of l) p) ∙ q) ∙ e)
+        found_at (ap (λ (o : Result Request Refusal). after_offer n o (goes_on n accs totals ls u)) (sym (offer_shape accs last totals (line_of l) p) ∙ q) ∙ e)
         (here n accs last totals (l ∷ ls) u Shape (not_shaped (no_request l p)))
-    go true p (NoOffer y) q e rec =
+    go true p (Err y) q e rec =
         let w = request_written l p in
         let d = request_digits l p in
-        let f = sym (offer_rules_lem n accs last totals l (request_of (line_of l).values) d w) ∙ ap (λ (o : OfferRead). after_offer n o (λ r. Accepted)) q in
+        let f = sym (offer_rules_lem n accs last totals l (request_of (line_of l).values) d w) ∙ ap (λ (o : Result Request Refusal). after_offer n o (λ r. Accepted)) q in
         found_at e (here n accs last totals (l ∷ ls) u y (breaks (request_of (line_of l).values) d w f))
-    go true p (Offer r) q e rec = on n accs last totals l ls u x m r b z (offer_says accs last totals (line_of l) r q) (rec r e)
+    go true p (Ok r) q e rec = on n accs last totals l ls u x m r b z (offer_says accs last totals (line_of l) r q) (rec r e)
 
 -- the lines before it are read
 led : (rs : List Request) (n accs last : ℕ) (totals : List ℕ) (ls : List (List ℕ)) (u : List ℕ) → accs ≤ 32 → length totals ≡ 32 → rising last rs ≡ true
@@ -214,7 +212,7 @@ led (r ∷ rs) n accs last totals ls u m z o g t =
     let q = request_read accs m r c.0 last totals (leb-true _ _ b.0) (own_fits totals r rs (t r.accelerator)) in
     let k : n + 1 + length rs ≡ n + suc (length rs) = omega arith in
     let v : (a : ℕ) → get_or (added totals r) a 0 + total_for a rs ≤ 65535 = λ a. omega (arith, added_total totals r a h, t a) in
-    ap (λ (y : OfferRead). after_offer n y (λ p. read_offers (n + 1) accs p.slot (added totals p) (map request_text rs ++ ls) u)) q
+    ap (λ (y : Result Request Refusal). after_offer n y (λ p. read_offers (n + 1) accs p.slot (added totals p) (map request_text rs ++ ls) u)) q
     ∙ led rs (n + 1) accs r.slot (added totals r) ls u m (length-set totals r.accelerator _ ∙ z) b.1 c.1 v
     ∙ ap (λ (i : ℕ). read_offers i accs (last_slot r.slot rs) (added_all (added totals r) rs) ls u) k
 
@@ -226,12 +224,12 @@ next_refused n accs last totals (l ∷ ls) u x (not_shaped d) = go (is_offer_lin
   where
     go : (c : Bool) → is_offer_line (line_of l) ≡ c → after_offer n (offer_line accs last totals (line_of l)) (goes_on n accs totals ls u) ≡ Refused Shape n
     go true p = absurd (d (request_of (line_of l).values) (request_digits l p) (request_written l p))
-    go false p = ap (λ (o : OfferRead). after_offer n o (goes_on n accs totals ls u)) (offer_shape accs last totals (line_of l) p)
+    go false p = ap (λ (o : Result Request Refusal). after_offer n o (goes_on n accs totals ls u)) (offer_shape accs last totals (line_of l) p)
 next_refused n accs last totals (l ∷ ls) u x (breaks q d w e) = go (offer_line accs last totals (line_of l)) (offer_rules_lem n accs last totals l q d w ∙ e)
   where
-    go : (o : OfferRead) → after_offer n o (λ r. Accepted) ≡ Refused x n → after_offer n o (goes_on n accs totals ls u) ≡ Refused x n
-    go (NoOffer y) e = e
-    go (Offer r) e = clash cc
+    go : (o : Result Request Refusal) → after_offer n o (λ r. Accepted) ≡ Refused x n → after_offer n o (goes_on n accs totals ls u) ≡ Refused x n
+    go (Err y) e = e
+    go (Ok r) e = clash cc
 
 module _ (t : Tree) (s : List ℕ) (k : tree_keeps t ≡ true) where
   m : t.accs ≤ 32

@@ -6,7 +6,7 @@
 --                      every accepted file of the same tree has it, so that a tree of bus3 is another tree than one of bus
 use Rattle.std.specs.Prelude.{ℕ, List, ◌≡◌, take}
 use Rattle.text.specs.Text.{part_length}
-use Rattle.lines.specs.declared.FileAnswer.TheVariants.{Accepted}
+use Rattle.lines.specs.Answer.{Accepted}
 use Rattle.reader.specs.TreeFile.{read_tree}
 use Rattle.writer.specs.Lines.{bus_name}
 use Rattle.accepts.specs.RoundTrip.{rewritten}

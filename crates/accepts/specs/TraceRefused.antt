@@ -15,7 +15,7 @@ use Rattle.folds.specs.Fold.{within}
 use Rattle.model.specs.declared.Refusal.{Refusal}
 use Rattle.model.specs.declared.Refusal.TheVariants.{Shape, Limit, Falling, Unknown}
 use Rattle.text.specs.Text.{lines, unended}
-use Rattle.lines.specs.declared.FileAnswer.TheVariants.{Refused}
+use Rattle.lines.specs.Answer.{Refused}
 use Rattle.lines.specs.FirstRule.{Rule, rule, broken}
 use Rattle.trace.specs.declared.Request.{Request}
 use Rattle.trace.specs.TraceFile.{total_for}

@@ -24,7 +24,7 @@ use Rattle.text.specs.Text.{lines, unended}
 use Rattle.lines.specs.declared.Kind.{Kind}
 use Rattle.lines.specs.declared.Kind.TheVariants.{NoRecord, BusLine, IntLine, AccLine, OfferLine, Bus3Line}
 use Rattle.lines.specs.declared.Line.{Line}
-use Rattle.lines.specs.declared.FileAnswer.TheVariants.{Refused}
+use Rattle.lines.specs.Answer.{Refused}
 use Rattle.lines.specs.FirstRule.{Rule, rule, broken}
 use Rattle.lines.specs.Lines.{line_with, value_at, in_tree, limits_kept}
 use Rattle.lines.specs.LineText.{WritesLine}

@@ -1,31 +1,25 @@
 -- Laws of the offers on a run's arrays, by their definitions.
 use Prim.Native.Nat.{ℕ, zero, suc, ◌+◌, ◌*◌, ◌-◌, ◌^◌, ◌≤◌, ◌<◌}
 use mathlib.Core.Bool.{Bool, true, false, ◌||◌, not}
-use mathlib.Core.List.{List}
 use mathlib.Core.Path.{◌≡◌, refl, sym, ◌∙◌, ap, ap₂}
 use native.Mathlib.Omega.{arith}
 use native.Mathlib.Decide.{dec_lt, ℕ_discrete}
-use lib.ListN.{get_or, set, take, drop, length, get_or-eq_default}
-use lib.Seq.{get_or-take, get_or-drop, take-set-le, take-set-lt, drop-set-add, drop-set-lt, get_or-set_same}
+use lib.ListN.{get_or, length, get_or-eq_default}
+use lib.Seq.{get_or-set_same}
 use lib.Bits.{bit_and, and_zero_l}
 use lib.Count.{count_trailing_zeros, trailing_of_zero}
 use lib.Dec.{ltb, eqb}
 use borrow.Author.Tests.{lt-ltb, le-ltb, ltb-false, eq-eqb, eqb-true}
 use Rattle.folds.specs.Fold.{pick}
 use Rattle.folds.proofs.Folds.{picked, passed, clash}
-use Rattle.machine.specs.declared.OfferAnswer.{OfferAnswer}
-use Rattle.machine.specs.declared.OfferAnswer.TheVariants.{Admitted}
-use Rattle.machine.specs.Machine.{admitted, refused, limits_answer, on_admitted}
-use Rattle.machine.specs.Answers.{offer_means}
-use Rattle.machine.proofs.Steps.{limits_room}
-use Rattle.counts.specs.Table.{limits, budgets, parent_ports}
-use Rattle.counts.specs.Counts.{lives, up, raised, opened}
-use Rattle.admit.proofs.Kept.{first_kept, second_kept}
+use Rattle.machine.specs.Machine.{admitted, refused, on_admitted}
+use Rattle.counts.specs.declared.Table.{Table}
+use Rattle.admit.specs.declared.Arrays.{Arrays}
 use Rattle.admit.proofs.Sets.{in_none, lowest}
-use Rattle.admit.specs.Admitting.{Arrays, arrays, outstandings, admitteds, helds, arrays_of, answer_on, admit_on, offered_on, offers_for, offers_of, is_in, offers_in}
+use Rattle.admit.specs.Admitting.{answer_on, admit_on, offered_on, offers_for, offers_of, is_in, offers_in}
 
 -- one offer, by its answer
-module _ (w : List ℕ) (a : ℕ) (d : Arrays) where
+module _ (w : Table) (a : ℕ) (d : Arrays) where
   pub on_refused : (n : ℕ) → answer_on w a d ≡ refused n → offered_on w a d ≡ d
   on_refused n e = ap (λ x. on_admitted x (admit_on w a d) d) e
 
@@ -70,78 +64,8 @@ module _ (w : List ℕ) (a : ℕ) (d : Arrays) where
   pub offers_known : a < 32 → offers_of w a d ≡ offers_for (get_or d.held a 0) w a d
   offers_known h = passed _ _ _ (le-ltb 31 a (omega arith))
 
--- arrays are the same by their parts
-pub arrays_same : (d e : Arrays) → d.outstanding ≡ e.outstanding → d.admitted ≡ e.admitted → d.held ≡ e.held
-    → d.under ≡ e.under → d.live ≡ e.live → d.last ≡ e.last → d.allowance ≡ e.allowance → d ≡ e
-arrays_same d e p q r u v l o =
-    ap₂ (λ (x y : List ℕ). arrays x y d.held d.under d.live d.last d.allowance) p q
-    ∙ ap₂ (λ (x y : List ℕ). arrays e.outstanding e.admitted x y d.live d.last d.allowance) r u
-    ∙ ap₂ (λ (x y : List ℕ). arrays e.outstanding e.admitted e.held e.under x y d.allowance) v l
-    ∙ ap (arrays e.outstanding e.admitted e.held e.under e.live e.last) o
-
--- an admission is below both limits
-pub admits_room : (l o m n : ℕ) (x : OfferAnswer) → offer_means x ≡ limits_answer l o m n → x ≡ Admitted → (o < l) × (n < m)
-admits_room l o m n x e f = limits_room l o m n (sym e ∙ ap offer_means f)
-
--- the counts of accelerator a, by the parts of the arrays
-module _ (b : List ℕ) (a : ℕ) (h : a < 32) where
-  reads_outstanding : get_or b a 0 ≡ get_or (outstandings b) a 0
-  reads_outstanding = sym (get_or-take 32 b a 0 h)
-
-  reads_admitted : get_or b (32 + a) 0 ≡ get_or (admitteds b) a 0
-  reads_admitted = sym (get_or-take 32 (drop 32 b) a 0 h ∙ get_or-drop 32 b a 0)
-
-  pub reads_held : get_or b (64 + a) 0 ≡ get_or (helds b) a 0
-  reads_held = sym (get_or-drop 64 b a 0)
-
-  -- the answer by what is read from the arrays
-  pub reads_answer : (w c r : List ℕ) (l m : ℕ) → l ≡ get_or w (182 + a) 0 → m ≡ get_or w (214 + a) 0
-      → limits_answer l (get_or b a 0) m (get_or b (32 + a) 0) ≡ answer_on w a (arrays_of b c r)
-  reads_answer w c r l m e f =
-      ap₂ (λ (x y : ℕ). limits_answer x (get_or b a 0) y (get_or b (32 + a) 0)) (e ∙ sym (get_or-drop 182 w a 0)) (f ∙ sym (get_or-drop 214 w a 0))
-      ∙ ap₂ (λ (x y : ℕ). limits_answer (get_or (limits w) a 0) x (get_or (budgets w) a 0) y) reads_outstanding reads_admitted
-
-  -- the arrays stored to, where one is admitted
-  module _ (x y z : ℕ) where
-    abbrev stored : List ℕ
-    stored = set (set (set b (64 + a) x) a y) (32 + a) z
-
-    stored_outstanding : outstandings stored ≡ set (outstandings b) a y
-    stored_outstanding =
-        take-set-le 32 (set (set b (64 + a) x) a y) (32 + a) z (omega arith) ∙ take-set-lt 32 (set b (64 + a) x) a y h
-        ∙ ap (λ (l : List ℕ). set l a y) (take-set-le 32 b (64 + a) x (omega arith))
-
-    stored_admitted : admitteds stored ≡ set (admitteds b) a z
-    stored_admitted =
-        let e : 64 + a ≡ 32 + (32 + a) = omega arith in
-        ap (take 32) (drop-set-add 32 (set (set b (64 + a) x) a y) a z)
-        ∙ take-set-lt 32 (drop 32 (set (set b (64 + a) x) a y)) a z h
-        ∙ ap (λ (l : List ℕ). set (take 32 l) a z)
-        (drop-set-lt 32 (set b (64 + a) x) a y h ∙ ap (λ (k : ℕ). drop 32 (set b k x)) e ∙ drop-set-add 32 b (32 + a) x)
-        ∙ ap (λ (l : List ℕ). set l a z) (take-set-le 32 (drop 32 b) (32 + a) x (omega arith))
-
-    stored_held : helds stored ≡ set (helds b) a x
-    stored_held =
-        drop-set-lt 64 (set (set b (64 + a) x) a y) (32 + a) z (omega arith)
-        ∙ drop-set-lt 64 (set b (64 + a) x) a y (omega arith)
-        ∙ drop-set-add 64 b a x
-
-    pub stored_one : (w c₀ r₀ c r : List ℕ) → x ≡ get_or b (64 + a) 0 - 1 → y ≡ get_or b a 0 + 1 → z ≡ get_or b (32 + a) 0 + 1
-        → c ≡ raised (up 4 (parent_ports w) (get_or w (150 + a) 0)) c₀
-        → lives r ≡ opened (up 4 (parent_ports w) (get_or w (150 + a) 0)) (lives r₀) → take 30 r ≡ take 30 r₀
-        → arrays_of stored c r ≡ admit_on w a (arrays_of b c₀ r₀)
-    stored_one w c₀ r₀ c r ex ey ez ec er k =
-        let port = sym (get_or-drop 150 w a 0) in
-        arrays_same _ _
-        (stored_outstanding ∙ ap (set (outstandings b) a) (ey ∙ ap (λ (n : ℕ). n + 1) reads_outstanding))
-        (stored_admitted ∙ ap (set (admitteds b) a) (ez ∙ ap (λ (n : ℕ). n + 1) reads_admitted))
-        (stored_held ∙ ap (set (helds b) a) (ex ∙ ap (λ (n : ℕ). n - 1) reads_held))
-        (ec ∙ ap (λ (p : ℕ). raised (up 4 (parent_ports w) p) c₀) port)
-        (er ∙ ap (λ (p : ℕ). opened (up 4 (parent_ports w) p) (lives r₀)) port)
-        (first_kept 15 15 r r₀ k) (second_kept 15 15 r r₀ k)
-
 -- the offers of those of which f holds
-module _ (w : List ℕ) (f : ℕ → Bool) (d : Arrays) where
+module _ (w : Table) (f : ℕ → Bool) (d : Arrays) where
   -- those of which it does not hold are passed over
   pub in_passes : (n m : ℕ) → n ≤ m → ((a : ℕ) → n ≤ a → a < m → f a ≡ false) → offers_in w f m d ≡ offers_in w f n d
   unfolding offers_in
@@ -169,7 +93,7 @@ module _ (w : List ℕ) (f : ℕ → Bool) (d : Arrays) where
   in_same g e (suc n) = ap₂ (λ (b : Bool) (x : Arrays). pick b (offers_of w n x) x) (e n) (in_same g e n)
 
 -- the first of those of which f holds, z, offers, and then those of which g holds: the others
-module _ (w : List ℕ) (f g : ℕ → Bool) (z : ℕ) (own : f z ≡ true) (before : (a : ℕ) → a < z → f a ≡ false) (cleared : g z ≡ false)
+module _ (w : Table) (f g : ℕ → Bool) (z : ℕ) (own : f z ≡ true) (before : (a : ℕ) → a < z → f a ≡ false) (cleared : g z ≡ false)
     (kept : (a : ℕ) → (a ≡ z → ⊥) → g a ≡ f a) (d : Arrays) where
   pub in_first : (n : ℕ) → z < n → offers_in w f n d ≡ offers_in w g n (offers_of w z d)
   unfolding offers_in
@@ -183,7 +107,7 @@ module _ (w : List ℕ) (f g : ℕ → Bool) (z : ℕ) (own : f z ≡ true) (bef
   ]
 
 -- the lowest of a set of thirty-two offers, nobody where the set is empty, and then the others
-module _ (w : List ℕ) (x y : ℕ) (h : x < 2 ^ 32) (e : y ≡ x - 1) where
+module _ (w : Table) (x y : ℕ) (h : x < 2 ^ 32) (e : y ≡ x - 1) where
   pub in_lowest : (d : Arrays) → offers_in w (is_in (bit_and x y)) 32 (offers_of w (count_trailing_zeros 32 x) d) ≡ offers_in w (is_in x) 32 d
   in_lowest d = elim (ℕ_discrete x 0) [
     | yes q ↦
@@ -225,7 +149,7 @@ module _ (w : List ℕ) (x y : ℕ) (h : x < 2 ^ 32) (e : y ≡ x - 1) where
       at_most false = omega arith
 
 -- nobody is left
-pub in_empty : (w : List ℕ) (x a : ℕ) (d : Arrays) → (ltb a 32 || not (eqb x 0)) ≡ false → offers_in w (is_in x) 32 (offers_of w a d) ≡ d
+pub in_empty : (w : Table) (x a : ℕ) (d : Arrays) → (ltb a 32 || not (eqb x 0)) ≡ false → offers_in w (is_in x) 32 (offers_of w a d) ≡ d
 in_empty w x a d f =
     let q = neither (ltb a 32) (eqb x 0) f in
     ap (λ n. offers_in w (is_in n) 32 (offers_of w a d)) (eqb-true x 0 q.1) ∙ in_none_before w (is_in 0) (offers_of w a d) 32 (λ i _. in_none i)

@@ -26,8 +26,7 @@
 -- same_written x y       two answers on a writing: number, line, bytes
 use Rattle.std.specs.Prelude.{Result, Ok, Err, ℕ, Bool, true, false, ◌&&◌, not, List, leb, eqb, length, take, drop, get_or}
 use Rattle.folds.specs.Fold.{pick, all}
-use Rattle.lines.specs.declared.FileAnswer.{FileAnswer}
-use Rattle.lines.specs.Answer.{answer_number, answer_line}
+use Rattle.lines.specs.Answer.{FileAnswer, answer_number, answer_line}
 use Rattle.bounds.specs.declared.Figures.{Figures}
 use Rattle.trace.specs.declared.Request.{Request}
 use Rattle.answers.specs.declared.Count.{Count}

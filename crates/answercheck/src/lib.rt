@@ -6,10 +6,11 @@
 pub mod exported;
 
 ghost use Rattle.std.specs.Prelude.{◌≡◌};
+ghost use Rattle.lines.specs.Answer.{file_answer};
 ghost use Rattle.answercheck.specs.Same.{same_flag, same_said, same_request, same_end, same_figures, told_by, told_of, same_told, written_by, written_of, same_written, same_slices, same_bytes};
 
 use bounds::Figures;
-use lines::{FileAnswer, answer_line, answer_number};
+use lines::{FileError, answer_line, answer_number};
 use model::number;
 use second::Said;
 use second::past::Told;
@@ -33,8 +34,8 @@ pub fn same_flag(x: bool, y: bool) -> bool
     !y
 }
 
-pub fn same_said(answer: FileAnswer, s: Said) -> bool
-    ensures { result ≡ same_said answer s }
+pub fn same_said(answer: Result<(), FileError>, s: Said) -> bool
+    ensures { result ≡ same_said (file_answer answer) s }
 {
     (answer_number(answer) as usize == s.number) & (answer_line(answer) as usize == s.line)
 }

@@ -23,9 +23,7 @@ use Rattle.std.specs.Prelude.{ℕ, eqb, Bool, true, false}
 use Rattle.folds.specs.Fold.{pick}
 use Rattle.model.specs.declared.Channel.{Channel}
 use Rattle.model.specs.declared.Channel.TheVariants.{Read, Write}
-use Rattle.lines.specs.Answer.{answer_number, answer_line}
-use Rattle.lines.specs.declared.FileAnswer.{FileAnswer}
-use Rattle.lines.specs.declared.FileAnswer.TheVariants.{Accepted, Refused, Broken}
+use Rattle.lines.specs.Answer.{FileAnswer, Accepted, Refused, Broken, answer_number, answer_line}
 use Rattle.runner.specs.Run.{Ending, refused_at, broken, done, stopped}
 use Rattle.waits.specs.Why.{Why, refused_at as atLine, denied, waited}
 use Rattle.bounds.specs.Bounds.{BoundResult, refused, analysed}

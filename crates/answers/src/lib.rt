@@ -10,12 +10,13 @@ ghost use Rattle.runner.specs.Answers.{run_means};
 ghost use Rattle.waits.specs.Answers.{why_means};
 ghost use Rattle.bounds.specs.Bounds.{meaning_of};
 ghost use Rattle.burst.specs.Answers.{join_outcome};
-ghost use Rattle.answers.specs.Numbers.{channel_number, channel_of, is_accepted, file_refused, reading_of, accepted_count, count_of, outcome_of, refused_by, tree_refused, no_wait, wait_of, row_of, unbounded, cut_of, joined_of};
+ghost use Rattle.lines.specs.Answer.{file_answer};
+ghost use Rattle.answers.specs.Numbers.{channel_number, channel_of, file_refused, reading_of, accepted_count, count_of, outcome_of, refused_by, tree_refused, no_wait, wait_of, row_of, unbounded, cut_of, joined_of};
 
-use bounds::BoundAnswer;
-use burst::joiner::{JoinAnswer, JoinReply};
-use lines::{FileAnswer, answer_line, answer_number};
-use model::{Channel, number};
+use bounds::Figures;
+use burst::joiner::{JoinReply, Progress};
+use lines::{FileError, answer_line, answer_number};
+use model::{Channel, Refusal, number};
 use runner::RunAnswer;
 use splitting::Reply;
 use waits::WhyAnswer;
@@ -118,30 +119,19 @@ pub fn channel_of(number: u8) -> Channel
     Channel::Write
 }
 
-// Whether the file is accepted.
-pub fn is_accepted(answer: FileAnswer) -> bool
-    ensures { result ≡ is_accepted answer }
-{
-    match answer {
-        FileAnswer::Accepted => true,
-        FileAnswer::Refused(_, _) => false,
-        FileAnswer::Broken => false,
-    }
-}
-
 // Which file is refused: `file`, or 0 where it is accepted.
-fn file_refused(file: u8, answer: FileAnswer) -> u8
-    ensures { result ≡ file_refused file answer }
+fn file_refused(file: u8, answer: Result<(), FileError>) -> u8
+    ensures { result ≡ file_refused file (file_answer answer) }
 {
-    if is_accepted(answer) {
+    if answer.is_ok() {
         return 0;
     }
     file
 }
 
 // What a reader answers of that file.
-pub fn reading_of(file: u8, answer: FileAnswer) -> Reading
-    ensures { result ≡ reading_of file answer }
+pub fn reading_of(file: u8, answer: Result<(), FileError>) -> Reading
+    ensures { result ≡ reading_of file (file_answer answer) }
 {
     Reading {
         file: file_refused(file, answer),
@@ -151,18 +141,18 @@ pub fn reading_of(file: u8, answer: FileAnswer) -> Reading
 }
 
 // How many accelerators an accepted tree has.
-fn accepted_count(answer: FileAnswer, accelerators: u8) -> u8
-    ensures { result ≡ accepted_count answer accelerators }
+fn accepted_count(answer: Result<(), FileError>, accelerators: u8) -> u8
+    ensures { result ≡ accepted_count (file_answer answer) accelerators }
 {
-    if is_accepted(answer) {
+    if answer.is_ok() {
         return accelerators;
     }
     0
 }
 
 // How many accelerators the tree of that answer has.
-pub fn count_of(answer: FileAnswer, accelerators: u8) -> Count
-    ensures { result ≡ count_of answer accelerators }
+pub fn count_of(answer: Result<(), FileError>, accelerators: u8) -> Count
+    ensures { result ≡ count_of (file_answer answer) accelerators }
 {
     Count {
         number: answer_number(answer),
@@ -216,8 +206,8 @@ pub fn refused_by(kind: u8, number: u8, at: u32) -> Outcome
 }
 
 // A run that does not begin, because the tree is refused.
-pub fn tree_refused(answer: FileAnswer) -> Outcome
-    ensures { result ≡ tree_refused answer }
+pub fn tree_refused(answer: Result<(), FileError>) -> Outcome
+    ensures { result ≡ tree_refused (file_answer answer) }
 {
     refused_by(2, answer_number(answer), answer_line(answer))
 }
@@ -273,12 +263,12 @@ pub fn unbounded(number: u8, line: u32) -> Row
 }
 
 // The bounds of an accelerator.
-pub fn row_of(answer: BoundAnswer) -> Row
+pub fn row_of(answer: Result<Figures, Refusal>) -> Row
     ensures { result ≡ row_of (meaning_of answer) }
 {
     match answer {
-        BoundAnswer::Refused(r) => unbounded(number(r), 0),
-        BoundAnswer::Bound(f) => Row {
+        Err(r) => unbounded(number(r), 0),
+        Ok(f) => Row {
             number: 0,
             line: 0,
             level: f.level,
@@ -323,12 +313,12 @@ pub fn joined_of(reply: JoinReply) -> Joined
         answered: reply.joiner.answered,
     };
     match answer {
-        JoinAnswer::Taken => joined,
-        JoinAnswer::Done => {
+        Ok(Progress::Taken) => joined,
+        Ok(Progress::Done) => {
             joined.done = true;
             joined
         }
-        JoinAnswer::Refused(r) => {
+        Err(r) => {
             joined.number = number(r);
             joined
         }

@@ -23,13 +23,14 @@
 -- analysis_of t a             that of accelerator a, "With L the level"
 -- BoundResult                what a call of `bound` answers: refused by a number, or the analysis
 -- on_channel_means f           what the figures of a channel of the code stand for; figures_mean f: those of an accelerator
--- meaning_of r                the answer that the enum of the code stands for
+-- meaning_of r                the answer that the result of `bound` stands for
 -- bound_of t a                "a bound 11, 7", else the analysis
-use Rattle.std.specs.Prelude.{ℕ, ◌+◌, ◌*◌, ◌-◌, max, Bool, not, leb}
+use Rattle.std.specs.Prelude.{ℕ, ◌+◌, ◌*◌, ◌-◌, max, Bool, not, leb, Result, Ok, Err}
 use Rattle.model.specs.declared.Tree.{Tree}
 use Rattle.model.specs.declared.Bus.{Bus}
 use Rattle.model.specs.declared.Accelerator.{Accelerator}
 use Rattle.model.specs.declared.Channel.TheVariants.{Read, Write}
+use Rattle.model.specs.declared.Refusal.{Refusal}
 use Rattle.folds.specs.Fold.{pick, ceiling}
 use Rattle.model.specs.Tree.{home_of, level_of, accelerator_of}
 use Rattle.rules.specs.Rules.{tree_keeps}
@@ -37,8 +38,6 @@ use Rattle.shares.specs.Shares.{share_of}
 use Rattle.model.specs.Answer.{number_of}
 use Rattle.bounds.specs.declared.OnChannel.{OnChannel}
 use Rattle.bounds.specs.declared.Figures.{Figures}
-use Rattle.bounds.specs.declared.BoundAnswer.{BoundAnswer}
-use Rattle.bounds.specs.declared.BoundAnswer.TheVariants.{Refused, Bound}
 
 abbrev pub interference : ℕ → ℕ → ℕ
 interference n share = n * (share - 1)
@@ -126,9 +125,9 @@ figures_mean f =
       meets = f.meets;
     }
 
-abbrev pub meaning_of : BoundAnswer → BoundResult
-meaning_of (Refused r) = refused (number_of r)
-meaning_of (Bound f) = analysed (figures_mean f)
+abbrev pub meaning_of : Result Figures Refusal → BoundResult
+meaning_of (Err r) = refused (number_of r)
+meaning_of (Ok f) = analysed (figures_mean f)
 
 unfoldable pub bound_of : Tree → ℕ → BoundResult
 bound_of t a =

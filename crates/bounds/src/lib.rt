@@ -41,13 +41,6 @@ pub struct Figures {
     pub meets: bool,
 }
 
-// What the analysis answers of an accelerator.
-#[derive(Clone, Copy)]
-pub enum BoundAnswer {
-    Refused(Refusal),
-    Bound(Figures),
-}
-
 // What n transactions of a channel meet, with this share.
 fn on_channel(n: u16, share: u64) -> OnChannel
     requires { Share share }
@@ -62,7 +55,7 @@ fn on_channel(n: u16, share: u64) -> OnChannel
 // The figures of accelerator x, on an interconnect of this level, with these shares of its reads and its writes.
 fn figures_from(b: Bus, x: Accelerator, level: u8, reads: u64, writes: u64) -> Figures
     requires { Limited b x level × Share reads × Share writes }
-    ensures { meaning_of (BoundAnswer.Bound result) ≡ analysed (analysis_from b x level reads writes) }
+    ensures { meaning_of (Ok result) ≡ analysed (analysis_from b x level reads writes) }
 {
     let response = response_of(b, x, level, reads, writes);
     let period = x.period as u64;
@@ -77,18 +70,18 @@ fn figures_from(b: Bus, x: Accelerator, level: u8, reads: u64, writes: u64) -> F
 }
 
 // The bounds of accelerator a: refused if the configuration breaks its rules, or has no such accelerator.
-pub fn bound(t: Tree, a: u8) -> BoundAnswer
+pub fn bound(t: Tree, a: u8) -> Result<Figures, Refusal>
     ensures { meaning_of result ≡ bound_of t a }
 {
     if !tree_keeps(t) {
-        return BoundAnswer::Refused(Refusal::Rules);
+        return Err(Refusal::Rules);
     }
     if t.accs <= a {
-        return BoundAnswer::Refused(Refusal::Unknown);
+        return Err(Refusal::Unknown);
     }
     let x = accelerator_at(t, a);
     let level = level_of(t, x.interconnect);
     let reads = share_of(t, Channel::Read, a);
     let writes = share_of(t, Channel::Write, a);
-    BoundAnswer::Bound(figures_from(t.bus, x, level, reads, writes))
+    Ok(figures_from(t.bus, x, level, reads, writes))
 }

@@ -62,8 +62,8 @@ module _ (t : Tree) (a k : ℕ) (first now : State) (m : ℕ) (l : m < k) (so : 
       ∙ so.1
 
 pub sofar_all : (t : Tree) (a k : ℕ) (first now : State) (m : ℕ) → k ≤ m → Sofar t a k first now m
-    → offering admitted m now ≡ offer_pieces k t first a
+    → offering admitted k now ≡ offer_pieces k t first a
 sofar_all t a k first now m l so =
-    ap (λ (i : ℕ). offering admitted i now) {x = m} {y = m + 0} (omega arith)
+    ap (λ (i : ℕ). offering admitted i now) {x = k} {y = m + 0} (omega (arith, so.0))
     ∙ ap (raised m) (none_left t now a ∙ ap (λ (i : ℕ). offer_pieces i t now a) {x = 0} {y = k - m} (omega arith))
     ∙ so.1

@@ -12,18 +12,17 @@ pub struct Joiner {
     pub answered: u32,
 }
 
-// What the joiner answers to the answer of a piece: it is taken, and others are to come; it was the last; or it is refused.
-#[derive(Clone, Copy)]
-pub enum JoinAnswer {
+// How far a burst is once the answer of a piece is taken: others are to come, or it was the last.
+#[derive(Clone, Copy, PartialEq, Eq)]
+pub enum Progress {
     Taken,
     Done,
-    Refused(Refusal),
 }
 
-// The joiner's answer with the next joiner.
+// What the joiner answers to the answer of a piece, or why it is refused, with the next joiner.
 #[derive(Clone, Copy)]
 pub struct JoinReply {
-    pub answer: JoinAnswer,
+    pub answer: Result<Progress, Refusal>,
     pub joiner: Joiner,
 }
 
@@ -58,7 +57,7 @@ pub fn join(j: Joiner, number: u32) -> JoinReply
 {
     if !(joiner_keeps(j) & in_turn(j, number)) {
         return JoinReply {
-            answer: JoinAnswer::Refused(Refusal::Rules),
+            answer: Err(Refusal::Rules),
             joiner: j,
         };
     }
@@ -68,12 +67,12 @@ pub fn join(j: Joiner, number: u32) -> JoinReply
     };
     if number == j.pieces {
         return JoinReply {
-            answer: JoinAnswer::Done,
+            answer: Ok(Progress::Done),
             joiner: next,
         };
     }
     JoinReply {
-        answer: JoinAnswer::Taken,
+        answer: Ok(Progress::Taken),
         joiner: next,
     }
 }

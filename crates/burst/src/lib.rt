@@ -21,13 +21,6 @@ pub struct Burst {
     pub size: u32,
 }
 
-// What the splitter answers: the count of pieces, or why there are none.
-#[derive(Clone, Copy)]
-pub enum SplitAnswer {
-    Pieces(u32),
-    Refused(Refusal),
-}
-
 // Of each piece the start address and the beats.
 #[derive(Clone, Copy)]
 struct Lists {
@@ -39,14 +32,7 @@ struct Lists {
 fn is_size(size: u32) -> bool
     ensures { result ≡ is_size size }
 {
-    (size == 1)
-        | (size == 2)
-        | (size == 4)
-        | (size == 8)
-        | (size == 16)
-        | (size == 32)
-        | (size == 64)
-        | (size == 128)
+    matches!(size, 1 | 2 | 4 | 8 | 16 | 32 | 64 | 128)
 }
 
 // Whether beats and beat size are those of a burst, which has at most `limit` beats.
@@ -80,22 +66,22 @@ fn burst_length(t: Tree) -> u32
     t.bus.burst as u32
 }
 
-// What the splitter answers for pieces of n beats, where a burst has at most `limit`; ok: tree, and state where there is one, keep
+// The count of pieces, or why there are none: for pieces of n beats, where a burst has at most `limit`; ok: tree, and state where there is one, keep
 // their rules.
-fn split_answer(limit: u32, ok: bool, n: u32, b: Burst) -> SplitAnswer
+fn split_answer(limit: u32, ok: bool, n: u32, b: Burst) -> Result<u32, Refusal>
     requires { (ok ≡ true → 1 ≤ n) × (n ≤ 65535) × (limit ≤ most_beats) }
     ensures { split_means result ≡ split_of limit ok n b }
 {
     if !ok {
-        return SplitAnswer::Refused(Refusal::Rules);
+        return Err(Refusal::Rules);
     }
     if !is_burst(limit, b) {
-        return SplitAnswer::Refused(Refusal::Burst);
+        return Err(Refusal::Burst);
     }
     if crosses_page(b) {
-        return SplitAnswer::Refused(Refusal::Page);
+        return Err(Refusal::Page);
     }
-    SplitAnswer::Pieces((b.beats + (n - 1)) / n)
+    Ok((b.beats + (n - 1)) / n)
 }
 
 // The start address of piece i of k, or 0 where there is none.
@@ -135,11 +121,9 @@ fn lists_of(n: u32, b: Burst, k: u32) -> Lists
 {
     let mut starts = [0u32; 256];
     let mut beats = [0u32; 256];
-    let mut i: usize = 0;
-    while i < 256 {
+    for i in 0..256usize {
         starts[i] = start_entry(n, b, k, i as u32);
         beats[i] = beats_entry(n, b, k, i as u32);
-        i += 1;
     }
     Lists {
         starts: starts,
@@ -149,23 +133,23 @@ fn lists_of(n: u32, b: Burst, k: u32) -> Lists
 
 // Cuts a burst into pieces of the tree's burst length: how many, and of each the start address and the beats; the entries after them are
 // 0. A refusal leaves both arrays as they were.
-pub fn split(t: Tree, b: Burst, starts: &mut [u32; 256], beats: &mut [u32; 256]) -> SplitAnswer
+pub fn split(
+    t: Tree,
+    b: Burst,
+    starts: &mut [u32; 256],
+    beats: &mut [u32; 256],
+) -> Result<u32, Refusal>
     ensures answer { split_means result ≡ split_by t b }
     ensures starts { starts.new ≡ starts_after (split_by t b) t.bus.burst b starts.old }
     ensures beats { beats.new ≡ beats_after (split_by t b) t.bus.burst b beats.old }
 {
     let n = burst_length(t);
     let limit = beat_limit(t.bus);
-    let answer = split_answer(limit, tree_keeps(t), n, b);
-    match answer {
-        SplitAnswer::Refused(r) => SplitAnswer::Refused(r),
-        SplitAnswer::Pieces(k) => {
-            let lists = lists_of(n, b, k);
-            let addresses = lists.starts;
-            let counts = lists.beats;
-            *starts = addresses;
-            *beats = counts;
-            SplitAnswer::Pieces(k)
-        }
-    }
+    let k = split_answer(limit, tree_keeps(t), n, b)?;
+    let lists = lists_of(n, b, k);
+    let addresses = lists.starts;
+    let counts = lists.beats;
+    *starts = addresses;
+    *beats = counts;
+    Ok(k)
 }

@@ -3,16 +3,16 @@ ghost use Rattle.std.specs.Prelude.{◌≡◌};
 ghost use Rattle.burst.specs.Offers.{offer_pieces, burst_offer};
 ghost use Rattle.burst.specs.Answers.{burst_outcome};
 
-use crate::{Burst, SplitAnswer, burst_length, split_answer};
-use machine::{OfferAnswer, offer};
+use crate::{Burst, burst_length, split_answer};
+use machine::offer;
 use model::access::beat_limit;
-use model::{State, Tree};
+use model::{Refusal, State, Tree};
 use rules::both_keep;
 
 // What comes of an offered burst: admitted, or what refused it or one of its pieces; how many pieces were admitted; and the next state.
 #[derive(Clone, Copy)]
 pub struct BurstReply {
-    pub answer: OfferAnswer,
+    pub answer: Result<(), Refusal>,
     pub admitted: u32,
     pub state: State,
 }
@@ -22,26 +22,21 @@ fn offer_pieces(t: Tree, s: State, a: u8, k: u32) -> BurstReply
     ensures { burst_outcome result ≡ offer_pieces k t s a }
 {
     let mut state = s;
-    let mut admitted: u32 = 0;
-    while admitted < k {
+    for admitted in 0..k {
         let reply = offer(t, state, a);
         state = reply.state;
         let answer = reply.answer;
-        match answer {
-            OfferAnswer::Admitted => {}
-            OfferAnswer::Refused(r) => {
-                return BurstReply {
-                    answer: OfferAnswer::Refused(r),
-                    admitted: admitted,
-                    state: state,
-                };
-            }
+        if let Err(r) = answer {
+            return BurstReply {
+                answer: Err(r),
+                admitted: admitted,
+                state: state,
+            };
         }
-        admitted += 1;
     }
     BurstReply {
-        answer: OfferAnswer::Admitted,
-        admitted: admitted,
+        answer: Ok(()),
+        admitted: k,
         state: state,
     }
 }
@@ -55,16 +50,11 @@ pub fn offer_burst(t: Tree, s: State, a: u8, b: Burst, from: u32) -> BurstReply
     let limit = beat_limit(t.bus);
     let answer = split_answer(limit, both_keep(t, s), n, b);
     match answer {
-        SplitAnswer::Refused(r) => BurstReply {
-            answer: OfferAnswer::Refused(r),
+        Ok(k) => offer_pieces(t, s, a, k.saturating_sub(from)),
+        Err(r) => BurstReply {
+            answer: Err(r),
             admitted: 0,
             state: s,
         },
-        SplitAnswer::Pieces(k) => {
-            if k <= from {
-                return offer_pieces(t, s, a, 0);
-            }
-            offer_pieces(t, s, a, k - from)
-        }
     }
 }

@@ -11,12 +11,10 @@ pub mod splits;
 ghost use Rattle.std.specs.Prelude.{◌≡◌};
 ghost use Rattle.burstcheck.specs.Same.{split_number, piece_count, same_split, same_entries, join_code, same_join, offer_number, same_offered};
 
-use burst::SplitAnswer;
-use burst::joiner::{JoinAnswer, JoinReply};
+use burst::joiner::{JoinReply, Progress};
 use burst::offers::BurstReply;
 use callcheck::same_state;
-use machine::OfferAnswer;
-use model::number;
+use model::{Refusal, number};
 use second::bursts::{DONE, Joined, Offered, Split};
 use store::get;
 
@@ -28,26 +26,26 @@ fn wide(x: u32) -> usize
 }
 
 // The number of a refused split, or 0.
-fn split_number(x: SplitAnswer) -> usize
+fn split_number(x: Result<u32, Refusal>) -> usize
     ensures { result ≡ split_number x }
 {
     match x {
-        SplitAnswer::Pieces(_) => 0,
-        SplitAnswer::Refused(r) => number(r) as usize,
+        Ok(_) => 0,
+        Err(r) => number(r) as usize,
     }
 }
 
 // How many pieces there are; none where it is refused.
-fn piece_count(x: SplitAnswer) -> usize
+fn piece_count(x: Result<u32, Refusal>) -> usize
     ensures { result ≡ piece_count x }
 {
     match x {
-        SplitAnswer::Pieces(k) => k as usize,
-        SplitAnswer::Refused(_) => 0,
+        Ok(k) => k as usize,
+        Err(_) => 0,
     }
 }
 
-pub fn same_split(x: SplitAnswer, y: Split) -> bool
+pub fn same_split(x: Result<u32, Refusal>, y: Split) -> bool
     ensures { result ≡ same_split x y }
 {
     (split_number(x) == y.number) & (piece_count(x) == y.pieces)
@@ -67,13 +65,13 @@ pub fn same_entries(a: &[u32; 256], part: usize, d: &[usize; 16384]) -> bool
 }
 
 // As `second` says it: 0 taken, 255 done, or the number of a refusal.
-fn join_code(x: JoinAnswer) -> usize
+fn join_code(x: Result<Progress, Refusal>) -> usize
     ensures { result ≡ join_code x }
 {
     match x {
-        JoinAnswer::Taken => 0,
-        JoinAnswer::Done => DONE,
-        JoinAnswer::Refused(r) => number(r) as usize,
+        Ok(Progress::Taken) => 0,
+        Ok(Progress::Done) => DONE,
+        Err(r) => number(r) as usize,
     }
 }
 
@@ -88,12 +86,12 @@ pub fn same_join(x: JoinReply, y: Joined) -> bool
 }
 
 // The number of a refused offer, or 0.
-fn offer_number(x: OfferAnswer) -> usize
+fn offer_number(x: Result<(), Refusal>) -> usize
     ensures { result ≡ offer_number x }
 {
     match x {
-        OfferAnswer::Admitted => 0,
-        OfferAnswer::Refused(r) => number(r) as usize,
+        Ok(()) => 0,
+        Err(r) => number(r) as usize,
     }
 }
 

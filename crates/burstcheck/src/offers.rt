@@ -8,7 +8,7 @@ use callcheck::returns::give_all;
 use callcheck::states::altered;
 use generator::bursts::some_piece;
 use generator::number_below;
-use machine::{fresh, slot};
+use machine::{fresh, slot, zero_state};
 use model::access::{admitted_of, allowance_of, last_of, waiting_of};
 use model::{Channel, State, Tree};
 use second::book::{READ, WRITE};
@@ -159,11 +159,15 @@ fn try_calls(t: Tree, s: State, n: usize, d: &mut [usize; 16384]) -> State {
     state
 }
 
+// The starting state of a channel, or one of zeros where the configuration breaks its rules.
+fn first_state(t: Tree, c: Channel) -> State {
+    fresh(t, c).unwrap_or(zero_state(c))
+}
+
 // Offered bursts from a fresh state on, on a tree that is in the rows; the state that they lead to.
 pub fn try_offers(t: Tree, d: &mut [usize; 16384]) -> State {
     let channel = number_below(d, 2);
-    let r = fresh(t, channel_of(channel));
-    try_calls(t, r.state, 16, d)
+    try_calls(t, first_state(t, channel_of(channel)), 16, d)
 }
 
 // The same where an entry of the state is altered at random, on a tree that may be another than that of the state.
@@ -183,7 +187,7 @@ pub fn try_other(t: Tree, s: State, d: &mut [usize; 16384]) {
 pub fn try_limits(t: Tree, d: &mut [usize; 16384]) {
     judge(t, d);
     for i in 0..12usize {
-        let r = fresh(t, channel_of(i % 2));
+        let s = first_state(t, channel_of(i % 2));
         let c = Call {
             b: Burst {
                 start: 0,
@@ -193,6 +197,6 @@ pub fn try_limits(t: Tree, d: &mut [usize; 16384]) {
             a: 0,
             from: 0,
         };
-        try_offer(t, r.state, c, d);
+        try_offer(t, s, c, d);
     }
 }

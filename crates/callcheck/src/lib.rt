@@ -18,9 +18,9 @@ use crate::states::{
     with_returns,
 };
 use generator::number_below;
-use machine::{FreshAnswer, OfferAnswer, SlotAnswer, fresh, offer, slot};
+use machine::{fresh, offer, slot, zero_state};
 use model::access::{accelerator_at, admitted_of, allowance_of, last_of, returns_of, waiting_of};
-use model::{Channel, State, Tree, number};
+use model::{Channel, Refusal, State, Tree, number};
 use second::book::{READ, WRITE, other};
 use second::calls::{
     CHANNEL, last_port, left, offer_answer, offer_one, rules_broken, slot_count, slot_one,
@@ -134,26 +134,19 @@ pub fn channel_of(n: usize) -> Channel {
     Channel::Write
 }
 
-fn started(answer: FreshAnswer) -> usize {
+fn offer_number(answer: Result<(), Refusal>) -> usize {
     match answer {
-        FreshAnswer::Started => 0,
-        FreshAnswer::Refused(r) => number(r) as usize,
-    }
-}
-
-fn offer_number(answer: OfferAnswer) -> usize {
-    match answer {
-        OfferAnswer::Admitted => 0,
-        OfferAnswer::Refused(r) => number(r) as usize,
+        Ok(()) => 0,
+        Err(r) => number(r) as usize,
     }
 }
 
 // As the second machine says it: the accelerator, 255, or 256 and the number of a refusal more.
-fn slot_code(answer: SlotAnswer) -> usize {
+fn slot_code(answer: Result<Option<u8>, Refusal>) -> usize {
     match answer {
-        SlotAnswer::Idle => 255,
-        SlotAnswer::Served(a) => a as usize,
-        SlotAnswer::Refused(r) => 256 + number(r) as usize,
+        Ok(None) => 255,
+        Ok(Some(a)) => a as usize,
+        Err(r) => 256 + number(r) as usize,
     }
 }
 
@@ -319,12 +312,17 @@ fn try_last_slots(t: Tree, s: State, d: &mut [usize; 16384]) -> State {
     try_calls(t, next, 6, d)
 }
 
-// The start on a channel.
+// The start on a channel: the number of its answer, 0 where it is not refused, and the state, of zeros where it is.
+fn start(t: Tree, c: Channel) -> (usize, State) {
+    match fresh(t, c) {
+        Ok(state) => (0, state),
+        Err(r) => (number(r) as usize, zero_state(c)),
+    }
+}
+
+// The same in both, compared.
 fn try_start(t: Tree, channel: usize, d: &mut [usize; 16384]) -> State {
-    let r = fresh(t, channel_of(channel));
-    let said = r.answer;
-    let answer = started(said);
-    let state = r.state;
+    let (answer, state) = start(t, channel_of(channel));
     let ours = start_one(d, channel);
     let same = same_state(state, t.bus.delay, d);
     note(d, DIFFERENCES, 0, (answer == ours) & same);

@@ -25,8 +25,7 @@ use Rattle.folds.specs.Fold.{pick, all}
 use Rattle.model.specs.Answer.{number_of}
 use Rattle.model.specs.Tree.{delay_of, limit_of, budget_of, waiting_of, admitted_of, returns_of}
 use Rattle.rules.specs.Rules.{tree_keeps, sized, on_the_way, record_keeps, turn_keeps, state_keeps, keeps}
-use Rattle.lines.specs.declared.FileAnswer.{FileAnswer}
-use Rattle.lines.specs.declared.FileAnswer.TheVariants.{Accepted, Refused, Broken}
+use Rattle.lines.specs.Answer.{FileAnswer, Accepted, Refused, Broken}
 use Rattle.text.specs.Text.{lines}
 use Rattle.trace.specs.TraceFile.{read_trace, requests}
 use Rattle.machine.specs.Machine.{Answer, Outcome, fresh_state, on_admitted, offered_within, offered, slotted_within}

@@ -1,7 +1,7 @@
 -- A transaction passes each interconnect on the way down; the definition of the machine takes the turns on the way back. On the table of
 -- a configuration that keeps its rules both come to the same: the way down leads to interconnects of greater numbers, whose ports what
 -- is stored before them leaves.
-use Prim.Native.Nat.{ℕ, zero, suc, ◌-◌, ◌/◌, ◌%◌, ◌≤◌, ◌<◌, min}
+use Prim.Native.Nat.{ℕ, zero, suc, ◌-◌, ◌/◌, ◌%◌, ◌<◌, min}
 use mathlib.Core.List.{List}
 use mathlib.Core.Path.{◌≡◌, refl, sym, ◌∙◌, ap, ap₂, subst}
 use native.Mathlib.Decide.{dec_lt}
@@ -14,50 +14,41 @@ use Rattle.folds.specs.Fold.{pick}
 use Rattle.folds.proofs.Folds.{picked, passed}
 use Rattle.model.specs.declared.Tree.{Tree}
 use Rattle.model.specs.declared.Port.{Port}
-use Rattle.model.specs.Tree.{port_of}
+use Rattle.model.specs.declared.Port.TheVariants.{Empty, Acc, Int}
 use Rattle.rules.proofs.Sound.{Sound}
 use Rattle.rules.proofs.Beneath.{at_port}
 use Rattle.turns.specs.declared.Turn.{Turn}
-use Rattle.counts.specs.Table.{port_number, interconnects, empty, carried_number, granularities}
+use Rattle.counts.specs.declared.Table.{Table}
+use Rattle.counts.specs.declared.Ports.{Ports}
+use Rattle.counts.specs.Table.{port_number, carried_at}
 use Rattle.counts.specs.Counts.{without_port, lower, close_port}
-use Rattle.counts.specs.Choice.{Ports, count_at, port_on, turn_on, turn_at, pass, Choice, choice, below_on, choose_on}
+use Rattle.counts.specs.Choice.{count_at, port_on, turn_on, turn_at, pass, Choice, choice, below_on, choose_on}
 use Rattle.counts.proofs.Steps.{number_interconnect, ports_same}
-use Rattle.counts.proofs.Table.{TableOf}
-
--- what a port leads to
-module _ (f : ℕ → Ports → Choice) (x : ℕ) (d : Ports) where
-  pub below_own : x < interconnects → choice x d ≡ below_on f x d
-  below_own h = sym (picked _ _ _ (lt-ltb _ _ h))
-
-  pub below_none : empty ≤ x → choice 255 d ≡ below_on f x d
-  below_none h = sym (passed _ _ _ (le-ltb x interconnects (omega arith)) ∙ passed _ _ _ (le-ltb _ _ h))
-
-  pub below_int : interconnects ≤ x → x < empty → f (x - interconnects) d ≡ below_on f x d
-  below_int h k = sym (passed _ _ _ (le-ltb x interconnects h) ∙ picked _ _ _ (lt-ltb _ _ k))
+use Rattle.counts.proofs.Entries.{TableOf}
 
 -- c once one transaction has passed interconnect j in its turn x
 abbrev pub passed_on : ℕ → Turn → Choice → Choice
 passed_on j x c = choice c.served (pass j x c.ports)
 
 -- what the port of the turn x of interconnect j carries
-abbrev pub carried_by : List ℕ → ℕ → Turn → ℕ
-carried_by w j x = get_or w (port_number j x.port) 0
+abbrev pub turn_carries : Table → ℕ → Turn → Port
+turn_carries w j x = carried_at w (port_number j x.port)
 
-unfoldable pub back_on : ℕ → List ℕ → ℕ → Ports → Choice
+unfoldable pub back_on : ℕ → Table → ℕ → Ports → Choice
 back_on zero w j d = choice 255 d
 back_on (suc m) w j d =
     pick (ltb 14 j) (choice 255 d)
     (pick (ltb 7 (turn_at w d j).port) (choice 255 d)
-    (passed_on j (turn_at w d j) (below_on (back_on m w) (carried_by w j (turn_at w d j)) d)))
+    (passed_on j (turn_at w d j) (below_on (back_on m w) (turn_carries w j (turn_at w d j)) d)))
 
-pub back_step : (w : List ℕ) (m j : ℕ) (d : Ports) → 0 < m → j < 15 → (turn_at w d j).port < 8
-    → passed_on j (turn_at w d j) (below_on (back_on (m - 1) w) (carried_by w j (turn_at w d j)) d) ≡ back_on m w j d
+pub back_step : (w : Table) (m j : ℕ) (d : Ports) → 0 < m → j < 15 → (turn_at w d j).port < 8
+    → passed_on j (turn_at w d j) (below_on (back_on (m - 1) w) (turn_carries w j (turn_at w d j)) d) ≡ back_on m w j d
 unfolding back_on
 back_step w zero j d z h b = absurd (omega arith)
 back_step w (suc m) j d z h b =
     let x = turn_at w d j in
     let e : suc m - 1 ≡ m = omega arith in
-    ap (λ (i : ℕ). passed_on j x (below_on (back_on i w) (carried_by w j x) d)) e
+    ap (λ (i : ℕ). passed_on j x (below_on (back_on i w) (turn_carries w j x) d)) e
     ∙ sym (passed _ _ _ (le-ltb 14 j (omega arith)) ∙ passed _ _ _ (le-ltb 7 x.port (omega arith)))
 
 -- stores at two places
@@ -92,9 +83,9 @@ module _ (j : ℕ) (x : Turn) (b : x.port < 8) (k : ℕ) (d : j < k) (e : Ports)
   at_j = number_interconnect j x.port b
 
   -- the turn of another interconnect is as it was
-  pass_turn : (w : List ℕ) → turn_at w (pass j x e) k ≡ turn_at w e k
+  pass_turn : (w : Table) → turn_at w (pass j x e) k ≡ turn_at w e k
   pass_turn w =
-      let g : ℕ = min 255 (get_or (granularities w) k 0) in
+      let g : ℕ = get_or w.granularity k 0 in
       let live = get_or-set_other e.live (c / 8) k _ 0 (λ q. omega (arith, at_j)) in
       let last = get_or-set_other e.last j k x.port 0 (λ q. omega arith) in
       let allowance = get_or-set_other e.allowance j k (x.allowance - 1) 0 (λ q. omega arith) in
@@ -119,41 +110,28 @@ module _ (j : ℕ) (x : Turn) (b : x.port < 8) (k : ℕ) (d : j < k) (e : Ports)
       (set_comm e.last j k x.port y.port (λ q. omega arith))
       (set_comm e.allowance j k (x.allowance - 1) (y.allowance - 1) (λ q. omega arith))
 
-module _ (t : Tree) (S : Sound t) (w : List ℕ) (W : TableOf t w) where
+module _ (t : Tree) (S : Sound t) (w : Table) (W : TableOf t w) where
   -- a port leads to an interconnect of a greater number
-  record Deeper (j x : ℕ) : Type 0 where
-    more : j < x - interconnects
-    used : x - interconnects < t.ints
+  abbrev Deeper : ℕ → Port → Type 0
+  Deeper j Empty = Unit {0}
+  Deeper j (Acc a) = Unit {0}
+  Deeper j (Int k) = (j < k) × (k < t.ints)
 
-  deeper : (j : ℕ) (x : Turn) → j < t.ints → x.port < 8 → interconnects ≤ carried_by w j x → carried_by w j x < empty → Deeper j (carried_by w j x)
-  deeper j x h l a b =
-      let c : carried_by w j x ≡ carried_number (port_of t j x.port) = W.carried j x.port (omega (arith, S.most_ints)) l in
-      subst (Deeper j) (sym c) (by_port (omega (arith, c)) (omega (arith, c)))
-    where
-      Q : Port → Type 0
-      Q P = interconnects ≤ carried_number P → carried_number P < empty → Deeper j (carried_number P)
-
-      by_port : Q (port_of t j x.port)
-      by_port =
-          at_port t S Q j x.port h l (λ x y. absurd (omega arith)) (λ i li _ _ x y. absurd (omega (arith, S.most_accs)))
-          (λ k z lk e _ x y. record { more = omega (arith, S.parent k z lk, e); used = omega arith })
+  deeper : (j : ℕ) (x : Turn) → j < t.ints → x.port < 8 → Deeper j (turn_carries w j x)
+  deeper j x h l =
+      subst (Deeper j) (sym (W.carried j x.port (omega (arith, S.most_ints)) l))
+      (at_port t S (Deeper j) j x.port h l tt (λ _ _ _ _. tt) (λ k z lk e _. (omega (arith, S.parent k z lk, e), lk)))
 
   -- where what lies below an interconnect goes on after a transaction has passed, so does what lies below its port
   below_pass : (f g : ℕ → Ports → Choice) (k : ℕ) (y : Turn) (j : ℕ) (x : Turn) (d : Ports) → k < t.ints → y.port < 8
       → ((i : ℕ) → i < t.ints → k < i → f i (pass j x d) ≡ passed_on j x (g i d))
-      → below_on f (carried_by w k y) (pass j x d) ≡ passed_on j x (below_on g (carried_by w k y) d)
-  below_pass f g k y j x d h l F =
-      let n = carried_by w k y in
-      elim (dec_lt n interconnects) [
-        | yes b ↦ sym (below_own f n (pass j x d) b) ∙ ap (passed_on j x) (below_own g n d b)
-        | no b ↦ elim (dec_lt n empty) [
-          | yes e ↦
-              let D = deeper k y h l (omega arith) e in
-              sym (below_int f n (pass j x d) (omega arith) e) ∙ F (n - interconnects) D.used D.more
-              ∙ ap (passed_on j x) (below_int g n d (omega arith) e)
-          | no e ↦ sym (below_none f n (pass j x d) (omega arith)) ∙ ap (passed_on j x) (below_none g n d (omega arith))
-        ]
-      ]
+      → below_on f (turn_carries w k y) (pass j x d) ≡ passed_on j x (below_on g (turn_carries w k y) d)
+  below_pass f g k y j x d h l F = by_port (turn_carries w k y) (deeper k y h l)
+    where
+      by_port : (P : Port) → Deeper k P → below_on f P (pass j x d) ≡ passed_on j x (below_on g P d)
+      by_port Empty D = refl
+      by_port (Acc a) D = refl
+      by_port (Int i) D = F i D.1 D.0
 
   -- what is stored at an interconnect of a smaller number is left
   shift : (m k j : ℕ) (x : Turn) (d : Ports) → k < t.ints → j < k → x.port < 8
@@ -164,13 +142,13 @@ module _ (t : Tree) (S : Sound t) (w : List ℕ) (W : TableOf t w) where
       let y = turn_at w d k in
       let past = le-ltb 14 k (omega (arith, S.most_ints)) in
       let from : Turn → Choice =
-      λ i. pick (ltb 7 i.port) (choice 255 (pass j x d)) (passed_on k i (below_on (back_on m w) (carried_by w k i) (pass j x d))) in
+      λ i. pick (ltb 7 i.port) (choice 255 (pass j x d)) (passed_on k i (below_on (back_on m w) (turn_carries w k i) (pass j x d))) in
       passed _ _ _ past ∙ ap from (pass_turn j x b k l d w)
       ∙ elim (dec_lt 7 y.port) [
         | yes p ↦ picked _ _ _ (lt-ltb _ _ p) ∙ sym (ap (passed_on j x) (passed _ _ _ past ∙ picked _ _ _ (lt-ltb _ _ p)))
         | no p ↦
             let q : y.port < 8 = omega arith in
-            let r = below_on (back_on m w) (carried_by w k y) d in
+            let r = below_on (back_on m w) (turn_carries w k y) d in
             passed _ _ _ (le-ltb 7 y.port (omega arith))
             ∙ ap (passed_on k y) (below_pass (back_on m w) (back_on m w) k y j x d h q (λ i hi ki. shift m i j x d hi (omega arith) b))
             ∙ ap (choice r.served) (pass_twice j x b k l r.ports y q)

@@ -4,18 +4,16 @@ use Prim.Native.Nat.{ℕ, zero, suc, ◌+◌, ◌-◌, ◌≤◌, ◌<◌, min}
 use mathlib.Core.Bool.{Bool, true, false, ◌||◌}
 use mathlib.Core.List.{List, [], ◌∷◌, ◌++◌, append_assoc, append-nil}
 use mathlib.Core.Path.{◌≡◌, refl, sym, ◌∙◌, ap, ap₂, subst, subst₂}
-use native.Mathlib.Decide.{dec_lt}
 use native.Mathlib.Omega.{arith}
-use lib.ListN.{get_or, set, drop}
-use lib.Seq.{get_or-take, get_or-drop}
+use lib.ListN.{get_or, set}
 use lib.Dec.{ltb, eqb}
 use borrow.Author.Tests.{lt-ltb, le-ltb, ltb-false, eqb-false, ne_eqb}
 use Rattle.model.specs.declared.Tree.{Tree}
 use Rattle.model.specs.declared.State.{State}
+use Rattle.model.specs.declared.PortCell.{PortCell}
 use Rattle.model.specs.declared.Port.{Port}
-use Rattle.model.specs.declared.Port.TheVariants.{Empty, Acc, Int}
 use Rattle.folds.specs.Fold.{pick}
-use Rattle.model.specs.Tree.{Crossing, port_of, granularity_of, parent_of, parent_port_of, home_of, home_port_of, above, path, level_of, waiting_of, last_of, allowance_of}
+use Rattle.model.specs.Tree.{Crossing, empty_cell, port_of, granularity_of, above, path, level_of, waiting_of, last_of, allowance_of}
 use Rattle.model.specs.Beneath.{under, inside}
 use Rattle.folds.proofs.Folds.{picked, passed, clash}
 use Rattle.rules.specs.Rules.{keeps}
@@ -25,23 +23,15 @@ use Rattle.turns.specs.declared.Turn.{Turn}
 use Rattle.turns.specs.Turns.{live_set, next_port, goes_on, turn_port, turn_allowance, reached, who, turned, after}
 use Rattle.turns.proofs.Descent as Descent
 use Rattle.turns.proofs.Steps.{who_step, after_step}
-use Rattle.counts.specs.Table.{port_number, interconnects, carried_number, granularities}
-use Rattle.counts.specs.Counts.{lives, lower, close_port}
-use Rattle.counts.specs.Choice.{Ports, ports_in, count_at, port_on, turn_on, turn_at, pass, Choice, choice, below_on, choose_on}
-use Rattle.counts.proofs.Table.{TableOf}
+use Rattle.counts.specs.declared.Table.{Table}
+use Rattle.counts.specs.declared.Ports.{Ports}
+use Rattle.counts.specs.Table.{port_number, carried_at}
+use Rattle.counts.specs.Counts.{lower, close_port}
+use Rattle.counts.specs.Choice.{count_at, port_on, turn_at, pass, Choice, choice, below_on, choose_on}
+use Rattle.counts.proofs.Entries.{TableOf}
 use Rattle.counts.proofs.Counted.{Counted, counted_less}
 use Rattle.counts.proofs.Changed.{numbers, numbers_more, lowered, closed, lowered_more, closed_more}
-use Rattle.counts.proofs.Backward.{below_own, below_int, passed_on, carried_by, back_on, back_step, same_back}
-
--- the turn by the granularity g and the array r of last ports, allowances and live ports
-abbrev turn_read : (u r : List ℕ) (j g : ℕ) → Turn
-turn_read u r j g = turn_on u j g (get_or r (30 + j) 0) (get_or r j 0) (get_or r (15 + j) 0)
-
-turn_parts : (w u r : List ℕ) (j g : ℕ) → j < 15 → g ≡ min 255 (get_or w (120 + j) 0) → turn_read u r j g ≡ turn_at w (ports_in u r) j
-turn_parts w u r j g h e =
-    ap₂ (λ (i v : ℕ). turn_on u j i v (get_or r j 0) (get_or r (15 + j) 0)) (e ∙ ap (min 255) (sym (get_or-drop 120 w j 0))) (sym (get_or-drop 30 r j 0))
-    ∙ ap₂ (λ (l o : ℕ). turn_on u j (min 255 (get_or (granularities w) j 0)) (get_or (lives r) j 0) l o)
-    (sym (get_or-take 15 r j 0 h)) (sym (get_or-take 15 (drop 15 r) j 0 h ∙ get_or-drop 15 r j 0))
+use Rattle.counts.proofs.Backward.{passed_on, turn_carries, back_on, back_step, same_back}
 
 neither : (a b : Bool) → (a || b) ≡ false → (a ≡ false) × (b ≡ false)
 neither true b e = clash cc
@@ -55,7 +45,7 @@ within m j e =
     (omega arith, omega (arith, ltb-false 14 j h.1))
 
 -- the steps of the choice on any arrays
-module _ (w : List ℕ) (d : Ports) where
+module _ (w : Table) (d : Ports) where
   pub on_none : (m j : ℕ) → (eqb m 0 || ltb 14 j) ≡ true → choice 255 d ≡ choose_on m w j d
   unfolding choose_on
   on_none zero j e = refl
@@ -66,34 +56,31 @@ module _ (w : List ℕ) (d : Ports) where
   on_portless zero j z h b = absurd (omega arith)
   on_portless (suc m) j z h b = sym (passed _ _ _ (le-ltb 14 j (omega arith)) ∙ picked _ _ _ (lt-ltb _ _ b))
 
-  on_step : (m j : ℕ) → 0 < m → j < 15 → (turn_at w d j).port < 8
-      → below_on (choose_on (m - 1) w) (carried_by w j (turn_at w d j)) (pass j (turn_at w d j) d) ≡ choose_on m w j d
+  -- one transaction has passed in this turn; the choice goes on by what its port carries
+  pub on_step : (m j : ℕ) → 0 < m → j < 15 → (turn_at w d j).port < 8
+      → choose_on m w j d ≡ below_on (choose_on (m - 1) w) (turn_carries w j (turn_at w d j)) (pass j (turn_at w d j) d)
   unfolding choose_on
   on_step zero j z h b = absurd (omega arith)
   on_step (suc m) j z h b =
       let x = turn_at w d j in
-      let e : suc m - 1 ≡ m = omega arith in
-      ap (λ (i : ℕ). below_on (choose_on i w) (carried_by w j x) (pass j x d)) e
-      ∙ sym (passed _ _ _ (le-ltb 14 j (omega arith)) ∙ passed _ _ _ (le-ltb 7 x.port (omega arith)))
+      let e : m ≡ suc m - 1 = omega arith in
+      passed _ _ _ (le-ltb 14 j (omega arith)) ∙ passed _ _ _ (le-ltb 7 x.port (omega arith))
+      ∙ ap (λ (i : ℕ). below_on (choose_on i w) (turn_carries w j x) (pass j x d)) e
 
--- the turn x of interconnect j is read from the arrays u and r
-module _ (w u r : List ℕ) (m j g : ℕ) (h : (0 < m) × (j < 15)) (i : g ≡ min 255 (get_or w (120 + j) 0)) (x : Turn) (e : x ≡ turn_read u r j g) where
-  is_turn : x ≡ turn_at w (ports_in u r) j
-  is_turn = e ∙ turn_parts w u r j g h.1 i
+  -- the turn x is read from the arrays
+  module _ (m j : ℕ) (h : (0 < m) × (j < 15)) (x : Turn) (e : x ≡ turn_at w d j) where
+    pub stored_portless : 7 < x.port → choice 255 d ≡ choose_on m w j d
+    stored_portless b = on_portless m j h.0 h.1 (subst (λ (z : Turn). 7 < z.port) e b)
 
-  pub stored_portless : 7 < x.port → choice 255 (ports_in u r) ≡ choose_on m w j (ports_in u r)
-  stored_portless b = on_portless w (ports_in u r) m j h.0 h.1 (subst (λ (z : Turn). 7 < z.port) is_turn b)
-
-  -- one transaction has passed in this turn; the choice goes on by what its port carries, y
-  module _ (b : x.port ≤ 7) (y : ℕ) (f : y ≡ carried_by w j x) (d : Ports) (s : d ≡ pass j x (ports_in u r)) where
-    pub stored_goes : (c : Choice) → c ≡ below_on (choose_on (m - 1) w) y d → c ≡ choose_on m w j (ports_in u r)
-    stored_goes c q =
-        q ∙ ap₂ (λ (n : ℕ) (e : Ports). below_on (choose_on (m - 1) w) n e) f s
-        ∙ ap (λ (z : Turn). below_on (choose_on (m - 1) w) (carried_by w j z) (pass j z (ports_in u r))) is_turn
-        ∙ on_step w (ports_in u r) m j h.0 h.1 (subst (λ (z : Turn). z.port < 8) is_turn (omega arith))
+    pub stored_goes : x.port ≤ 7 → (y : PortCell) → y ≡ get_or w.carried (port_number j x.port) empty_cell → (b : Ports) → b ≡ pass j x d → (P : Port) → y.port ≡ P
+        → below_on (choose_on (m - 1) w) P b ≡ choose_on m w j d
+    stored_goes l y f b s P q =
+        ap₂ (below_on (choose_on (m - 1) w)) (sym q ∙ ap (λ (c : PortCell). c.port) f) s
+        ∙ ap (λ (z : Turn). below_on (choose_on (m - 1) w) (turn_carries w j z) (pass j z d)) e
+        ∙ sym (on_step m j h.0 h.1 (subst (λ (z : Turn). z.port < 8) e (omega arith)))
 
 -- d is what a run keeps at state s of configuration t, which keep their rules, and w is the configuration's table
-pub record Matches (t : Tree) (s : State) (w : List ℕ) (d : Ports) : Type 0 where
+pub record Matches (t : Tree) (s : State) (w : Table) (d : Ports) : Type 0 where
   pub rules : keeps t s ≡ true
   pub table : TableOf t w
   pub counts : Counted t (waiting_of s) d.under d.live
@@ -106,29 +93,14 @@ pub record Chosen (t : Tree) (s : State) (n j : ℕ) (c : Choice) : Type 0 where
   pub last : c.ports.last ≡ (after n t s j).last
   pub allowance : c.ports.allowance ≡ (after n t s j).allowance
 
--- z and number x are the turn of interconnect j and of what its port carries
-record Read (t : Tree) (s : State) (j : ℕ) (z : Turn) (x : ℕ) : Type 0 where
+-- z and x are the turn of interconnect j and what its port carries
+record Read (t : Tree) (s : State) (j : ℕ) (z : Turn) (x : Port) : Type 0 where
   port : z.port ≡ turn_port t s j
   allowance : z.allowance ≡ turn_allowance t s j
-  carried : x ≡ carried_number (port_of t j (turn_port t s j))
-
--- a port carries an interconnect with something waiting inside, and its number tells which
-record Lower (t : Tree) (s : State) (P : Port) : Type 0 where
-  int : ℕ
-  carries : P ≡ Int int
-  used : int < t.ints
-  waits : 0 < inside 4 t (waiting_of s) int
-  number : carried_number P ≡ int + interconnects
-
--- the number of an accelerator is below those of the interconnects
-own : (n : ℕ) (t : Tree) (s : State) (P : Port) → carried_number P < interconnects
-    → (carried_number P ≡ reached (who n t s) P) × (s ≡ turned s (after n t s) P)
-own n t s Empty h = absurd (omega arith)
-own n t s (Acc a) h = (refl, refl)
-own n t s (Int k) h = absurd (omega arith)
+  carried : x ≡ port_of t j (turn_port t s j)
 
 -- the turn of interconnect j is taken in what the way down has left
-taken : (t : Tree) (s : State) (m j : ℕ) (z : Turn) (x : ℕ) (c : Choice) → 0 < m → Read t s j z x
+taken : (t : Tree) (s : State) (m j : ℕ) (z : Turn) (x : Port) (c : Choice) → 0 < m → Read t s j z x
     → c.served ≡ reached (who (m - 1) t s) (port_of t j (turn_port t s j))
     → c.ports.last ≡ (turned s (after (m - 1) t s) (port_of t j (turn_port t s j))).last
     → c.ports.allowance ≡ (turned s (after (m - 1) t s) (port_of t j (turn_port t s j))).allowance
@@ -141,7 +113,7 @@ taken t s m j z x c b R q e f =
       allowance = ap₂ (λ (k : List ℕ) (i : ℕ). set k j (i - 1)) f R.allowance ∙ ap (λ (k : State). k.allowance) (after_step m t s j d);
     }
 
-module _ (t : Tree) (s : State) (w : List ℕ) (d : Ports) (M : Matches t s w d) where
+module _ (t : Tree) (s : State) (w : Table) (d : Ports) (M : Matches t s w d) where
   S : Sound t
   S = sound_of t s M.rules
 
@@ -170,46 +142,29 @@ module _ (t : Tree) (s : State) (w : List ℕ) (d : Ports) (M : Matches t s w d)
         ap (port_on (get_or d.live j 0) (get_or d.last j 0)) allowance_same
         ∙ ap₂ (λ (x y : ℕ). pick (goes_on s j) x y) last_same next_same
 
-    granularity_same : min 255 (get_or (granularities w) j 0) ≡ granularity_of t j
-    granularity_same = omega (arith, M.table.granularity j lj, (S.granularity j h).1)
+    granularity_same : get_or w.granularity j 0 ≡ granularity_of t j
+    granularity_same = M.table.granularity j lj
 
     -- the allowance of the turn, were its port p
     abbrev allowance_by : ℕ → ℕ
-    allowance_by p = pick (ltb 0 (get_or d.allowance j 0)) (get_or d.allowance j 0) (min (min 255 (get_or (granularities w) j 0)) (count_at d.under j p))
+    allowance_by p = pick (ltb 0 (get_or d.allowance j 0)) (get_or d.allowance j 0) (min (get_or w.granularity j 0) (count_at d.under j p))
 
     allowance_from : allowance_by (turn_port t s j) ≡ turn_allowance t s j
     unfolding turn_allowance
     allowance_from =
-        ap (λ (a : ℕ). pick (ltb 0 a) a (min (min 255 (get_or (granularities w) j 0)) (count_at d.under j (turn_port t s j)))) allowance_same
+        ap (λ (a : ℕ). pick (ltb 0 a) a (min (get_or w.granularity j 0) (count_at d.under j (turn_port t s j)))) allowance_same
         ∙ ap₂ (λ (x y : ℕ). pick (goes_on s j) (allowance_of s j) (min x y)) granularity_same
         (passed _ _ _ (le-ltb 7 (turn_port t s j) (omega (arith, T.port))) ∙ M.counts.count j (turn_port t s j) h T.port)
 
     port_known : (turn_at w d j).port < 8
     port_known = omega (arith, port_from, T.port)
 
-    read : Read t s j (turn_at w d j) (carried_by w j (turn_at w d j))
+    read : Read t s j (turn_at w d j) (turn_carries w j (turn_at w d j))
     read = record {
       port = port_from;
       allowance = ap allowance_by port_from ∙ allowance_from;
-      carried = ap (λ (p : ℕ). get_or w (port_number j p) 0) port_from ∙ M.table.carried j (turn_port t s j) lj T.port;
+      carried = ap (λ (p : ℕ). carried_at w (port_number j p)) port_from ∙ M.table.carried j (turn_port t s j) lj T.port;
     }
-
-    lower_of : interconnects ≤ carried_number (port_of t j (turn_port t s j)) → Lower t s (port_of t j (turn_port t s j))
-    lower_of f = at_port t S Q j (turn_port t s j) h T.port
-        (λ b d. absurd (omega arith))
-        (λ a la _ _ b d. absurd (omega (arith, S.most_accs)))
-        (λ k z lk e _ b d.
-        record {
-          int = k;
-          carries = refl;
-          used = lk;
-          waits = omega (arith, settled t S 3 (waiting_of s) k lk (omega (arith, child_level t S k j z lk e)));
-          number = refl;
-        })
-        (omega (arith, T.some, T.covered)) f
-      where
-        Q : Port → Type 0
-        Q P = 0 < under (waiting_of s) (inside 3 t (waiting_of s)) P → interconnects ≤ carried_number P → Lower t s P
 
   -- the choice on a run's arrays is the choice of the definition, from any interconnect with something waiting inside
   abbrev ChosenFrom : ℕ → ℕ → Type 0
@@ -218,28 +173,24 @@ module _ (t : Tree) (s : State) (w : List ℕ) (d : Ports) (M : Matches t s w d)
   step : (m j : ℕ) → 0 < m → ((k : ℕ) → ChosenFrom (m - 1) k) → ChosenFrom m j
   step m j z F h k =
       let R = read j h k in
-      let turn = turn_at w d j in
-      let x = carried_by w j turn in
+      let x = turn_at w d j in
       let f : ℕ → Ports → Choice = back_on (m - 1) w in
-      let by : (c : Choice) → c ≡ below_on f x d → passed_on j turn c ≡ back_on m w j d =
-      λ c q. ap (passed_on j turn) q ∙ back_step w m j d z (lj j h k) (port_known j h k) in
-      elim (dec_lt x interconnects) [
-        | yes b ↦
-            let r = own (m - 1) t s (port_of t j (turn_port t s j)) (omega (arith, R.carried)) in
-            subst (Chosen t s m j) (by (choice x d) (below_own f x d b))
-            (taken t s m j _ x (choice x d) z R (R.carried ∙ r.0) (M.last ∙ ap (λ (i : State). i.last) r.1)
-            (M.allowance ∙ ap (λ (i : State). i.allowance) r.1))
-        | no b ↦
-            let L = lower_of j h k (omega (arith, R.carried)) in
-            let e : x ≡ L.int + interconnects = R.carried ∙ L.number in
-            let i : x - interconnects ≡ L.int = omega arith in
-            let N = F L.int L.used L.waits in
-            let down = sym (ap (turned s (after (m - 1) t s)) L.carries) in
-            subst (Chosen t s m j)
-            (by (f L.int d) (ap (λ (n : ℕ). f n d) (sym i) ∙ below_int f x d (omega arith) (omega (arith, L.used, S.most_ints))))
-            (taken t s m j _ x (f L.int d) z R (N.served ∙ sym (ap (reached (who (m - 1) t s)) L.carries))
-            (N.last ∙ ap (λ (y : State). y.last) down) (N.allowance ∙ ap (λ (y : State). y.allowance) down))
-      ]
+      let C : Chosen t s m j (passed_on j x (below_on f (turn_carries w j x) d)) =
+      subst (λ (P : Port). Chosen t s m j (passed_on j x (below_on f P d))) (sym R.carried)
+      (at_port t S Q j (turn_port t s j) h (T j h k).port
+      (λ c b. absurd (omega arith))
+      (λ a la _ _ c b. taken t s m j x _ (choice a d) z R (ap (reached (who (m - 1) t s)) c) (M.last ∙ ap (λ (P : Port). (turned s (after (m - 1) t s) P).last) c)
+      (M.allowance ∙ ap (λ (P : Port). (turned s (after (m - 1) t s) P).allowance) c))
+      (λ i iz li e _ c b.
+      let N = F i li (omega (arith, settled t S 3 (waiting_of s) i li (omega (arith, child_level t S i j iz li e)))) in
+      taken t s m j x _ (f i d) z R (N.served ∙ ap (reached (who (m - 1) t s)) c) (N.last ∙ ap (λ (P : Port). (turned s (after (m - 1) t s) P).last) c)
+      (N.allowance ∙ ap (λ (P : Port). (turned s (after (m - 1) t s) P).allowance) c))
+      refl (omega (arith, (T j h k).some, (T j h k).covered))) in
+      subst (Chosen t s m j) (back_step w m j d z (lj j h k) (port_known j h k)) C
+    where
+      Q : Port → Type 0
+      Q P = P ≡ port_of t j (turn_port t s j) → 0 < under (waiting_of s) (inside 3 t (waiting_of s)) P
+          → Chosen t s m j (passed_on j (turn_at w d j) (below_on (back_on (m - 1) w) P d))
 
   comes_back : (m j : ℕ) → ChosenFrom m j
   unfolding back_on who after
@@ -288,8 +239,8 @@ module _ (t : Tree) (s : State) (w : List ℕ) (d : Ports) (M : Matches t s w d)
     abbrev x : Turn
     x = turn_at w d j
 
-    abbrev y : ℕ
-    y = carried_by w j x
+    abbrev y : Port
+    y = turn_carries w j x
 
     abbrev f : ℕ → Ports → Choice
     f = back_on (m - 1) w
@@ -297,28 +248,19 @@ module _ (t : Tree) (s : State) (w : List ℕ) (d : Ports) (M : Matches t s w d)
     abbrev WayTo : ℕ → Choice → Type 0
     WayTo a c = Way (above 15 t j) a (pass j x c.ports)
 
-    leaf : (a : ℕ) → a < t.accs → home_of t a ≡ j → home_port_of t a ≡ turn_port t s j → y ≡ a → WayTo a (below_on f y d)
-    leaf a la e g c =
-        subst (WayTo a) (below_own f y d (omega (arith, S.most_accs)))
-        (way_more a j x d (path t a) (above 15 t j) (ap₂ (lane t) e (g ∙ sym (read j h k).port)) (way_none a))
-
-    inner : (i : ℕ) → 0 < i → i < t.ints → parent_of t i ≡ j → parent_port_of t i ≡ turn_port t s j → y ≡ i + interconnects
-        → Way (above 15 t i) (who (m - 1) t s i) (f i d).ports → WayTo (who (m - 1) t s i) (below_on f y d)
-    inner i z li e g c N =
-        let n : i ≡ y - interconnects = omega arith in
-        subst (WayTo (who (m - 1) t s i)) (ap (λ (b : ℕ). f b d) n ∙ below_int f y d (omega arith) (omega (arith, S.most_ints)))
-        (way_more _ j x (f i d).ports (above 15 t i) (above 15 t j) (child_lane t S i j x.port z li e (g ∙ sym (read j h k).port)) N)
-
     to_port : ((i : ℕ) → WayFrom (m - 1) i) → 5 ≤ m + level_of t j → WayTo (reached (who (m - 1) t s) (port_of t j (turn_port t s j))) (below_on f y d)
     to_port F q =
-        at_port t S Q j (turn_port t s j) h (T j h k).port (λ c b. absurd (omega arith)) (λ a la e g c b. leaf a la e g c)
-        (λ i z li e g c b.
+        subst (λ (P : Port). WayTo (reached (who (m - 1) t s) (port_of t j (turn_port t s j))) (below_on f P d)) (sym (read j h k).carried)
+        (at_port t S Q j (turn_port t s j) h (T j h k).port (λ b. absurd (omega arith))
+        (λ a la e g b. way_more a j x d (path t a) (above 15 t j) (ap₂ (lane t) e (g ∙ sym (read j h k).port)) (way_none a))
+        (λ i z li e g b.
         let v = child_level t S i j z li e in
-        inner i z li e g c (F i li (omega arith) (omega (arith, settled t S 3 (waiting_of s) i li (omega arith)))))
-        (read j h k).carried (omega (arith, (T j h k).some, (T j h k).covered))
+        way_more _ j x (f i d).ports (above 15 t i) (above 15 t j) (child_lane t S i j x.port z li e (g ∙ sym (read j h k).port))
+        (F i li (omega arith) (omega (arith, settled t S 3 (waiting_of s) i li (omega arith)))))
+        (omega (arith, (T j h k).some, (T j h k).covered)))
       where
         Q : Port → Type 0
-        Q P = y ≡ carried_number P → 0 < under (waiting_of s) (inside 3 t (waiting_of s)) P → WayTo (reached (who (m - 1) t s) P) (below_on f y d)
+        Q P = 0 < under (waiting_of s) (inside 3 t (waiting_of s)) P → WayTo (reached (who (m - 1) t s) P) (below_on f P d)
 
   way_step : (m j : ℕ) → 0 < m → ((i : ℕ) → WayFrom (m - 1) i) → WayFrom m j
   way_step m j z F h q k =

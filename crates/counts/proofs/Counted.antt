@@ -20,9 +20,10 @@ use Rattle.rules.proofs.Sound.{Sound, above_root, above_step, level_step}
 use Rattle.rules.proofs.Beneath.{only, On, there, lane, at_port, port_le, inside_zero, rising, lane_bounds, falls, path_bounds, path_unique, path_root, path_holds, weight_on, weight_off}
 use Rattle.turns.specs.Turns.{bits_below, has_port}
 use Rattle.turns.proofs.Next.{bit_of}
-use Rattle.counts.specs.Table.{port_number, parent_ports}
+use Rattle.counts.specs.declared.Table.{Table}
+use Rattle.counts.specs.Table.{port_number}
 use Rattle.counts.specs.Counts.{up, path_ports, with_port, raised, opened}
-use Rattle.counts.proofs.Table.{TableOf}
+use Rattle.counts.proofs.Entries.{TableOf}
 use Rattle.counts.proofs.Steps.{number_interconnect, up_root, up_next}
 use Rattle.counts.proofs.Changed.{numbers, lowered, closed, changed, changed_size, Apart, changed_at, own, shuts, raised_changed, lowered_changed, Ported, opened_changed, closed_changed}
 
@@ -76,16 +77,16 @@ module _ (t : Tree) (S : Sound t) where
   lit w j p = ltb 0 (weight_under t w j p)
 
   -- four levels are enough to come up to the root
-  up_lane : (g : List ℕ) → TableOf t g → (k q : ℕ) → k < t.ints → (n : ℕ) → q < 8 → level_of t k ≤ n
-      → up n (parent_ports g) (port_number k q) ≡ numbers (lane t k q)
+  up_lane : (g : Table) → TableOf t g → (k q : ℕ) → k < t.ints → (n : ℕ) → q < 8 → level_of t k ≤ n
+      → up n g.parent_port (port_number k q) ≡ numbers (lane t k q)
   up_lane g T = rising t S _ (λ k q l ih n b v. let m = S.most_ints in elim (dec_lt 0 k) [
     | yes z ↦
-        up_next n (parent_ports g) (port_number k q) _ (omega arith) (omega arith) (omega arith)
-        (sym (ap (λ i. get_or (parent_ports g) i 0) (number_interconnect k q b) ∙ T.parent k (omega arith)))
+        up_next n (n - 1) g.parent_port (port_number k q) _ (omega arith) (omega arith) (omega arith)
+        (sym (ap (λ i. get_or g.parent_port i 0) (number_interconnect k q b) ∙ T.parent k (omega arith)))
         ∙ ap (λ r. port_number k q ∷ r)
         (ih z (n - 1) (S.parent_port k z l) (omega (arith, level_step t S k z l)) ∙ sym (ap numbers (above_step t S k z l)))
     | no f ↦
-        up_root n (parent_ports g) (port_number k q) (omega arith) (omega arith) (omega arith)
+        up_root n g.parent_port (port_number k q) (omega arith) (omega arith) (omega arith)
         ∙ ap (λ r. port_number k q ∷ numbers r) (sym (ap (above 15 t) {y = 0} (omega arith) ∙ above_root t S))
   ])
 
@@ -101,9 +102,9 @@ module _ (t : Tree) (S : Sound t) where
   ))
 
   module _ (a : ℕ) (la : a < t.accs) where
-    up_path : (g : List ℕ) → TableOf t g → path_ports g a ≡ numbers (path t a)
+    up_path : (g : Table) → TableOf t g → path_ports g a ≡ numbers (path t a)
     up_path g T =
-        ap (up 4 (parent_ports g)) (T.own a (omega (arith, S.most_accs)))
+        ap (up 4 g.parent_port) (T.own a (omega (arith, S.most_accs)))
         ∙ up_lane g T (home_of t a) (home_port_of t a) (S.home a la) 4 (S.home_port a la)
         (S.level (home_of t a) (S.home a la))
 
@@ -153,7 +154,7 @@ module _ (t : Tree) (S : Sound t) where
           }
 
   -- one more at accelerator a: brought up to date along its path
-  pub counted_more : (g : List ℕ) → TableOf t g → (a : ℕ) → a < t.accs → (w w' : ℕ → ℕ)
+  pub counted_more : (g : Table) → TableOf t g → (a : ℕ) → a < t.accs → (w w' : ℕ → ℕ)
       → ((b : ℕ) → w' b ≡ w b + only a b)
       → ((j p : ℕ) → j < t.ints → p < 8 → weight_under t w' j p < 65536)
       → (c v : List ℕ) → Counted t w c v

@@ -1,5 +1,5 @@
 pub mod Steps
-pub mod Table
+pub mod Entries
 pub mod Changed
 pub mod Counted
 pub mod Backward

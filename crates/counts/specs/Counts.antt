@@ -1,8 +1,6 @@
 -- What a run keeps beside the state, and brings up to date along the one path that an admission or a service touches: what
 -- waits under each port, and the live ports of each interconnect.
 --
--- lasts r, allowances r, lives r   the last port, the allowance and the live ports of each interconnect, in the array r of
---                       these, fifteen each
 -- up n u c              the ports from port number c on up to the root, at most n of them, where u has the parent's
 --                       port of each interconnect
 -- path_ports w a         the ports of the path of accelerator a, from its own up to the root, by the table w
@@ -11,26 +9,17 @@
 -- open_port c v          the sets v with port c in its interconnect's set; opened l v: with each port of l
 -- lower c u             the counts u with one less at port c
 -- close_port c n v       the sets v without port c where n is 0
-use Rattle.std.specs.Prelude.{ℕ, zero, suc, ◌+◌, ◌-◌, ◌/◌, ◌%◌, ◌^◌, min, List, [], ◌∷◌, get_or, set, take, drop, ltb, eqb}
+use Rattle.std.specs.Prelude.{ℕ, zero, suc, ◌+◌, ◌-◌, ◌/◌, ◌%◌, ◌^◌, min, List, [], ◌∷◌, get_or, set, ltb, eqb}
 use Rattle.folds.specs.Fold.{pick}
 use Rattle.turns.specs.Turns.{has_port}
-use Rattle.counts.specs.Table.{parent_ports, own_ports}
-
-abbrev pub lasts : List ℕ → List ℕ
-lasts r = take 15 r
-
-abbrev pub allowances : List ℕ → List ℕ
-allowances r = take 15 (drop 15 r)
-
-abbrev pub lives : List ℕ → List ℕ
-lives r = drop 30 r
+use Rattle.counts.specs.declared.Table.{Table}
 
 unfoldable pub up : ℕ → List ℕ → ℕ → List ℕ
 up zero u c = []
 up (suc n) u c = pick (ltb 119 c) [] (c ∷ pick (eqb (c / 8) 0) [] (up n u (get_or u (c / 8) 0)))
 
-abbrev pub path_ports : List ℕ → ℕ → List ℕ
-path_ports w a = up 4 (parent_ports w) (get_or (own_ports w) a 0)
+abbrev pub path_ports : Table → ℕ → List ℕ
+path_ports w a = up 4 w.parent_port (get_or w.own_port a 0)
 
 abbrev pub with_port : ℕ → ℕ → ℕ
 with_port v p = pick (has_port v p) v (v + 2 ^ p)

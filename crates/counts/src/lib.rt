@@ -1,30 +1,33 @@
 // What a run keeps beside the state, so that a slot costs one path and not the whole tree: what a slot reads of the
-// configuration as plain numbers, what waits under each port, and the live ports of each interconnect.
+// configuration as plain arrays, what waits under each port, and the live ports of each interconnect.
 //
-// The parts of an array lie one after another; the constants say where each but the first begins.
+// Port p of interconnect j has the number j * 8 + p.
 #![tactic(auto)]
 
-pub mod along;
-pub mod choice;
+mod along;
+mod choice;
 pub mod tables;
 
-// What a port carries, as a number: below this an accelerator,
-pub const INTERCONNECTS: u16 = 256;
-// from there on an interconnect, and nothing from here on.
-pub const EMPTY: u16 = 512;
+use model::PortCell;
 
-// In the table of a configuration, after what each port carries: the granularities.
-pub const GRANULARITY: usize = 120;
-// The port of its parent that carries each interconnect.
-pub const PARENT_PORT: usize = 135;
-// The port that carries each accelerator.
-pub const OWN_PORT: usize = 150;
-// The outstanding limits.
-pub const LIMIT: usize = 182;
-// The budgets.
-pub const BUDGET: usize = 214;
+// What a slot of a channel reads of the configuration: what each port carries; of each interconnect the granularity and the number of the
+// port of its parent that carries it; of each accelerator the number of the port that carries it, the outstanding limit and the budget.
+#[derive(Clone, Copy)]
+pub struct Table {
+    pub carried: [PortCell; 120],
+    pub granularity: [u8; 15],
+    pub parent_port: [u16; 15],
+    pub own_port: [u16; 32],
+    pub limit: [u8; 32],
+    pub budget: [u16; 32],
+}
 
-// In the array of the turns, after the last ports: the allowances.
-pub const ALLOWANCE: usize = 15;
-// The sets of live ports.
-pub const LIVE: usize = 30;
+// What is kept of the ports: how many transactions wait under each; of each interconnect the set of its live ports, bit p for port p, the
+// last port and the allowance.
+#[derive(Clone, Copy)]
+pub struct Ports {
+    pub under: [u16; 120],
+    pub live: [u8; 15],
+    pub last: [u8; 15],
+    pub allowance: [u8; 15],
+}

@@ -1,6 +1,5 @@
 // The library and the second implementation, side by side on one input.
 use answercheck::{OURS, same_figures};
-use bounds::BoundAnswer;
 use callcheck::channel_of;
 use model::Tree;
 use runner::RunAnswer;
@@ -12,8 +11,8 @@ use second::response::{bound_refusal, figures};
 pub fn same_bound(t: Tree, a: u8, d: &[usize; 16384], wrong: usize) -> bool {
     let refusal = bound_refusal(d, a as usize, wrong);
     match bounds::bound(t, a) {
-        BoundAnswer::Refused(r) => model::number(r) as usize == refusal,
-        BoundAnswer::Bound(f) => {
+        Err(r) => model::number(r) as usize == refusal,
+        Ok(f) => {
             if refusal != 0 {
                 return false;
             }

@@ -21,7 +21,6 @@ use crate::results::show;
 use crate::trials::{try_altered, try_file_runs, try_tree};
 use callcheck::try_machine;
 use generator::{buffer_size, file_in, made, number_below, start, trace_file, tree_file};
-use lines::FileAnswer;
 use std::io::Read;
 
 // A generated tree, in w, and, if it is accepted, a generated trace for one of the channels, in v.
@@ -33,12 +32,9 @@ fn try_pair(
 ) {
     tree_file(w, d);
     let n = generator::size(d);
-    let r = try_tree(file_in(w, n), d, out);
-    let answer = r.answer;
-    let FileAnswer::Accepted = answer else {
+    let Ok(t) = try_tree(file_in(w, n), d, out) else {
         return;
     };
-    let t = r.tree;
     try_machine(t, d);
     let channel = number_below(d, 2);
     trace_file(v, d, t.accs as usize, channel);

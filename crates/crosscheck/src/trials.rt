@@ -14,10 +14,10 @@ use alter::tangle::{WAYS, tangled};
 use answercheck::{same_bytes, same_end, same_flag, same_said};
 use callcheck::{busy_state, try_other};
 use generator::number_below;
-use lines::FileAnswer;
+use lines::FileError;
 use model::Tree;
-use placing::TreeRead;
 use reader::read_tree;
+use records::empty_tree;
 use second::book::{READ, WRITE, cell, deepest, is_jobless, other, read_book, varied};
 use second::queues::{Ended, is_stuck, run_refusal};
 use second::requests::{lines, read_log};
@@ -112,15 +112,30 @@ fn count_zero(s: &[u8], delay: u8, d: &mut [usize; 16384]) {
 }
 
 // Does a wrong rule change the answer on a tree file?
-fn note_reading(s: &[u8], answer: FileAnswer, d: &mut [usize; 16384], wrong: usize) {
+fn note_reading(
+    s: &[u8],
+    answer: Result<(), FileError>,
+    d: &mut [usize; 16384],
+    wrong: usize,
+) {
     let said = read_book(s, d, wrong);
     note(d, WRONG, wrong, same_said(answer, said));
 }
 
+// The tree that a file gives; the empty one where the file is refused.
+pub fn tree_of(r: Result<Tree, FileError>) -> Tree {
+    r.unwrap_or(empty_tree())
+}
+
 // A tree file. The rows are left with the second reader's tree.
-pub fn try_tree(s: &[u8], d: &mut [usize; 16384], out: &mut [u8; 131074]) -> TreeRead {
+pub fn try_tree(
+    s: &[u8],
+    d: &mut [usize; 16384],
+    out: &mut [u8; 131074],
+) -> Result<Tree, FileError> {
     let r = read_tree(s);
-    let answer = r.answer;
+    let t = tree_of(r);
+    let answer = r.and(Ok(()));
     note_reading(s, answer, d, ORDER_FIRST);
     note_reading(s, answer, d, LONG_LET_IN);
     note_reading(s, answer, d, LONG_REFUSED);
@@ -129,11 +144,11 @@ pub fn try_tree(s: &[u8], d: &mut [usize; 16384], out: &mut [u8; 131074]) -> Tre
     note(d, DIFFERENCES, 0, same_said(answer, said));
     add(d, TREES, said.number, 1);
     if said.number == 0 {
-        try_content(r.tree, d);
-        count_zero(s, r.tree.bus.delay, d);
-        try_written(r.tree, d, out);
+        try_content(t, d);
+        count_zero(s, t.bus.delay, d);
+        try_written(t, d, out);
     } else {
-        let empty = is_empty(r.tree, d);
+        let empty = is_empty(t, d);
         note(d, DIFFERENCES, 0, empty);
     }
     try_tree_exports(s, said, d, out);

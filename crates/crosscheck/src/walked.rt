@@ -1,23 +1,18 @@
 // The requests of an accepted trace, walked in its bytes, beside the lines of the log.
 use answercheck::same_request;
 use second::requests::{acc_at, count_at, lines, slot_at};
-use trace::{NextRequest, request_at};
+use trace::request_at;
 
 // Is there no request at the place?
 fn ends(s: &[u8], at: usize) -> bool {
-    let x = request_at(s, at);
-    let NextRequest::Done = x else {
-        return false;
-    };
-    true
+    request_at(s, at).is_none()
 }
 
 // Is each request that of its line in the log, and is there none at the end of the last one, which is the file's?
 pub fn same_requests(s: &[u8], d: &[usize; 16384]) -> bool {
     let mut at = 0;
     for i in 0..lines(d) {
-        let x = request_at(s, at);
-        let NextRequest::Due(r, next) = x else {
+        let Some((r, next)) = request_at(s, at) else {
             return false;
         };
         if !same_request(r, slot_at(d, i), acc_at(d, i), count_at(d, i)) {

@@ -2,6 +2,7 @@
 // are read as the same tree and written as the same text.
 use crate::compare::fill;
 use crate::results::{TEXTS, WRITING_TURNS, WRITINGS, WRITTEN};
+use crate::trials::tree_of;
 use answercheck::exported::same_page;
 use answercheck::{OURS, same_bytes, same_said, same_slices, same_written, written_by, written_of};
 use generator::shuffle::{other_text, text_in};
@@ -140,10 +141,10 @@ fn text_of(out: &[u8; 131074], n: usize) -> &[u8] {
 // A text of the tree in the rows, whose written text is the first n bytes: it is read as the tree, and written as that text.
 fn try_text(s: &[u8], d: &mut [usize; 16384], out: &mut [u8; 131074], n: usize) {
     let r = read_tree(s);
-    let answer = r.answer;
-    let tree = same_tree(r.tree, d);
-    note(d, DIFFERENCES, 0, same_said(answer, accepted()) & tree);
-    let w = library_written(r.tree, out, OURS, n);
+    let t = tree_of(r);
+    let tree = same_tree(t, d);
+    note(d, DIFFERENCES, 0, same_said(r.and(Ok(())), accepted()) & tree);
+    let w = library_written(t, out, OURS, n);
     let same = same_written(w, written_by(0, 0, n));
     note(d, DIFFERENCES, 0, same & same_bytes(out, n));
     let x = exported_written(s, out, OURS, n);

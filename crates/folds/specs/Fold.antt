@@ -5,7 +5,7 @@
 -- all n f        f holds of every number below n
 -- within l x h   x is at least l and at most h
 -- ceiling n p    n / p, rounded up
--- entries n f    the numbers f 0, f 1, .. f (n - 1) as a list
+-- entries n f    f 0, f 1, .. f (n - 1) as a list
 use Rattle.std.specs.Prelude.{ℕ, zero, suc, ◌+◌, ◌-◌, ◌/◌, Bool, true, false, ◌&&◌, List, [], ◌∷◌, ◌++◌, leb}
 
 abbrev pub pick : {A : Type 0} → Bool → A → A → A
@@ -26,6 +26,6 @@ within low x high = leb low x && leb x high
 abbrev pub ceiling : ℕ → ℕ → ℕ
 ceiling n p = (n + (p - 1)) / p
 
-unfoldable pub entries : ℕ → (ℕ → ℕ) → List ℕ
+unfoldable pub entries : {A : Type 0} → ℕ → (ℕ → A) → List A
 entries zero f = []
 entries (suc n) f = entries n f ++ f n ∷ []

@@ -7,8 +7,9 @@
 // error, each as a `Print`, which takes bytes that are no text, as a file's name may be.
 #![tactic(auto)]
 
-ghost use Rattle.std.specs.Prelude.{◌≡◌, ◌≤◌, length, take};
-ghost use Rattle.input.specs.Input.{size_of, answer_of};
+ghost use Rattle.std.specs.Prelude.{◌≡◌, ◌≤◌, length, take, IfOk, IfSome};
+ghost use Rattle.std.specs.Result.{result_ok};
+ghost use Rattle.input.specs.Input.{answer_of};
 
 use std::env::FillError;
 use std::fs::File;
@@ -17,13 +18,6 @@ use std::rt::{Env, Files};
 use text::part_end;
 use usage::is_dash;
 
-// A file read to its end, or until the buffer is full; or a read failed. Likewise of one read and one write.
-#[derive(Clone, Copy)]
-pub enum Input {
-    Bytes(usize),
-    Failed,
-}
-
 // Whether word i was not given. One that was given is longer than no byte, or is empty.
 fn is_missing(words: &impl Env, i: usize) -> bool {
     matches!(words.arg(i, &mut []), Err(FillError::NotPresent))
@@ -31,32 +25,24 @@ fn is_missing(words: &impl Env, i: usize) -> bool {
 
 // How many words stand after the program's name.
 pub fn words(words: &impl Env) -> usize {
-    let mut n = 0;
-    for i in 1..usize::MAX {
-        if is_missing(words, i) {
-            return n;
-        }
-        n = i;
-    }
-    n
+    (1..usize::MAX)
+        .take_while(|&i| !is_missing(words, i))
+        .count()
 }
 
-// Puts word i, from 1, at the start of the buffer, which the longest word of Linux fits, and answers its length; 0 where it was
-// not given. The buffer is lent as an array: a caller's part of it then needs no proof.
-pub fn word(words: &impl Env, i: usize, buf: &mut [u8; 131072]) -> usize
-    ensures { result ≤ length buf.new }
+// Word i, from 1, which is put into the buffer; no byte where it was not given. The longest word of Linux fits.
+pub fn word<'a>(words: &impl Env, i: usize, buf: &'a mut [u8; 131072]) -> &'a [u8]
+    ensures { length result.now ≤ length buf.old }
 {
-    words.arg(i, buf).unwrap_or(0)
+    let n = words.arg(i, buf).unwrap_or(0);
+    &buf[..n]
 }
 
 // The first n bytes, or all where there are fewer.
 fn first_bytes(s: &[u8], n: usize) -> &[u8]
     ensures { result.now ≡ take n s.now }
 {
-    if n < s.len() {
-        return &s[..n];
-    }
-    s
+    &s[..n.min(s.len())]
 }
 
 // A text that was put into a page. Page and buffer are lent as arrays: a caller's part of them then needs no proof.
@@ -73,97 +59,68 @@ pub fn file_bytes(file: &[u8; 65537], n: usize) -> &[u8]
     first_bytes(file, n)
 }
 
-// What a read or a write of the buffer answered: below 0 it failed, else it moved so many bytes; a read that moves none is at
-// the end of the file.
-fn answered(got: isize, buf: &[u8]) -> Input
-    ensures { result ≡ answer_of got (length buf.now) }
+// What a read or a write of at most n bytes answered: its error where it failed, else how many bytes it moved; a read that moves none
+// is at the end of the file.
+fn answered(got: Result<usize, Error>, n: usize) -> Result<usize, Error>
+    ensures { result ≡ answer_of got n }
 {
-    if got < 0 {
-        return Input::Failed;
-    }
-    Input::Bytes((got as usize).min(buf.len()))
+    got.map(|k| k.min(n))
 }
 
-// The answer of a read or a write as the system gives it, a count, or -1 where it failed; then the error is put into `cause`.
-fn number_of(answer: Result<usize, Error>, cause: &mut Error) -> isize {
-    match answer {
-        Ok(n) => isize::try_from(n).unwrap_or(isize::MAX),
-        Err(e) => {
-            *cause = e;
-            -1
-        }
-    }
+// Whether a signal came before a byte did.
+fn is_interrupted(got: &Result<usize, Error>) -> bool {
+    matches!(got, Err(e) if e.kind() == ErrorKind::Interrupted)
 }
 
-// An error that no call gave: a read or a write that fails puts its own in the place of it.
-fn no_cause() -> Error {
-    Error::from(ErrorKind::Other)
-}
-
-// One read; where it fails its error is put into `cause`. Where a signal came before a byte did it reads again, a hundred times
+// What the call, a read or a write of at most n bytes, answered. Where a signal came before a byte did it calls again, a hundred times
 // at most, since every function here ends.
-fn read_some(from: &mut impl Read, buf: &mut [u8], cause: &mut Error) -> Input
-    ensures { size_of result ≤ length buf.new }
+fn retried<F: FnMut() -> Result<usize, Error>>(n: usize, mut call: F) -> Result<usize, Error>
+    requires { F.IsAlwaysCallable call }
+    ensures { IfOk result (λ k. k ≤ n) }
 {
-    let mut tries: u32 = 0;
-    while tries < 100 {
-        let got = number_of(from.read(buf), cause);
-        if (0 <= got) | (cause.kind() != ErrorKind::Interrupted) {
-            return answered(got, buf);
+    let mut got = call();
+    for _ in 1..100 {
+        if !is_interrupted(&got) {
+            break;
         }
-        tries += 1;
+        got = call();
     }
-    Input::Failed
+    answered(got, n)
 }
 
-// Reads into the buffer until the end of the file or of the buffer: after a short read it reads again. Where a read fails its
-// error is put into `cause`.
-pub fn read_all(from: &mut impl Read, buf: &mut [u8], cause: &mut Error) -> Input
-    ensures { size_of result ≤ length buf.new }
+fn read_some(from: &mut impl Read, buf: &mut [u8]) -> Result<usize, Error>
+    ensures { IfOk result (λ n. n ≤ length buf.new) }
+{
+    retried(buf.len(), || from.read(buf))
+}
+
+// Reads into the buffer until the end of the file or of the buffer: after a short read it reads again.
+pub fn read_all(from: &mut impl Read, buf: &mut [u8]) -> Result<usize, Error>
+    ensures { IfOk result (λ n. n ≤ length buf.new) }
 {
     let mut done = 0;
     while done < buf.len() {
-        let got = read_some(from, &mut buf[done..], cause);
-        let Input::Bytes(more) = got else {
-            return Input::Failed;
-        };
+        let more = read_some(from, &mut buf[done..])?;
         if more == 0 {
-            return Input::Bytes(done);
+            return Ok(done);
         }
         done += more;
     }
-    Input::Bytes(done)
+    Ok(done)
 }
 
-// Reads what was opened to its end, or says why it cannot be read.
-fn read_opened(name: &[u8], from: &mut impl Read, errors: &impl Print, buf: &mut [u8]) -> Input
-    ensures { size_of result ≤ length buf.new }
+// Reads the file of that name, which is closed where it is let go.
+fn read_named(path: &str, files: &impl Files, buf: &mut [u8]) -> Result<usize, Error>
+    ensures { IfOk result (λ n. n ≤ length buf.new) }
 {
-    let mut cause = no_cause();
-    let got = read_all(from, buf, &mut cause);
-    if let Input::Failed = got {
-        cannot_read(name, errors, &cause);
-    }
-    got
+    read_all(&mut File::open(files, path)?, buf)
 }
 
-// Reads the file of that name, which is closed where it is let go, or says why it cannot be read.
-fn read_named(
-    name: &[u8],
-    path: &str,
-    files: &impl Files,
-    errors: &impl Print,
-    buf: &mut [u8],
-) -> Input
-    ensures { size_of result ≤ length buf.new }
+// How many bytes were read of the file of that name, or says why it cannot be read.
+fn read_or_say(name: &[u8], errors: &impl Print, read: Result<usize, Error>) -> Option<usize>
+    ensures { result ≡ result_ok read }
 {
-    match File::open(files, path) {
-        Ok(mut file) => read_opened(name, &mut file, errors, buf),
-        Err(e) => {
-            cannot_read(name, errors, &e);
-            Input::Failed
-        }
-    }
+    read.inspect_err(|e| cannot_read(name, errors, e)).ok()
 }
 
 // Says which file cannot be read, and why.
@@ -204,72 +161,58 @@ fn cause_text(cause: &Error, text: &mut [u8; 512]) -> usize {
     let left = rest.len();
     let n = 512usize.saturating_sub(left);
     let end = part_end(text, 0, b'(');
-    if end < n {
-        return end.saturating_sub(1);
-    }
-    n
+    if end < n { end.saturating_sub(1) } else { n }
 }
 
-// Reads the file of that name, standard input where the name is "-", or says why it cannot be read. A name that is not UTF-8
-// cannot be given to std, so such a file is not read, and that is said.
+// Reads the file of that name, standard input where the name is "-", and answers how many bytes it has; none where it cannot be read,
+// which is then said. A name that is not UTF-8 cannot be given to std, so such a file is not read.
 pub fn load(
     name: &[u8],
     files: &impl Files,
     stdin: &mut impl Read,
     errors: &impl Print,
     buf: &mut [u8],
-) -> Input
-    ensures { size_of result ≤ length buf.new }
+) -> Option<usize>
+    ensures { IfSome result (λ n. n ≤ length buf.new) }
 {
     if is_dash(name) {
-        return read_opened(b"standard input", stdin, errors, buf);
+        return read_or_say(b"standard input", errors, read_all(stdin, buf));
     }
-    match std::str::from_utf8(name) {
-        Ok(path) => read_named(name, path, files, errors, buf),
-        Err(_) => {
-            say(errors, name);
-            say(errors, b" cannot be read: its name is not UTF-8\n");
-            Input::Failed
-        }
-    }
+    let Ok(path) = std::str::from_utf8(name) else {
+        say(errors, name);
+        say(errors, b" cannot be read: its name is not UTF-8\n");
+        return None;
+    };
+    read_or_say(name, errors, read_named(path, files, buf))
 }
 
-// One write on standard output, tried again as a read is; where it fails its error is put into `cause`.
-fn write_some(out: &impl Print, text: &[u8], cause: &mut Error) -> Input
-    ensures { size_of result ≤ length text.now }
+fn write_some(out: &impl Print, text: &[u8]) -> Result<usize, Error>
+    ensures { IfOk result (λ n. n ≤ length text.now) }
 {
-    let mut tries: u32 = 0;
-    while tries < 100 {
-        let got = number_of(out.write_some(text), cause);
-        if (0 <= got) | (cause.kind() != ErrorKind::Interrupted) {
-            return answered(got, text);
-        }
-        tries += 1;
-    }
-    Input::Failed
+    retried(text.len(), || out.write_some(text))
 }
 
-// Writes a text on standard output, after a short write the rest, or says why it cannot be written; answers whether all of it was.
-pub fn write_out(out: &impl Print, errors: &impl Print, text: &[u8]) -> bool {
-    let mut cause = no_cause();
+// Writes a text on standard output, after a short write the rest.
+fn write_whole(out: &impl Print, text: &[u8]) -> Result<(), Error> {
     let mut sent = 0;
     while sent < text.len() {
-        let put = write_some(out, &text[sent..], &mut cause);
-        let Input::Bytes(more) = put else {
-            say(errors, b"standard output cannot be written");
-            say_cause(errors, &cause);
-            return false;
-        };
+        let more = write_some(out, &text[sent..])?;
         if more == 0 {
-            say(
-                errors,
-                b"standard output cannot be written: it takes no byte\n",
-            );
-            return false;
+            return Err(Error::new(ErrorKind::WriteZero, "it takes no byte"));
         }
         sent += more;
     }
-    true
+    Ok(())
+}
+
+// Writes a text on standard output, or says why it cannot be written; answers whether all of it was.
+pub fn write_out(out: &impl Print, errors: &impl Print, text: &[u8]) -> bool {
+    let Err(cause) = write_whole(out, text) else {
+        return true;
+    };
+    say(errors, b"standard output cannot be written");
+    say_cause(errors, &cause);
+    false
 }
 
 // Says something of a file on standard error: its name, and what.

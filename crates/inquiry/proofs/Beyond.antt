@@ -19,7 +19,7 @@ use Rattle.rules.proofs.Sound.{sound}
 use Rattle.lines.specs.Answer.{answer_number, answer_line}
 use Rattle.trace.specs.declared.Request.{Request}
 use Rattle.trace.specs.TraceFile.{read_trace, requests}
-use Rattle.placing.specs.declared.TreeRead.{TreeRead}
+use Rattle.placing.specs.Placing.{TreeRead}
 use Rattle.answers.specs.Numbers.{is_accepted}
 use Rattle.runner.specs.Run.{start}
 use Rattle.runner.specs.Slots.{bytes_before}

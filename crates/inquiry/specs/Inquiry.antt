@@ -14,7 +14,7 @@ use Rattle.folds.specs.Fold.{pick}
 use Rattle.text.specs.Text.{decimal}
 use Rattle.model.specs.declared.Channel.{Channel}
 use Rattle.lines.specs.Answer.{answer_number, answer_line}
-use Rattle.placing.specs.declared.TreeRead.{TreeRead}
+use Rattle.placing.specs.Placing.{TreeRead}
 use Rattle.answers.specs.Numbers.{is_accepted}
 use Rattle.usage.specs.declared.ChannelWord.{ChannelWord}
 use Rattle.usage.specs.declared.ChannelWord.TheVariants.{NoChannel, Known}

@@ -12,7 +12,6 @@ ghost use Rattle.razhikum.specs.Exports.{list_from};
 ghost use Rattle.inquiry.specs.Inquiry.{wait_asked, why_asked, reply_of, reply_from};
 ghost use Rattle.inquiry.specs.Lines.{line_text, lines_text, count_text, wait_page, pages_of, reply_page};
 
-use answers::is_accepted;
 use lines::{answer_line, answer_number};
 use listing::refusal_text;
 use model::{Channel, number};
@@ -103,6 +102,7 @@ fn reply_of(answer: WhyAnswer) -> Reply
 
 // Why transaction k of accelerator a waited on a channel: the tree and the trace are read, and the list of its slots is put into `out`,
 // as far as it has room; a refusal leaves `out` as it was.
+#[tactic(auto, unfolding(crate::specs::Inquiry::reply_from))]
 pub fn inquire(
     tree: &[u8],
     channel: Channel,
@@ -114,12 +114,10 @@ pub fn inquire(
     ensures answer { result ≡ reply_from (read_tree tree.now) channel trace.now a k }
     ensures list { out.new ≡ list_from (read_tree tree.now) channel trace.now a k out.old }
 {
-    let x = read_tree(tree);
-    let answer = x.answer;
-    if !is_accepted(answer) {
-        return Reply::Refused(Part::Tree, answer_number(answer), answer_line(answer));
+    match read_tree(tree) {
+        Ok(t) => reply_of(why(t, channel, trace, a, k, out)),
+        Err(e) => Reply::Refused(Part::Tree, answer_number(Err(e)), answer_line(Err(e))),
     }
-    reply_of(why(x.tree, channel, trace, a, k, out))
 }
 
 // The line of a slot: its number, the accelerator served, and where the paths meet, 255 for own.

@@ -5,8 +5,7 @@
 use Rattle.std.specs.Prelude.{ℕ, Bool, List, [], ◌∷◌}
 use Rattle.model.specs.declared.Refusal.{Refusal}
 use Rattle.folds.specs.Fold.{pick}
-use Rattle.lines.specs.declared.FileAnswer.{FileAnswer}
-use Rattle.lines.specs.declared.FileAnswer.TheVariants.{Accepted, Refused}
+use Rattle.lines.specs.Answer.{FileAnswer, Accepted, Refused}
 
 pub record Rule : Type 0 where
   pub cause : Refusal

@@ -4,7 +4,7 @@
 #![tactic(auto)]
 
 ghost use Rattle.std.specs.Prelude.{◌≡◌, ◌<◌};
-ghost use Rattle.lines.specs.Answer.{answer_number, answer_line};
+ghost use Rattle.lines.specs.Answer.{file_answer, answer_number, answer_line};
 ghost use Rattle.lines.specs.Lines.{kind_of, named, push, line_of, plain_form, bus_form, form_of, dashes_kept, limits_kept, is_record, shaped};
 
 use model::{Refusal, number};
@@ -229,33 +229,30 @@ pub fn limits_kept(kind: Kind, values: [u64; 11]) -> bool
     ok
 }
 
-// What a reader answers: accepted; refused, with the line; or refused because the configuration breaks its rules, which
-// has no line.
-#[derive(Clone, Copy)]
-pub enum FileAnswer {
-    Accepted,
+// Why a file is not accepted: refused, with the line; or refused because the configuration breaks its rules, which has no line.
+#[derive(Clone, Copy, PartialEq, Eq)]
+pub enum FileError {
     Refused(Refusal, u32),
     Broken,
 }
 
 // The number of a refusal in document 01's table; 0 where the file is accepted.
-pub fn answer_number(a: FileAnswer) -> u8
-    ensures { result ≡ answer_number a }
+pub fn answer_number(a: Result<(), FileError>) -> u8
+    ensures { result ≡ answer_number (file_answer a) }
 {
     match a {
-        FileAnswer::Accepted => 0,
-        FileAnswer::Refused(r, _) => number(r),
-        FileAnswer::Broken => 11,
+        Ok(()) => 0,
+        Err(FileError::Refused(r, _)) => number(r),
+        Err(FileError::Broken) => 11,
     }
 }
 
 // The line of a refusal; 0 where it has none.
-pub fn answer_line(a: FileAnswer) -> u32
-    ensures { result ≡ answer_line a }
+pub fn answer_line(a: Result<(), FileError>) -> u32
+    ensures { result ≡ answer_line (file_answer a) }
 {
     match a {
-        FileAnswer::Accepted => 0,
-        FileAnswer::Refused(_, n) => n,
-        FileAnswer::Broken => 0,
+        Err(FileError::Refused(_, n)) => n,
+        _ => 0,
     }
 }

@@ -5,14 +5,13 @@ use mathlib.Core.Bool.{Bool, true, false}
 use mathlib.Core.List.{[], ◌++◌}
 use mathlib.Core.Path.{◌≡◌, ap, ap₂, sym, ◌∙◌}
 use native.Mathlib.Omega.{arith}
+use Rattle.std.specs.Prelude.{Result, Ok, Err}
 use Rattle.model.specs.declared.Tree.{Tree}
 use Rattle.model.specs.declared.Refusal.{Refusal}
 use Rattle.folds.specs.Fold.{all}
 use Rattle.rules.specs.Rules.{tree_keeps}
 use Rattle.folds.proofs.Folds.{picked, passed, clash}
 use Rattle.rules.proofs.Sound.{sound}
-use Rattle.bounds.specs.declared.BoundAnswer.{BoundAnswer}
-use Rattle.bounds.specs.declared.BoundAnswer.TheVariants.{Refused, Bound}
 use Rattle.bounds.specs.declared.Figures.{Figures}
 use Rattle.bounds.specs.Bounds.{Analysis, analysed, analysis_of, figures_mean, meaning_of, bound_of}
 use Rattle.bounds.proofs.Answers.{bound_analysed}
@@ -25,11 +24,11 @@ use Rattle.put.proofs.Texts.{puts_then, puts_as, puts_most}
 analysed_same : (x y : Analysis) → analysed x ≡ analysed y → x ≡ y
 analysed_same x y e = cc
 
-module _ (t : Tree) (a : ℕ) (r : BoundAnswer) (k : tree_keeps t ≡ true) (l : a < t.accs) (e : meaning_of r ≡ bound_of t a) where
-  pub row_made : (f : Figures) → r ≡ Bound f → figures_mean f ≡ analysis_of t a
+module _ (t : Tree) (a : ℕ) (r : Result Figures Refusal) (k : tree_keeps t ≡ true) (l : a < t.accs) (e : meaning_of r ≡ bound_of t a) where
+  pub row_made : (f : Figures) → r ≡ Ok f → figures_mean f ≡ analysis_of t a
   row_made f q = analysed_same _ _ (ap meaning_of (sym q) ∙ e ∙ bound_analysed t a k l)
 
-  pub never_refused : (n : Refusal) → r ≡ Refused n → ⊥
+  pub never_refused : (n : Refusal) → r ≡ Err n → ⊥
   never_refused n q =
       let h = ap meaning_of (sym q) ∙ e ∙ bound_analysed t a k l in
       clash cc

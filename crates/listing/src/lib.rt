@@ -9,7 +9,7 @@ ghost use Rattle.put.specs.Texts.{Puts};
 ghost use Rattle.bounds.specs.Bounds.{figures_mean};
 ghost use Rattle.listing.specs.Listing.{head_line, verdict_of, row_text, all_line, refusal_text, report_text};
 
-use bounds::{BoundAnswer, Figures, bound};
+use bounds::{Figures, bound};
 use model::Tree;
 use put::Text;
 use rules::tree_keeps;
@@ -71,7 +71,7 @@ fn put_report(text: &mut Text, t: Tree)
     put_head(text);
     let mut all_meet = true;
     for a in 0..t.accs {
-        let BoundAnswer::Bound(f) = bound(t, a) else {
+        let Ok(f) = bound(t, a) else {
             return;
         };
         put_row(text, a, f);

@@ -19,7 +19,7 @@ use Rattle.rules.specs.Rules.{tree_keeps, keeps}
 use Rattle.rules.proofs.Sound.{limit_phi}
 use Rattle.folds.specs.Fold.{pick}
 use Rattle.folds.proofs.Folds.{picked, passed, clash}
-use Rattle.machine.specs.Machine.{Answer, outcome, admitted, served, idle, refused, started, not_started, beginning, fresh_state, freshened}
+use Rattle.machine.specs.Machine.{Answer, Outcome, outcome, admitted, served, idle, refused, started, not_started, beginning, fresh_state, freshened}
 use Rattle.machine.specs.Machine.{admit, limits_answer, verdict_of, on_admitted, offered_within, offered, none_waits, last_slot, chosen, take_one}
 use Rattle.machine.specs.Machine.{serve, older, tick, opens, slotted_within, slotted}
 
@@ -105,6 +105,19 @@ module _ (t : Tree) (s : State) (a : ℕ) where
   pub offer_answered : (v : Answer) → v ≡ verdict_of t s a → outcome v (on_admitted v (admit s a) s) ≡ offered_within t s a
   offer_answered v e = ap (λ (x : Answer). outcome x (on_admitted x (admit s a) s)) e
 
+  -- the answer alone, and the state that it leads to
+  pub verdict_answered : keeps t s ≡ true → (v : Answer) → v ≡ verdict_of t s a → v ≡ (offered t s a).answer
+  verdict_answered k v e = e ∙ ap (λ (x : Outcome). x.answer) (offer_passed k)
+
+  pub offer_by_answer : (v : Answer) → v ≡ (offered t s a).answer → outcome v (on_admitted v (admit s a) s) ≡ offered t s a
+  offer_by_answer v e = go (keeps t s) refl
+    where
+      go : (b : Bool) → keeps t s ≡ b → outcome v (on_admitted v (admit s a) s) ≡ offered t s a
+      go true k = offer_answered v (e ∙ ap (λ (x : Outcome). x.answer) (sym (offer_passed k))) ∙ offer_passed k
+      go false k =
+          ap (λ (x : Answer). outcome x (on_admitted x (admit s a) s)) (e ∙ ap (λ (x : Outcome). x.answer) (sym (offer_11 k)))
+          ∙ offer_11 k
+
 -- the tests of a slot, in the definition's order
 module _ (t : Tree) (s : State) where
   pub slot_11 : keeps t s ≡ false → outcome (refused 11) s ≡ slotted t s
@@ -140,8 +153,5 @@ drop_zeros m zero = rw sub-zero
 drop_zeros zero (suc k) = rw zero-sub
 drop_zeros (suc m) (suc k) = drop_zeros m k ∙ ap (λ (n : ℕ). replicate n 0) (sym (suc-sub-suc m k))
 
-pub last_ports : (t : Tree) (c : Channel) (l : List ℕ) (j : ℕ) → l ≡ replicate j 7 ++ drop j (replicate 15 0) → j ≤ t.ints → t.ints ≤ j
-    → l ≡ (fresh_state t c).last
-last_ports t c l j e h k =
-    e ∙ ap (λ (x : List ℕ). replicate j 7 ++ x) (drop_zeros 15 j)
-    ∙ ap (λ (n : ℕ). replicate n 7 ++ replicate (15 - n) 0) (le_antisymm h k)
+pub last_ports : (t : Tree) (c : Channel) (l : List ℕ) → l ≡ replicate t.ints 7 ++ drop t.ints (replicate 15 0) → l ≡ (fresh_state t c).last
+last_ports t c l e = e ∙ ap (λ (x : List ℕ). replicate t.ints 7 ++ x) (drop_zeros 15 t.ints)

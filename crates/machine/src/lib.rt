@@ -7,58 +7,23 @@ ghost use Rattle.std.specs.Prelude.{◌≡◌, true, map, ◌<◌, ◌≤◌};
 ghost use Rattle.model.specs.Tree.{delay_of, waiting_of, returns_of, admitted_of};
 ghost use Rattle.model.specs.Builders.{zero_state};
 ghost use Rattle.rules.specs.Rules.{keeps};
-ghost use Rattle.machine.specs.Machine.{admitted, fresh_state, freshened, admit, limits_answer, verdict_of, offered_within, offered, none_waits, older, tick, take_one, last_slot, slotted_within, slotted};
+ghost use Rattle.machine.specs.Machine.{admitted, fresh_state, freshened, admit, limits_answer, offered, none_waits, older, tick, take_one, last_slot, slotted_within, slotted};
 ghost use Rattle.machine.specs.Answers.{offer_means, fresh_outcome, offer_outcome, slot_outcome};
 
 use model::access::{accelerator_at, admitted_of, job_of, outstanding_of, waiting_of};
 use model::{Channel, Port, Refusal, State, Tree};
-use rules::{both_keep, less_one, tree_keeps};
+use rules::{both_keep, tree_keeps};
 use turns::choose;
 
-// What the start answers.
+// A call's answer, or why the call is refused, with the next state.
 #[derive(Clone, Copy)]
-pub enum FreshAnswer {
-    Started,
-    Refused(Refusal),
-}
-
-// The start's answer with the fresh state, or with zeros on a refusal.
-#[derive(Clone, Copy)]
-pub struct FreshReply {
-    pub answer: FreshAnswer,
+pub struct Reply<A> {
+    pub answer: Result<A, Refusal>,
     pub state: State,
 }
 
-// What the offer of one transaction answers.
-#[derive(Clone, Copy)]
-pub enum OfferAnswer {
-    Admitted,
-    Refused(Refusal),
-}
-
-// An offer's answer with the next state.
-#[derive(Clone, Copy)]
-pub struct OfferReply {
-    pub answer: OfferAnswer,
-    pub state: State,
-}
-
-// What one slot did: nothing waited, or the accelerator of this number was served.
-#[derive(Clone, Copy)]
-pub enum SlotAnswer {
-    Idle,
-    Served(u8),
-    Refused(Refusal),
-}
-
-// A slot's answer with the next state.
-#[derive(Clone, Copy)]
-pub struct SlotReply {
-    pub answer: SlotAnswer,
-    pub state: State,
-}
-
-fn zero_state(channel: Channel) -> State
+// The state of a channel with nothing in it.
+pub fn zero_state(channel: Channel) -> State
     ensures { result ≡ zero_state channel }
 {
     State {
@@ -76,34 +41,21 @@ fn fresh_state(t: Tree, channel: Channel) -> State
     requires { t.ints ≤ 15 }
     ensures { result ≡ fresh_state t channel }
 {
-    let n = t.ints as usize;
     let mut last = [0u8; 15];
-    let mut j: usize = 0;
-    while j < n {
-        last[j] = 7;
-        j += 1;
-    }
+    last[..t.ints as usize].fill(7);
     let mut state = zero_state(channel);
     state.last = last;
     state
 }
 
-// The starting state of a channel, of a configuration that keeps its rules; else refusal 11, with a state of zeros.
-pub fn fresh(t: Tree, channel: Channel) -> FreshReply
-    ensures { fresh_outcome result ≡ freshened t channel }
+// The starting state of a channel, of a configuration that keeps its rules; else refusal 11.
+pub fn fresh(t: Tree, channel: Channel) -> Result<State, Refusal>
+    ensures { fresh_outcome channel result ≡ freshened t channel }
 {
-    if !tree_keeps(t) {
-        let zeros = zero_state(channel);
-        return FreshReply {
-            answer: FreshAnswer::Refused(Refusal::Rules),
-            state: zeros,
-        };
+    if tree_keeps(t) {
+        return Ok(fresh_state(t, channel));
     }
-    let state = fresh_state(t, channel);
-    FreshReply {
-        answer: FreshAnswer::Started,
-        state: state,
-    }
+    Err(Refusal::Rules)
 }
 
 // One more transaction of accelerator a waits and counts against its budget.
@@ -121,30 +73,38 @@ fn admitting(s: State, a: u8) -> State
 }
 
 // What an offer answers by the limits of its accelerator: as many as may be are outstanding, or the budget is used, or neither.
-pub fn limits_answer(limit: u32, outstanding: u32, budget: u32, admitted: u32) -> OfferAnswer
+pub fn limits_answer(
+    limit: u32,
+    outstanding: u32,
+    budget: u32,
+    admitted: u32,
+) -> Result<(), Refusal>
     ensures { offer_means result ≡ limits_answer limit outstanding budget admitted }
 {
     if limit <= outstanding {
-        return OfferAnswer::Refused(Refusal::Outstanding);
+        return Err(Refusal::Outstanding);
     }
     if budget <= admitted {
-        return OfferAnswer::Refused(Refusal::Budget);
+        return Err(Refusal::Budget);
     }
-    OfferAnswer::Admitted
+    Ok(())
 }
 
-// What the offer of one transaction of accelerator a answers, for a caller that has checked configuration and state. Where it
-// is admitted, its counts have room for one more.
-fn offer_answer(t: Tree, s: State, a: u8) -> OfferAnswer
-    ensures answer { offer_means result ≡ verdict_of t s a }
+// What the offer of one transaction of accelerator a answers: admitted, or why it is refused. Where it is admitted, its counts have
+// room for one more.
+fn offer_answer(t: Tree, s: State, a: u8) -> Result<(), Refusal>
+    ensures answer { offer_means result ≡ (offered t s a).answer }
     ensures room { offer_means result ≡ admitted → (waiting_of s a < 255) × (admitted_of s a < 65535) }
 {
+    if !both_keep(t, s) {
+        return Err(Refusal::Rules);
+    }
     if t.accs <= a {
-        return OfferAnswer::Refused(Refusal::Unknown);
+        return Err(Refusal::Unknown);
     }
     let channel = s.channel;
     if job_of(t, channel, a) == 0 {
-        return OfferAnswer::Refused(Refusal::NoJob);
+        return Err(Refusal::NoJob);
     }
     let x = accelerator_at(t, a);
     limits_answer(
@@ -155,47 +115,27 @@ fn offer_answer(t: Tree, s: State, a: u8) -> OfferAnswer
     )
 }
 
-// The offer of one transaction of accelerator a, for a caller that has checked configuration and state.
-fn offer_within(t: Tree, s: State, a: u8) -> OfferReply
-    ensures { offer_outcome result ≡ offered_within t s a }
-{
-    let answer = offer_answer(t, s, a);
-    match answer {
-        OfferAnswer::Admitted => {
-            let state = admitting(s, a);
-            OfferReply {
-                answer: OfferAnswer::Admitted,
-                state: state,
-            }
-        }
-        OfferAnswer::Refused(refusal) => OfferReply {
-            answer: OfferAnswer::Refused(refusal),
-            state: s,
-        },
-    }
-}
-
 // The offer of one transaction of accelerator a.
-pub fn offer(t: Tree, s: State, a: u8) -> OfferReply
+pub fn offer(t: Tree, s: State, a: u8) -> Reply<()>
     ensures { offer_outcome result ≡ offered t s a }
 {
-    if !both_keep(t, s) {
-        return OfferReply {
-            answer: OfferAnswer::Refused(Refusal::Rules),
-            state: s,
-        };
+    let answer = offer_answer(t, s, a);
+    let state = match answer {
+        Ok(()) => admitting(s, a),
+        Err(_) => s,
+    };
+    Reply {
+        answer: answer,
+        state: state,
     }
-    offer_within(t, s, a)
 }
 
 fn none_waits(s: State) -> bool
     ensures { result ≡ none_waits s }
 {
     let mut ok = true;
-    let mut a: u8 = 0;
-    while a < 32 {
-        ok = ok & (waiting_of(s, a) == 0);
-        a += 1;
+    for a in 0..32 {
+        ok &= waiting_of(s, a) == 0;
     }
     ok
 }
@@ -214,10 +154,8 @@ fn all_older(delay: u8, returning: [u32; 32]) -> [u32; 32]
     ensures { result ≡ map (older delay) returning }
 {
     let mut r = returning;
-    let mut a: usize = 0;
-    while a < 32 {
-        r[a] = one_older(delay, r[a]);
-        a += 1;
+    for x in r.iter_mut() {
+        *x = one_older(delay, *x);
     }
     r
 }
@@ -252,47 +190,45 @@ fn take_one(s: State, a: u8) -> State
     let i = a as usize;
     let mut next = s;
     if i < 32 {
-        next.waiting[i] = less_one(waiting_of(s, a) as u32) as u8;
+        next.waiting[i] = s.waiting[i].saturating_sub(1);
         next.returning[i] = s.returning[i] + 1;
     }
     next
 }
 
 // One slot, for a caller that has checked configuration and state.
-fn slot_within(t: Tree, s: State) -> SlotReply
+fn slot_within(t: Tree, s: State) -> Reply<Option<u8>>
     requires { keeps t s ≡ true }
     ensures { slot_outcome result ≡ slotted_within t s }
 {
     if s.slot == 4294967295 {
-        return SlotReply {
-            answer: SlotAnswer::Refused(Refusal::LastSlot),
+        return Reply {
+            answer: Err(Refusal::LastSlot),
             state: s,
         };
     }
     if none_waits(s) {
-        let next = ticked(t, s);
-        return SlotReply {
-            answer: SlotAnswer::Idle,
-            state: next,
+        return Reply {
+            answer: Ok(None),
+            state: ticked(t, s),
         };
     }
     let c = choose(t, s, 4, Port::Int(0));
     let a = c.served;
     let turned = c.state;
-    let next = ticked(t, take_one(turned, a));
-    SlotReply {
-        answer: SlotAnswer::Served(a),
-        state: next,
+    Reply {
+        answer: Ok(Some(a)),
+        state: ticked(t, take_one(turned, a)),
     }
 }
 
-// One slot: serves the transaction whose turn it is, or is idle if none waits.
-pub fn slot(t: Tree, s: State) -> SlotReply
+// One slot: serves the transaction whose turn it is and answers its accelerator, or is idle and answers None if none waits.
+pub fn slot(t: Tree, s: State) -> Reply<Option<u8>>
     ensures { slot_outcome result ≡ slotted t s }
 {
     if !both_keep(t, s) {
-        return SlotReply {
-            answer: SlotAnswer::Refused(Refusal::Rules),
+        return Reply {
+            answer: Err(Refusal::Rules),
             state: s,
         };
     }

@@ -15,39 +15,42 @@ pub fn beat_limit(b: Bus) -> u32
     256
 }
 
+// An entry that is not used: an interconnect without ports,
+const NO_INTERCONNECT: Interconnect = Interconnect {
+    parent: 0,
+    port: 0,
+    granularity: 0,
+    ports: [PortCell { port: Port::Empty }; 8],
+};
+
+// and an accelerator without a job.
+const NO_ACCELERATOR: Accelerator = Accelerator {
+    interconnect: 0,
+    port: 0,
+    phi: 0,
+    budget: 0,
+    reads: 0,
+    writes: 0,
+    computing: 0,
+    period: 0,
+};
+
 pub fn interconnect_at(t: Tree, j: u8) -> Interconnect
     ensures { result ≡ interconnect_of t j }
 {
-    let i = j as usize;
-    if i < 15 {
-        return t.interconnects[i];
-    }
-    let ports = [PortCell { port: Port::Empty }; 8];
-    Interconnect {
-        parent: 0,
-        port: 0,
-        granularity: 0,
-        ports: ports,
-    }
+    t.interconnects
+        .get(j as usize)
+        .copied()
+        .unwrap_or(NO_INTERCONNECT)
 }
 
 pub fn accelerator_at(t: Tree, a: u8) -> Accelerator
     ensures { result ≡ accelerator_of t a }
 {
-    let i = a as usize;
-    if i < 32 {
-        return t.accelerators[i];
-    }
-    Accelerator {
-        interconnect: 0,
-        port: 0,
-        phi: 0,
-        budget: 0,
-        reads: 0,
-        writes: 0,
-        computing: 0,
-        period: 0,
-    }
+    t.accelerators
+        .get(a as usize)
+        .copied()
+        .unwrap_or(NO_ACCELERATOR)
 }
 
 // The transactions that a job of accelerator a has on a channel.
@@ -75,71 +78,46 @@ pub fn limit_of(t: Tree, channel: Channel, a: u8) -> u8
 pub fn port_at(t: Tree, j: u8, p: u8) -> Port
     ensures { result ≡ port_of t j p }
 {
-    let q = p as usize;
     let x = interconnect_at(t, j);
-    if q < 8 {
-        let c = x.ports[q];
-        return c.port;
-    }
-    Port::Empty
+    x.ports.get(p as usize).map_or(Port::Empty, |c| c.port)
 }
 
 pub fn waiting_of(s: State, a: u8) -> u8
     ensures { result ≡ waiting_of s a }
 {
-    let i = a as usize;
-    if i < 32 {
-        return s.waiting[i];
-    }
-    0
+    s.waiting.get(a as usize).copied().unwrap_or(0)
 }
 
 // The returning transactions of accelerator a: bit d for one that was served d slots ago.
 pub fn returns_of(s: State, a: u8) -> u32
     ensures { result ≡ returns_of s a }
 {
-    let i = a as usize;
-    if i < 32 {
-        return s.returning[i];
-    }
-    0
+    s.returning.get(a as usize).copied().unwrap_or(0)
 }
 
 // How many transactions of accelerator a are outstanding: those that wait and those that return.
 pub fn outstanding_of(s: State, a: u8) -> u32
     ensures { result ≡ outstanding_of s a }
 {
-    widen(waiting_of(s, a)) + u32::count_ones(returns_of(s, a))
+    u32::from(waiting_of(s, a)) + returns_of(s, a).count_ones()
 }
 
 pub fn admitted_of(s: State, a: u8) -> u16
     ensures { result ≡ admitted_of s a }
 {
-    let i = a as usize;
-    if i < 32 {
-        return s.admitted[i];
-    }
-    0
+    s.admitted.get(a as usize).copied().unwrap_or(0)
 }
 
 pub fn last_of(s: State, j: u8) -> u8
     ensures { result ≡ last_of s j }
 {
-    let i = j as usize;
-    if i < 15 {
-        return s.last[i];
-    }
-    0
+    s.last.get(j as usize).copied().unwrap_or(0)
 }
 
 pub fn allowance_of(s: State, j: u8) -> u8
     ensures { result ≡ allowance_of s j }
 {
-    let i = j as usize;
-    if i < 15 {
-        return s.allowance[i];
-    }
-    0
+    s.allowance.get(j as usize).copied().unwrap_or(0)
 }
 
 // How many interconnects are above interconnect j, counted over at most n parents.
@@ -164,21 +142,11 @@ pub fn level_of(t: Tree, j: u8) -> u8
     parents(t, 15, j) + 1
 }
 
-fn widen(n: u8) -> u32
-    ensures { result ≡ n }
-{
-    n as u32
-}
-
 // The weight of accelerator a in an array of weights, one for each accelerator.
 fn weight_of(weights: [u8; 32], a: u8) -> u8
     ensures { result ≡ weight_in weights a }
 {
-    let i = a as usize;
-    if i < 32 {
-        return weights[i];
-    }
-    0
+    weights.get(a as usize).copied().unwrap_or(0)
 }
 
 // What is beneath a port that carries `port`, by weight, over `levels` levels of interconnects.
@@ -188,16 +156,14 @@ fn weight_beneath(t: Tree, weights: [u8; 32], levels: u8, port: Port) -> u32
 {
     match port {
         Port::Empty => 0,
-        Port::Acc(a) => widen(weight_of(weights, a)),
+        Port::Acc(a) => u32::from(weight_of(weights, a)),
         Port::Int(j) => {
             if levels == 0 {
                 return 0;
             }
             let mut sum: u32 = 0;
-            let mut p: u8 = 0;
-            while p < 8 {
+            for p in 0..8 {
                 sum += weight_beneath(t, weights, levels - 1, port_at(t, j, p));
-                p += 1;
             }
             sum
         }

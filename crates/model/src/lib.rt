@@ -6,12 +6,11 @@
 
 pub mod access;
 
-ghost use Rattle.std.specs.Prelude.{◌≡◌, ◌+◌, ◌≤◌, ltb};
-ghost use Rattle.folds.specs.Fold.{pick};
+ghost use Rattle.std.specs.Prelude.{◌≡◌};
 ghost use Rattle.model.specs.Answer.{number_of};
 
 // What a port carries: nothing, the accelerator or the lower interconnect of this number.
-#[derive(Clone, Copy)]
+#[derive(Clone, Copy, PartialEq, Eq)]
 pub enum Port {
     Empty,
     Acc(u8),
@@ -77,7 +76,7 @@ pub struct Tree {
 }
 
 // Reads and writes share nothing: each channel has a state of its own.
-#[derive(Clone, Copy)]
+#[derive(Clone, Copy, PartialEq, Eq)]
 pub enum Channel {
     Read,
     Write,
@@ -97,54 +96,29 @@ pub struct State {
     pub channel: Channel,
 }
 
-// Why a file, a call or a state is refused.
-#[derive(Clone, Copy)]
+// Why a file, a call or a state is refused, by the numbers of the papers' tables. 12 and 13 are none of these: they refuse a wait and the
+// text of a tree.
+#[derive(Clone, Copy, PartialEq, Eq)]
 pub enum Refusal {
-    Shape,
-    Limit,
-    Order,
-    Taken,
-    Level,
-    Falling,
-    Unknown,
-    Outstanding,
-    Budget,
-    LastSlot,
-    Rules,
-    NoJob,
-    Burst,
-    Page,
+    Shape = 1,
+    Limit = 2,
+    Order = 3,
+    Taken = 4,
+    Level = 5,
+    Falling = 6,
+    Unknown = 7,
+    Outstanding = 8,
+    Budget = 9,
+    LastSlot = 10,
+    Rules = 11,
+    NoJob = 14,
+    Burst = 15,
+    Page = 16,
 }
 
-// The place of a refusal among these, from 1 on. It rises by one, so that no table is compiled for it.
-fn place(r: Refusal) -> u8
-    ensures { (number_of r ≡ pick (ltb 11 result) (result + 2) result) × (result ≤ 14) }
-{
-    match r {
-        Refusal::Shape => 1,
-        Refusal::Limit => 2,
-        Refusal::Order => 3,
-        Refusal::Taken => 4,
-        Refusal::Level => 5,
-        Refusal::Falling => 6,
-        Refusal::Unknown => 7,
-        Refusal::Outstanding => 8,
-        Refusal::Budget => 9,
-        Refusal::LastSlot => 10,
-        Refusal::Rules => 11,
-        Refusal::NoJob => 12,
-        Refusal::Burst => 13,
-        Refusal::Page => 14,
-    }
-}
-
-// The number of a refusal in the papers' tables. 12 and 13 are none of these: they refuse a wait and the text of a tree.
+// The number of a refusal.
 pub fn number(r: Refusal) -> u8
     ensures { result ≡ number_of r }
 {
-    let n = place(r);
-    if 11 < n {
-        return n + 2;
-    }
-    n
+    r as u8
 }

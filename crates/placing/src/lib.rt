@@ -8,48 +8,21 @@ ghost use Rattle.rules.specs.Rules.{is_empty};
 ghost use Rattle.model.specs.Tree.{port_of, phi_of};
 ghost use Rattle.lines.specs.Lines.{bus_kind, limits_kept, in_tree};
 ghost use Rattle.records.specs.Records.{has_room};
-ghost use Rattle.placing.specs.Placing.{refused_at, given, bus_line, int_in_order, root_rule, child_line, int_line, acc_line, finish, tree_line};
+ghost use Rattle.placing.specs.Placing.{tree_read, bus_line, int_in_order, root_rule, child_line, int_line, acc_line, finish, tree_line};
 
-use lines::{FileAnswer, Kind, Line, limits_kept, shape_kept};
+use lines::{FileError, Kind, Line, limits_kept, shape_kept};
 use model::access::{accelerator_at, level_of, port_at};
 use model::{Port, Refusal, Tree};
-use records::{empty_tree, store_acc, store_bus, store_child, store_root};
+use records::{store_acc, store_bus, store_child, store_root};
 
-// A tree file's answer, with the tree that it gives. On a refusal the tree is empty.
-#[derive(Clone, Copy)]
-pub struct TreeRead {
-    pub answer: FileAnswer,
-    pub tree: Tree,
-}
-
-// Refused at line n, with the empty tree.
-pub fn refused(r: Refusal, n: u32) -> TreeRead
-    ensures { result ≡ refused_at r n }
-{
-    let t = empty_tree();
-    TreeRead {
-        answer: FileAnswer::Refused(r, n),
-        tree: t,
-    }
-}
-
-fn accepted(t: Tree) -> TreeRead
-    ensures { result ≡ given t }
-{
-    TreeRead {
-        answer: FileAnswer::Accepted,
-        tree: t,
-    }
-}
-
-fn bus_line(n: u32, t: Tree, axi3: bool, v: [u64; 11]) -> TreeRead
+fn bus_line(n: u32, t: Tree, axi3: bool, v: [u64; 11]) -> Result<Tree, FileError>
     requires { limits_kept (bus_kind axi3) v ≡ true }
-    ensures { result ≡ bus_line n t axi3 v }
+    ensures { tree_read result ≡ bus_line n t axi3 v }
 {
     if 0 < t.bus.window {
-        return refused(Refusal::Order, n);
+        return Err(FileError::Refused(Refusal::Order, n));
     }
-    accepted(store_bus(t, axi3, v))
+    Ok(store_bus(t, axi3, v))
 }
 
 // Parent and port of the root are "-", those of any other interconnect numbers, the parent the smaller one.
@@ -79,53 +52,53 @@ fn is_free(t: Tree, j: u8, p: u8) -> bool
     }
 }
 
-fn child_line(n: u32, t: Tree, v: [u64; 11]) -> TreeRead
+fn child_line(n: u32, t: Tree, v: [u64; 11]) -> Result<Tree, FileError>
     requires { has_room t v ≡ true }
-    ensures { result ≡ child_line n t v }
+    ensures { tree_read result ≡ child_line n t v }
 {
     let parent = v[1] as u8;
     let port = v[2] as u8;
     if !is_free(t, parent, port) {
-        return refused(Refusal::Taken, n);
+        return Err(FileError::Refused(Refusal::Taken, n));
     }
     if 4 <= level_of(t, parent) {
-        return refused(Refusal::Level, n);
+        return Err(FileError::Refused(Refusal::Level, n));
     }
-    accepted(store_child(t, v))
+    Ok(store_child(t, v))
 }
 
-fn int_line(n: u32, t: Tree, l: Line) -> TreeRead
+fn int_line(n: u32, t: Tree, l: Line) -> Result<Tree, FileError>
     requires { limits_kept Kind.IntLine l.values ≡ true }
-    ensures { result ≡ int_line n t l }
+    ensures { tree_read result ≡ int_line n t l }
 {
     let v = l.values;
     if !int_in_order(t, l) {
-        return refused(Refusal::Order, n);
+        return Err(FileError::Refused(Refusal::Order, n));
     }
     if v[0] == 0 {
-        return accepted(store_root(t, v));
+        return Ok(store_root(t, v));
     }
     child_line(n, t, v)
 }
 
-fn acc_line(n: u32, t: Tree, v: [u64; 11]) -> TreeRead
+fn acc_line(n: u32, t: Tree, v: [u64; 11]) -> Result<Tree, FileError>
     requires { limits_kept Kind.AccLine v ≡ true }
-    ensures { result ≡ acc_line n t v }
+    ensures { tree_read result ≡ acc_line n t v }
 {
     let a = v[0] as u8;
     let j = v[1] as u8;
     let p = v[2] as u8;
     if t.ints <= j {
-        return refused(Refusal::Order, n);
+        return Err(FileError::Refused(Refusal::Order, n));
     }
     let x = accelerator_at(t, a);
     if 0 < x.phi {
-        return refused(Refusal::Order, n);
+        return Err(FileError::Refused(Refusal::Order, n));
     }
     if !is_free(t, j, p) {
-        return refused(Refusal::Taken, n);
+        return Err(FileError::Refused(Refusal::Taken, n));
     }
-    accepted(store_acc(t, v))
+    Ok(store_acc(t, v))
 }
 
 // Each accelerator number below the highest was read.
@@ -143,13 +116,13 @@ fn no_gap(t: Tree) -> bool
 }
 
 // The end of the file: nothing may be missing. n is the line after the last.
-pub fn finished(n: u32, t: Tree) -> TreeRead
-    ensures { result ≡ finish n t }
+pub fn finished(n: u32, t: Tree) -> Result<Tree, FileError>
+    ensures { tree_read result ≡ finish n t }
 {
     if (0 < t.bus.window) & (0 < t.ints) & (0 < t.accs) & no_gap(t) {
-        return accepted(t);
+        return Ok(t);
     }
-    refused(Refusal::Order, n)
+    Err(FileError::Refused(Refusal::Order, n))
 }
 
 fn in_tree(kind: Kind) -> bool
@@ -166,23 +139,22 @@ fn in_tree(kind: Kind) -> bool
 }
 
 // One line of a tree file, line n, on the tree read so far.
-pub fn tree_line(n: u32, t: Tree, l: Line) -> TreeRead
-    ensures { result ≡ tree_line n t l }
+pub fn tree_line(n: u32, t: Tree, l: Line) -> Result<Tree, FileError>
+    ensures { tree_read result ≡ tree_line n t l }
 {
     let kind = l.kind;
     let v = l.values;
     if !(in_tree(kind) & shape_kept(l)) {
-        return refused(Refusal::Shape, n);
+        return Err(FileError::Refused(Refusal::Shape, n));
     }
     if !limits_kept(kind, v) {
-        return refused(Refusal::Limit, n);
+        return Err(FileError::Refused(Refusal::Limit, n));
     }
     match kind {
-        Kind::NoRecord => refused(Refusal::Shape, n),
         Kind::BusLine => bus_line(n, t, false, v),
         Kind::IntLine => int_line(n, t, l),
         Kind::AccLine => acc_line(n, t, v),
-        Kind::OfferLine => refused(Refusal::Shape, n),
         Kind::Bus3Line => bus_line(n, t, true, v),
+        Kind::NoRecord | Kind::OfferLine => Err(FileError::Refused(Refusal::Shape, n)),
     }
 }

@@ -6,10 +6,8 @@
 --                      number and the line of a refusal
 use Rattle.std.specs.Prelude.{ℕ, List, [], ◌≡◌}
 use Rattle.model.specs.declared.Tree.{Tree}
-use Rattle.lines.specs.declared.FileAnswer.{FileAnswer}
-use Rattle.lines.specs.declared.FileAnswer.TheVariants.{Accepted, Refused, Broken}
-use Rattle.lines.specs.Answer.{answer_number, answer_line}
-use Rattle.placing.specs.declared.TreeRead.{TreeRead}
+use Rattle.lines.specs.Answer.{FileAnswer, Accepted, Refused, Broken, answer_number, answer_line}
+use Rattle.placing.specs.Placing.{TreeRead}
 use Rattle.put.specs.Page.{Written}
 use Rattle.listing.specs.Listing.{report_text}
 

@@ -7,10 +7,8 @@
 --                      answers of its tree
 -- rewrite_buffer q d   the buffer d then
 use Rattle.std.specs.Prelude.{ℕ, List}
-use Rattle.lines.specs.declared.FileAnswer.{FileAnswer}
-use Rattle.lines.specs.declared.FileAnswer.TheVariants.{Accepted, Refused, Broken}
-use Rattle.lines.specs.Answer.{answer_number, answer_line}
-use Rattle.placing.specs.declared.TreeRead.{TreeRead}
+use Rattle.lines.specs.Answer.{FileAnswer, Accepted, Refused, Broken, answer_number, answer_line}
+use Rattle.placing.specs.Placing.{TreeRead}
 use Rattle.writer.specs.Writer.{Wrote, refused_at, denied, wrote, write_of, write_buffer}
 use Rattle.plan.specs.declared.Printed.{Printed}
 

@@ -2,13 +2,13 @@
 #![tactic(auto)]
 
 ghost use Rattle.std.specs.Prelude.{◌≡◌, length};
-ghost use Rattle.lines.specs.Answer.{answer_number, answer_line};
+ghost use Rattle.lines.specs.Answer.{file_error, answer_number, answer_line};
 ghost use Rattle.reader.specs.TreeFile.{read_tree};
 ghost use Rattle.writer.specs.Writer.{write_of, write_buffer};
 ghost use Rattle.plan.specs.Plan.{Printing};
 ghost use Rattle.plan.specs.Rewrite.{refused_by, wrote_as, rewrite_of, rewrite_buffer};
 
-use lines::{FileAnswer, answer_line, answer_number};
+use lines::{FileError, answer_line, answer_number};
 use listing::report_text;
 use model::Tree;
 use reader::read_tree;
@@ -23,13 +23,13 @@ pub struct Printed {
 }
 
 // A file that is refused: no byte is put.
-fn refused(answer: FileAnswer) -> Printed
-    ensures { result ≡ refused_by (answer_number answer) (answer_line answer) }
+fn refused(error: FileError) -> Printed
+    ensures { result ≡ refused_by (answer_number (file_error error)) (answer_line (file_error error)) }
 {
     Printed {
         bytes: 0,
-        number: answer_number(answer),
-        line: answer_line(answer),
+        number: answer_number(Err(error)),
+        line: answer_line(Err(error)),
     }
 }
 
@@ -37,11 +37,8 @@ fn refused(answer: FileAnswer) -> Printed
 pub fn report(input: &[u8], out: &mut [u8; 65536]) -> Printed
     ensures { Printing (read_tree input.now) out.old out.new result.bytes result.number result.line }
 {
-    let x = read_tree(input);
-    let t = x.tree;
-    let answer = x.answer;
-    match answer {
-        FileAnswer::Accepted => {
+    match read_tree(input) {
+        Ok(t) => {
             let n = report_text(t, out);
             Printed {
                 bytes: n,
@@ -49,8 +46,7 @@ pub fn report(input: &[u8], out: &mut [u8; 65536]) -> Printed
                 line: 0,
             }
         }
-        FileAnswer::Refused(_, _) => refused(answer),
-        FileAnswer::Broken => refused(answer),
+        Err(error) => refused(error),
     }
 }
 
@@ -88,11 +84,8 @@ pub fn rewrite(input: &[u8], out: &mut [u8]) -> Printed
     ensures answer { result ≡ rewrite_of (read_tree input.now) (length out.old) }
     ensures bytes { out.new ≡ rewrite_buffer (read_tree input.now) out.old }
 {
-    let x = read_tree(input);
-    let answer = x.answer;
-    match answer {
-        FileAnswer::Accepted => written(x.tree, out),
-        FileAnswer::Refused(_, _) => refused(answer),
-        FileAnswer::Broken => refused(answer),
+    match read_tree(input) {
+        Ok(t) => written(t, out),
+        Err(error) => refused(error),
     }
 }

@@ -1,106 +1,165 @@
-// What the programs of one tree file do, `report` and `rewrite`: they read the file, standard input without a name or with "-", and
+// What the programs do with files and texts: a file is read, a text is put into a page and written, page by page where it has several.
+// The text is a function that puts it into a page; what is written is outside of every contract (std), so the clauses say that this
+// function put it, into an empty page. And what the programs of one tree file do, `report` and `rewrite`: they read the file, standard input without a name or with "-", and
 // write a text of its tree to standard output. A refusal is one line there, and one line in words on standard error.
 #![tactic(auto)]
 
-use input::{Input, file_bytes, page_text};
+ghost use Rattle.std.specs.Prelude.{◌≡◌, ℕ, List, take, replicate, IfSome};
+ghost use Rattle.std.specs.Fn.{FnOnceReturnsAtMut};
+
+use input::{file_bytes, page_text};
 use plan::Printed;
 use std::io::{IsTerminal, Read};
 use std::rt::{Env, Files};
 use usage::Asked;
 
-// Which of the two runs.
+// Standard output, with the system's files, and standard error.
+#[derive(Drop)]
+pub struct Streams<'a, O, E> {
+    pub out: &'a O,
+    pub errors: &'a E,
+}
+
+// A file that was read: its name and its bytes.
 #[derive(Clone, Copy)]
-pub enum Program {
-    Report,
-    Rewrite,
+pub struct NamedFile<'a> {
+    pub name: &'a [u8],
+    pub bytes: &'a [u8],
 }
 
-fn say_usage(errors: &impl Print, p: Program) {
-    let mut page = [0u8; 65536];
-    let n = match p {
-        Program::Report => usage::report_usage(&mut page),
-        Program::Rewrite => usage::rewrite_usage(&mut page),
-    };
-    input::say(errors, page_text(&page, n));
+// The bytes of the text that is put into the page.
+pub fn put_text<'a, F: FnOnce(&mut [u8; 65536]) -> usize>(
+    page: &'a mut [u8; 65536],
+    text: F,
+) -> &'a [u8]
+    requires { F.IsAlwaysCallable text }
+    ensures { (n : ℕ) × (put : List ℕ) × FnOnceReturnsAtMut F.FnOnce text page.old n put × (result.now ≡ take n put) }
+{
+    let n = text(page);
+    page_text(page, n)
 }
 
-fn say_help(out: &impl Print, errors: &impl Print, p: Program) {
-    let mut page = [0u8; 65536];
-    let n = match p {
-        Program::Report => usage::report_help(&mut page),
-        Program::Rewrite => usage::rewrite_help(&mut page),
-    };
-    input::write_out(out, errors, page_text(&page, n));
+// Writes the text on standard output as it is put into an empty page, or says why it cannot be written; answers whether all of it was.
+pub fn show_text<F: FnOnce(&mut [u8; 65536]) -> usize>(
+    s: &Streams<impl Print, impl Print>,
+    text: F,
+) -> bool
+    requires { F.IsAlwaysCallable text }
+    ensures { (n : ℕ) × (put : List ℕ) × FnOnceReturnsAtMut F.FnOnce text (replicate 65536 0) n put }
+{
+    input::write_out(s.out, s.errors, put_text(&mut [0u8; 65536], text))
+}
+
+// Writes the text on standard error as it is put into an empty page.
+pub fn say_text<F: FnOnce(&mut [u8; 65536]) -> usize>(s: &Streams<impl Print, impl Print>, text: F)
+    requires { F.IsAlwaysCallable text }
+    ensures { (n : ℕ) × (put : List ℕ) × FnOnceReturnsAtMut F.FnOnce text (replicate 65536 0) n put }
+{
+    input::say(s.errors, put_text(&mut [0u8; 65536], text));
+}
+
+// The pages of a text of which there are `count`, from 0, until one cannot be written.
+pub fn show_pages<F: Fn(u32, &mut [u8; 65536]) -> usize>(
+    s: &Streams<impl Print, impl Print>,
+    count: u32,
+    text: F,
+)
+    requires { F.IsAlwaysCallable text }
+{
+    for page in 0..count {
+        if !show_text(s, |out| text(page, out)) {
+            return;
+        }
+    }
+}
+
+// Reads the file of that name into the buffer, standard input where the name is "-", or says why it cannot be read. One byte more than
+// a file may have shows a longer one.
+pub fn load<'a>(
+    s: &Streams<impl Files + Print, impl Print>,
+    stdin: &mut impl Read,
+    name: &'a [u8],
+    buf: &'a mut [u8; 65537],
+) -> Option<NamedFile<'a>>
+    ensures { IfSome result (λ f. f.name.now ≡ name.now) }
+{
+    let n = input::load(name, s.out, stdin, s.errors, buf)?;
+    let bytes = file_bytes(buf, n);
+    Some(NamedFile { name, bytes })
 }
 
 // The refusal: the line of document 01, and for a person the file's name and what is wrong.
-fn refuse(out: &impl Print, errors: &impl Print, name: &[u8], tree: &[u8], number: u8, line: u32) {
-    let mut page = [0u8; 65536];
-    let n = listing::refusal_text(number, line, &mut page);
-    input::write_out(out, errors, page_text(&page, n));
-    reasons::explain(errors, name, false, tree, number, line);
+fn refuse(s: &Streams<impl Print, impl Print>, file: NamedFile<'_>, number: u8, line: u32) {
+    show_text(s, |page| listing::refusal_text(number, line, page));
+    reasons::explain(s.errors, file.name, false, file.bytes, number, line);
 }
 
-// The program's text of the tree, put into the page.
-fn printed(p: Program, tree: &[u8], page: &mut [u8; 65536]) -> Printed {
-    match p {
-        Program::Report => plan::report(tree, page),
-        Program::Rewrite => plan::rewrite(tree, page),
-    }
-}
-
-fn print_bytes(out: &impl Print, errors: &impl Print, p: Program, name: &[u8], tree: &[u8]) {
+// Writes what `print` puts into a page of the file's tree, or its refusal.
+fn print_tree<F: FnOnce(&[u8], &mut [u8; 65536]) -> Printed>(
+    s: &Streams<impl Print, impl Print>,
+    file: NamedFile<'_>,
+    print: F,
+)
+    requires { F.IsAlwaysCallable print }
+{
     let mut page = [0u8; 65536];
-    let done = printed(p, tree, &mut page);
+    let done = print(file.bytes, &mut page);
     if done.number != 0 {
-        refuse(out, errors, name, tree, done.number, done.line);
+        refuse(s, file, done.number, done.line);
         return;
     }
-    input::write_out(out, errors, page_text(&page, done.bytes));
+    input::write_out(s.out, s.errors, page_text(&page, done.bytes));
 }
 
-fn print_file(
-    rt: &(impl Files + Print),
+fn print_file<F: FnOnce(&[u8], &mut [u8; 65536]) -> Printed + Drop>(
+    s: &Streams<impl Files + Print, impl Print>,
     stdin: &mut impl Read,
-    errors: &impl Print,
-    p: Program,
     name: &[u8],
-) {
-    // One byte more than a tree file may have shows a longer one.
-    let mut tree = [0u8; 65537];
-    let read = input::load(name, rt, stdin, errors, &mut tree);
-    let Input::Bytes(n) = read else {
+    print: F,
+)
+    requires { F.IsAlwaysCallable print }
+{
+    let mut buf = [0u8; 65537];
+    let Some(file) = load(s, stdin, name, &mut buf) else {
         return;
     };
-    print_bytes(rt, errors, p, name, file_bytes(&tree, n));
+    print_tree(s, file, print);
 }
 
-// What the first three words ask, of the system's words, files and standard output, its standard input, and its standard error.
-pub fn run(
-    rt: &(impl Env + Files + Print),
+// What the first three words ask of a program of one tree file: its usage, its help, or what it prints of the file's tree.
+pub fn run<
+    U: FnOnce(&mut [u8; 65536]) -> usize + Drop,
+    H: FnOnce(&mut [u8; 65536]) -> usize + Drop,
+    F: FnOnce(&[u8], &mut [u8; 65536]) -> Printed + Drop,
+>(
+    s: &Streams<impl Env + Files + Print, impl Print>,
     stdin: &mut (impl Read + IsTerminal),
-    errors: &impl Print,
-    p: Program,
-) {
+    usage: U,
+    help: H,
+    print: F,
+)
+    requires usage { U.IsAlwaysCallable usage }
+    requires help { H.IsAlwaysCallable help }
+    requires print { F.IsAlwaysCallable print }
+{
     let mut first = [0u8; 131072];
     let mut second = [0u8; 131072];
     let mut third = [0u8; 131072];
-    let a = input::word(rt, 1, &mut first);
-    let b = input::word(rt, 2, &mut second);
-    let c = input::word(rt, 3, &mut third);
-    let name = &first[0..a];
+    let name = input::word(s.out, 1, &mut first);
     let terminal = stdin.is_terminal();
     let asked = usage::file_asked(
-        input::words(rt),
+        input::words(s.out),
         name,
-        &second[0..b],
-        &third[0..c],
+        input::word(s.out, 2, &mut second),
+        input::word(s.out, 3, &mut third),
         terminal,
     );
     match asked {
-        Asked::Usage => say_usage(errors, p),
-        Asked::Help => say_help(rt, errors, p),
-        Asked::Input => print_file(rt, stdin, errors, p, b"-"),
-        Asked::File => print_file(rt, stdin, errors, p, name),
+        Asked::Usage => say_text(s, usage),
+        Asked::Help => {
+            show_text(s, help);
+        }
+        Asked::Input => print_file(s, stdin, b"-", print),
+        Asked::File => print_file(s, stdin, name, print),
     }
 }

@@ -20,7 +20,7 @@ use Rattle.model.specs.declared.Channel.{Channel}
 use Rattle.folds.specs.Fold.{pick}
 use Rattle.lines.specs.Answer.{answer_number, answer_line}
 use Rattle.trace.specs.TraceFile.{read_trace}
-use Rattle.placing.specs.declared.TreeRead.{TreeRead}
+use Rattle.placing.specs.Placing.{TreeRead}
 use Rattle.runner.specs.Run.{ran_of, buffer_after}
 use Rattle.waits.specs.Why.{why_of, why_buffer}
 use Rattle.bounds.specs.Bounds.{bound_of}

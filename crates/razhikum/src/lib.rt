@@ -13,9 +13,8 @@ ghost use Rattle.answers.specs.Numbers.{cut_of, joined_of};
 ghost use Rattle.burst.specs.Joiner.{join_of};
 
 use answers::{
-    Count, Cut, Joined, Outcome, Reading, Row, Wait, channel_of, count_of, cut_of, is_accepted,
-    joined_of, no_wait, outcome_of, reading_of, refused_by, row_of, tree_refused, unbounded,
-    wait_of,
+    Count, Cut, Joined, Outcome, Reading, Row, Wait, channel_of, count_of, cut_of, joined_of,
+    no_wait, outcome_of, reading_of, refused_by, row_of, tree_refused, unbounded, wait_of,
 };
 use bounds::bound;
 use burst::Burst;
@@ -59,8 +58,7 @@ pub fn razhikum_version() -> u32
 pub fn razhikum_read_tree(tree: &[u8]) -> Reading
     ensures { result ≡ tree_reading (read_tree tree.now) }
 {
-    let x = read_tree(tree);
-    let answer = x.answer;
+    let answer = read_tree(tree).and(Ok(()));
     reading_of(1, answer)
 }
 
@@ -68,21 +66,20 @@ pub fn razhikum_read_tree(tree: &[u8]) -> Reading
 pub fn razhikum_read_trace(tree: &[u8], trace: &[u8]) -> Reading
     ensures { result ≡ trace_reading (read_tree tree.now) trace.now }
 {
-    let x = read_tree(tree);
-    let answer = x.answer;
-    if !is_accepted(answer) {
-        return reading_of(1, answer);
+    match read_tree(tree) {
+        Ok(t) => reading_of(2, read_trace(t, trace)),
+        Err(error) => reading_of(1, Err(error)),
     }
-    reading_of(2, read_trace(x.tree, trace))
 }
 
 // How many accelerators the tree file has: they are numbered from 0 on.
 pub fn razhikum_count(tree: &[u8]) -> Count
     ensures { result ≡ count_from (read_tree tree.now) }
 {
-    let x = read_tree(tree);
-    let answer = x.answer;
-    count_of(answer, x.tree.accs)
+    match read_tree(tree) {
+        Ok(t) => count_of(Ok(()), t.accs),
+        Err(error) => count_of(Err(error), 0),
+    }
 }
 
 // The report of a tree file, put at the beginning of `out`; a refusal is answered by number and line, and leaves `out` as it was.
@@ -106,12 +103,10 @@ fn run_on(tree: &[u8], channel: Channel, trace: &[u8], out: &mut [u8]) -> Outcom
     ensures answer { result ≡ outcome_from (read_tree tree.now) channel trace.now out.old }
     ensures bytes { out.new ≡ buffer_from (read_tree tree.now) channel trace.now out.old }
 {
-    let x = read_tree(tree);
-    let answer = x.answer;
-    if !is_accepted(answer) {
-        return tree_refused(answer);
+    match read_tree(tree) {
+        Ok(t) => outcome_of(run(t, channel, trace, out)),
+        Err(error) => tree_refused(Err(error)),
     }
-    outcome_of(run(x.tree, channel, trace, out))
 }
 
 // Runs the trace on a channel of the tree, 0 for reads and 1 for writes, and writes one byte a slot into `out`: the accelerator's
@@ -138,12 +133,10 @@ fn why_on(
     ensures answer { result ≡ wait_from (read_tree tree.now) channel trace.now accelerator number out.old }
     ensures bytes { out.new ≡ list_from (read_tree tree.now) channel trace.now accelerator number out.old }
 {
-    let x = read_tree(tree);
-    let answer = x.answer;
-    if !is_accepted(answer) {
-        return no_wait(2, answer_number(answer), answer_line(answer));
+    match read_tree(tree) {
+        Ok(t) => wait_of(why(t, channel, trace, accelerator, number, out)),
+        Err(error) => no_wait(2, answer_number(Err(error)), answer_line(Err(error))),
     }
-    wait_of(why(x.tree, channel, trace, accelerator, number, out))
 }
 
 // Lists the slots in which a transaction of the accelerator waited on a channel, oldest first, two bytes a slot into `out`: the
@@ -170,12 +163,10 @@ pub fn razhikum_why(
 pub fn razhikum_bound(tree: &[u8], accelerator: u8) -> Row
     ensures { result ≡ row_from (read_tree tree.now) accelerator }
 {
-    let x = read_tree(tree);
-    let answer = x.answer;
-    if !is_accepted(answer) {
-        return unbounded(answer_number(answer), answer_line(answer));
+    match read_tree(tree) {
+        Ok(t) => row_of(bound(t, accelerator)),
+        Err(error) => unbounded(answer_number(Err(error)), answer_line(Err(error))),
     }
-    row_of(bound(x.tree, accelerator))
 }
 
 // Cuts a burst into pieces of the tree's burst length: of each piece the start address and the beats, and 0 in the entries after them. A

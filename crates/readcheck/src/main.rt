@@ -7,12 +7,13 @@
 
 ghost use Rattle.std.specs.Prelude.{◌≡◌, ◌≤◌, length};
 
-use lines::FileAnswer;
+use lines::FileError;
 use model::{Bus, Tree};
 use reader::read_tree;
+use records::empty_tree;
 use std::io::Read;
 use text::{Field, part_end, read_field};
-use trace::{NextRequest, read_trace, request_at};
+use trace::{read_trace, request_at};
 
 fn words(out: &impl Print, s: &[u8]) {
     let _ = out.write_all(s);
@@ -24,19 +25,19 @@ fn figure(out: &impl Print, n: u64) {
 }
 
 // Writes the answer; says whether it is accepted.
-fn show(out: &impl Print, answer: FileAnswer) -> bool {
+fn show(out: &impl Print, answer: Result<(), FileError>) -> bool {
     match answer {
-        FileAnswer::Accepted => {
+        Ok(()) => {
             words(out, b"\taccepted");
             true
         }
-        FileAnswer::Refused(r, n) => {
+        Err(FileError::Refused(r, n)) => {
             words(out, b"\trefused");
             figure(out, model::number(r) as u64);
             figure(out, n as u64);
             false
         }
-        FileAnswer::Broken => {
+        Err(FileError::Broken) => {
             words(out, b"\trefused\t11");
             false
         }
@@ -53,9 +54,8 @@ fn figure_bus(out: &impl Print, b: Bus) {
 fn try_tree(out: &impl Print, name: &[u8], s: &[u8]) {
     words(out, name);
     let r = read_tree(s);
-    let t = r.tree;
-    let answer = r.answer;
-    if show(out, answer) {
+    show(out, r.and(Ok(())));
+    if let Ok(t) = r {
         figure(out, t.ints as u64);
         figure(out, t.accs as u64);
         figure_bus(out, t.bus);
@@ -70,8 +70,7 @@ fn walk(out: &impl Print, s: &[u8]) {
     let mut sum: u64 = 0;
     let mut turns: u32 = 0;
     while turns < 8193 {
-        let x = request_at(s, at);
-        if let NextRequest::Due(r, next) = x {
+        if let Some((r, next)) = request_at(s, at) {
             at = next;
             lines = std::num::wrapping_add_u64(lines, 1);
             sum = std::num::wrapping_add_u64(sum, r.count as u64);
@@ -211,10 +210,9 @@ fn try_files(out: &impl Print, t: Tree, s: &[u8]) {
 
 // The tree of document 01's report.
 fn report_tree() -> Tree {
-    let r = read_tree(
+    read_tree(
         b"bus\t8\t1\t4\t2\t2\t30\t25\t1\t1\t16\nint\t0\t-\t-\t1\nacc\t0\t0\t0\t4\t2\t10\t5\t1000\t2000\nacc\t1\t0\t3\t4\t2\t1\t0\t0\t100\n",
-    );
-    r.tree
+    ).unwrap_or(empty_tree())
 }
 
 // Traces at the limit of a total.
@@ -255,9 +253,7 @@ fn long_sizes(out: &impl Print, t: Tree) {
 
 // A trace on a tree that breaks its rules.
 fn try_broken(out: &impl Print) {
-    let none = read_tree(b"");
-    let no_tree = none.tree;
-    try_trace(out, b"broken tree", no_tree, b"");
+    try_trace(out, b"broken tree", empty_tree(), b"");
 }
 
 // Reads until the buffer is full, the input ends or a read fails, and answers how many bytes were read.

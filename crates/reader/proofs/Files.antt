@@ -2,7 +2,7 @@
 -- a position and the clauses of the definition.
 use Prim.Native.Nat.{ℕ, ◌+◌, ◌-◌, ◌≤◌, ◌<◌}
 use mathlib.Core.List.{List}
-use mathlib.Core.Path.{◌≡◌, refl, sym, ◌∙◌, ap, ap₂}
+use mathlib.Core.Path.{◌≡◌, sym, ◌∙◌, ap, ap₂}
 use native.Mathlib.Omega.{arith}
 use lib.ListN.{length, take, drop}
 use borrow.Author.Tests.{lt-ltb, le-ltb, ne_eqb}
@@ -11,13 +11,13 @@ use Rattle.text.proofs.Parts.{lines_none, lines_unended, lines_next, part_fits}
 use Rattle.model.specs.declared.Tree.{Tree}
 use Rattle.model.specs.declared.Refusal.TheVariants.{Shape, Limit}
 use Rattle.folds.proofs.Folds.{picked, passed}
-use Rattle.lines.specs.declared.FileAnswer.{FileAnswer}
-use Rattle.lines.specs.declared.FileAnswer.TheVariants.{Accepted, Refused, Broken}
-use Rattle.placing.specs.declared.TreeRead.{TreeRead}
+use Rattle.lines.specs.declared.FileError.{FileError}
+use Rattle.lines.specs.declared.FileError.TheVariants.{Refused, Broken}
+use Rattle.std.specs.Prelude.{Err}
+use Rattle.placing.specs.Placing.{TreeRead, tree_read, given, refused_at, finish, tree_line}
 use Rattle.lines.specs.Lines.{line_of}
 use Rattle.lines.proofs.Limits.{nonempty}
 use Rattle.records.specs.Records.{empty_tree}
-use Rattle.placing.specs.Placing.{refused_at, finish, tree_line}
 use Rattle.reader.specs.TreeFile.{onward, read_lines, read_tree}
 
 pub tree_size : (s : List ℕ) → 65536 < length s → read_tree s ≡ refused_at Limit 0
@@ -52,14 +52,10 @@ module _ (n : ℕ) (t : Tree) (s : List ℕ) (at e : ℕ) (h : at < length s) (q
       ap₂ (read_lines n t) r.0 r.1
 
 -- after an accepted line reading goes on
-pub goes_on : (x r next : TreeRead) → x ≡ r → x.answer ≡ Accepted → onward r.answer r next ≡ next
-goes_on x r next e a = ap (λ (k : FileAnswer). onward k r next) (sym (ap (λ (z : TreeRead). z.answer) e) ∙ a)
+pub goes_on : (t : Tree) (r next : TreeRead) → given t ≡ r → onward r.answer r next ≡ next
+goes_on t r next h = ap (λ (x : TreeRead). onward x.answer x next) (sym h)
 
 -- after a refused line it ends
-pub ends : (x r next : TreeRead) → x ≡ r → (x.answer ≡ Accepted → ⊥) → onward r.answer r next ≡ x
-ends x r next e a = go r.answer refl
-  where
-    go : (k : FileAnswer) → r.answer ≡ k → onward r.answer r next ≡ x
-    go Accepted f = absurd (a (ap (λ (z : TreeRead). z.answer) e ∙ f))
-    go (Refused y m) f = ap (λ (k : FileAnswer). onward k r next) f ∙ sym e
-    go Broken f = ap (λ (k : FileAnswer). onward k r next) f ∙ sym e
+pub ends : (e : FileError) (r next : TreeRead) → tree_read (Err e) ≡ r → onward r.answer r next ≡ tree_read (Err e)
+ends (Refused x n) r next h = ap (λ (y : TreeRead). onward y.answer y next) (sym h)
+ends Broken r next h = ap (λ (y : TreeRead). onward y.answer y next) (sym h)

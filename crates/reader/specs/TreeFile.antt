@@ -8,12 +8,10 @@ use Rattle.model.specs.declared.Tree.{Tree}
 use Rattle.model.specs.declared.Refusal.TheVariants.{Shape, Limit}
 use Rattle.folds.specs.Fold.{pick}
 use Rattle.text.specs.Text.{lines, unended}
-use Rattle.lines.specs.declared.FileAnswer.{FileAnswer}
-use Rattle.lines.specs.declared.FileAnswer.TheVariants.{Accepted, Refused, Broken}
+use Rattle.lines.specs.Answer.{FileAnswer, Accepted, Refused, Broken}
 use Rattle.lines.specs.Lines.{line_of}
-use Rattle.placing.specs.declared.TreeRead.{TreeRead}
+use Rattle.placing.specs.Placing.{TreeRead, refused_at, finish, tree_line}
 use Rattle.records.specs.Records.{empty_tree}
-use Rattle.placing.specs.Placing.{refused_at, finish, tree_line}
 
 -- after a line that is accepted reading goes on with `next`; after a refusal it ends
 abbrev pub onward : FileAnswer → TreeRead → TreeRead → TreeRead

@@ -2,8 +2,18 @@
 // A refusal is one line there, and one line in words on standard error.
 #![tactic(auto)]
 
-use printing::{Program, run};
+use printing::{Streams, run};
 
 fn main(rt: HostRuntime) {
-    run(&rt, &mut rt.stdin(), &rt.stderr(), Program::Rewrite);
+    let s = &Streams {
+        out: &rt,
+        errors: &rt.stderr(),
+    };
+    run(
+        s,
+        &mut rt.stdin(),
+        usage::rewrite_usage,
+        usage::rewrite_help,
+        |tree, page| plan::rewrite(tree, page),
+    );
 }

@@ -2,10 +2,10 @@
 // whatever.
 #![tactic(auto)]
 
-ghost use Rattle.std.specs.Prelude.{◌≡◌, ◌-◌, min};
+ghost use Rattle.std.specs.Prelude.{◌≡◌, ◌-◌};
 ghost use Rattle.folds.specs.Fold.{all, within};
 ghost use Rattle.model.specs.Tree.{beat_limit, port_of};
-ghost use Rattle.rules.specs.Rules.{bus_keeps, is_empty, is_acc, is_int, carries, root_placed, child_placed, is_placed, used_interconnect, unused_interconnect, interconnect_keeps, used_accelerator, unused_accelerator, accelerator_keeps, tree_keeps, on_the_way, record_keeps, turn_keeps, state_keeps, keeps};
+ghost use Rattle.rules.specs.Rules.{bus_keeps, is_empty, carries, root_placed, child_placed, is_placed, used_interconnect, unused_interconnect, interconnect_keeps, used_accelerator, unused_accelerator, accelerator_keeps, tree_keeps, on_the_way, record_keeps, turn_keeps, state_keeps, keeps};
 
 use model::access::{
     accelerator_at, admitted_of, allowance_of, beat_limit, interconnect_at, last_of, level_of,
@@ -43,36 +43,6 @@ fn bus_keeps(b: Bus) -> bool
         & (b.delay <= 15)
 }
 
-fn is_empty(x: Port) -> bool
-    ensures { result ≡ is_empty x }
-{
-    match x {
-        Port::Empty => true,
-        Port::Acc(_) => false,
-        Port::Int(_) => false,
-    }
-}
-
-fn is_acc(a: u8, x: Port) -> bool
-    ensures { result ≡ is_acc a x }
-{
-    match x {
-        Port::Empty => false,
-        Port::Acc(b) => a == b,
-        Port::Int(_) => false,
-    }
-}
-
-fn is_int(j: u8, x: Port) -> bool
-    ensures { result ≡ is_int j x }
-{
-    match x {
-        Port::Empty => false,
-        Port::Acc(_) => false,
-        Port::Int(k) => j == k,
-    }
-}
-
 fn port_carries(t: Tree, j: u8, p: u8, x: Port) -> bool
     ensures { result ≡ carries t j p x }
 {
@@ -93,10 +63,8 @@ fn ports_carry(t: Tree, j: u8) -> bool
     ensures { result ≡ all 8 (λ p. carries t j p (port_of t j p)) }
 {
     let mut ok = true;
-    let mut p: u8 = 0;
-    while p < 8 {
-        ok = ok & port_carries(t, j, p, port_at(t, j, p));
-        p += 1;
+    for p in 0..8 {
+        ok &= port_carries(t, j, p, port_at(t, j, p));
     }
     ok
 }
@@ -105,10 +73,8 @@ fn ports_empty(t: Tree, j: u8) -> bool
     ensures { result ≡ all 8 (λ p. is_empty (port_of t j p)) }
 {
     let mut ok = true;
-    let mut p: u8 = 0;
-    while p < 8 {
-        ok = ok & is_empty(port_at(t, j, p));
-        p += 1;
+    for p in 0..8 {
+        ok &= port_at(t, j, p) == Port::Empty;
     }
     ok
 }
@@ -124,7 +90,7 @@ fn child_placed(t: Tree, j: u8) -> bool
     ensures { result ≡ child_placed t j }
 {
     let x = interconnect_at(t, j);
-    (x.parent < j) & (x.port <= 7) & is_int(j, port_at(t, x.parent, x.port))
+    (x.parent < j) & (x.port <= 7) & (port_at(t, x.parent, x.port) == Port::Int(j))
 }
 
 fn placed(t: Tree, j: u8) -> bool
@@ -166,10 +132,8 @@ fn interconnects_keep(t: Tree) -> bool
     ensures { result ≡ all 15 (interconnect_keeps t) }
 {
     let mut ok = true;
-    let mut j: u8 = 0;
-    while j < 15 {
-        ok = ok & interconnect_keeps(t, j);
-        j += 1;
+    for j in 0..15 {
+        ok &= interconnect_keeps(t, j);
     }
     ok
 }
@@ -180,7 +144,7 @@ fn used_accelerator(t: Tree, a: u8) -> bool
     let x = accelerator_at(t, a);
     (x.interconnect < t.ints)
         & (x.port <= 7)
-        & is_acc(a, port_at(t, x.interconnect, x.port))
+        & (port_at(t, x.interconnect, x.port) == Port::Acc(a))
         & in_limits(1, x.phi as u64, 16)
         & in_limits(1, x.budget as u64, 1024)
         & in_limits(0, x.reads as u64, 65535)
@@ -216,10 +180,8 @@ fn accelerators_keep(t: Tree) -> bool
     ensures { result ≡ all 32 (accelerator_keeps t) }
 {
     let mut ok = true;
-    let mut a: u8 = 0;
-    while a < 32 {
-        ok = ok & accelerator_keeps(t, a);
-        a += 1;
+    for a in 0..32 {
+        ok &= accelerator_keeps(t, a);
     }
     ok
 }
@@ -264,28 +226,17 @@ fn records_keep(t: Tree, s: State) -> bool
     ensures { result ≡ all 32 (record_keeps t s) }
 {
     let mut ok = true;
-    let mut a: u8 = 0;
-    while a < 32 {
-        ok = ok & record_keeps(t, s, a);
-        a += 1;
+    for a in 0..32 {
+        ok &= record_keeps(t, s, a);
     }
     ok
-}
-
-pub fn smaller(a: u32, b: u32) -> u32
-    ensures { result ≡ min a b }
-{
-    if a < b { a } else { b }
 }
 
 // One less, 0 for 0.
 pub fn less_one(n: u32) -> u32
     ensures { result ≡ n - 1 }
 {
-    if n == 0 {
-        return 0;
-    }
-    n - 1
+    n.saturating_sub(1)
 }
 
 fn turn_keeps(t: Tree, s: State, j: u8) -> bool
@@ -295,7 +246,7 @@ fn turn_keeps(t: Tree, s: State, j: u8) -> bool
     let allowance = allowance_of(s, j);
     if j < t.ints {
         let x = interconnect_at(t, j);
-        let most = smaller(x.granularity as u32, waits_under(t, s, j, last));
+        let most = u32::from(x.granularity).min(waits_under(t, s, j, last));
         return (last <= 7) & (allowance as u32 <= most);
     }
     (last == 0) & (allowance == 0)
@@ -305,10 +256,8 @@ fn turns_keep(t: Tree, s: State) -> bool
     ensures { result ≡ all 15 (turn_keeps t s) }
 {
     let mut ok = true;
-    let mut j: u8 = 0;
-    while j < 15 {
-        ok = ok & turn_keeps(t, s, j);
-        j += 1;
+    for j in 0..15 {
+        ok &= turn_keeps(t, s, j);
     }
     ok
 }

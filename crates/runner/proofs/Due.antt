@@ -1,5 +1,6 @@
 -- The walk over the lines due, on any bytes: a request's line ends behind its place and within the bytes, so that the bytes left
 -- are lines enough; a step of the walk is a step of the loop. By the clauses of the definitions, and by induction on the lines.
+use Rattle.std.specs.Prelude.{Option, Some, None}
 use Prim.Native.Nat.{ℕ, zero, suc, ◌+◌, ◌-◌, ◌^◌, ◌≤◌, ◌<◌}
 use mathlib.Core.Bool.{Bool, true, false, ◌&&◌}
 use mathlib.Core.List.{List}
@@ -18,10 +19,8 @@ use Rattle.lines.specs.declared.Kind.TheVariants.{OfferLine}
 use Rattle.lines.proofs.Limits.{most}
 use Rattle.machine.specs.Machine.{last_slot}
 use Rattle.trace.specs.declared.Request.{Request}
-use Rattle.trace.specs.declared.NextRequest.{NextRequest}
-use Rattle.trace.specs.declared.NextRequest.TheVariants.{Done, Due}
 use Rattle.trace.specs.TraceFile.{request_at, request_of, is_offer}
-use Rattle.trace.proofs.Requests.{walk_end}
+use Rattle.trace.proofs.Requests.{same_request, walk_end}
 use Rattle.admit.specs.Admitting.{is_in}
 use Rattle.admit.proofs.Sets.{none_of, in_or, in_one}
 use Rattle.runner.specs.declared.NextLine.{NextLine}
@@ -35,7 +34,7 @@ pub record Found (s : List ℕ) (at : ℕ) (r : Request) (p : ℕ) : Type 0 wher
   pub known : r.accelerator < 32
   pub few : r.count ≤ 16
 
-pub found : (s : List ℕ) (at : ℕ) (r : Request) (p : ℕ) → request_at s at ≡ Due r p → Found s at r p
+pub found : (s : List ℕ) (at : ℕ) (r : Request) (p : ℕ) → request_at s at ≡ Some (r, p) → Found s at r p
 unfolding request_at
 found s at r p e = go (leb (length s) end) (is_offer l) refl refl e
   where
@@ -45,15 +44,16 @@ found s at r p e = go (leb (length s) end) (is_offer l) refl refl e
     l : Line
     l = line_of (take (part_length 10 (drop at s)) (drop at s))
 
-    go : (b c : Bool) → leb (length s) end ≡ b → is_offer l ≡ c → pick b Done (pick c (Due (request_of l.values) (end + 1)) Done) ≡ Due r p → Found s at r p
+    go : (b c : Bool) → leb (length s) end ≡ b → is_offer l ≡ c → pick {A = Option (Request × ℕ)} b None (pick c (Some (request_of l.values, end + 1)) None) ≡ Some (r, p) → Found s at r p
     go true c f g h = clash cc
     go false false f g h = clash cc
     go false true f g h =
         let G = both (in_trace l.kind && shaped l && limits_kept OfferLine l.values) (ltb (value_at l 1) 32) g in
         let known : value_at l 1 < 32 = ltb-true (value_at l 1) 32 G.1 in
         let few : get_or l.values 2 0 ≤ 16 = most OfferLine l.values (both (in_trace l.kind && shaped l) (limits_kept OfferLine l.values) G.0).1 2 (lit< tt) in
-        let q : request_of l.values ≡ r = cc in
-        let m : end + 1 ≡ p = cc in
+        let same = same_request _ _ _ _ h in
+        let q = same.0 in
+        let m = same.1 in
         record {
           later = omega (arith, m);
           inside = omega (arith, m, leb-false (length s) end f);
@@ -69,15 +69,15 @@ module _ (n : ℕ) (s : List ℕ) where
   abbrev follows : ℕ → ℕ → List ℕ → ℕ → Request → ℕ → Taken
   follows i at h z r p = pick (ltb n r.slot) (taken h z (line_at at r.slot)) (due_from i n s p (hold_on h r) (join_on z r))
 
-  from_end : (k at : ℕ) (h : List ℕ) (z : ℕ) → request_at s at ≡ Done → due_from k n s at h z ≡ nothing at h z
+  from_end : (k at : ℕ) (h : List ℕ) (z : ℕ) → request_at s at ≡ None → due_from k n s at h z ≡ nothing at h z
   unfolding due_from
   from_end zero at h z e = refl
-  from_end (suc k) at h z e = ap (λ (q : NextRequest). on_request q (nothing at h z) (follows k at h z)) e
+  from_end (suc k) at h z e = ap (λ (q : Option (Request × ℕ)). on_request q (nothing at h z) (follows k at h z)) e
 
-  same_from : (k m at : ℕ) (h : List ℕ) (z : ℕ) (q : NextRequest) → ((r : Request) (p : ℕ) → q ≡ Due r p → follows k at h z r p ≡ follows m at h z r p)
+  same_from : (k m at : ℕ) (h : List ℕ) (z : ℕ) (q : Option (Request × ℕ)) → ((r : Request) (p : ℕ) → q ≡ Some (r, p) → follows k at h z r p ≡ follows m at h z r p)
       → on_request q (nothing at h z) (follows k at h z) ≡ on_request q (nothing at h z) (follows m at h z)
-  same_from k m at h z Done f = refl
-  same_from k m at h z (Due r p) f = f r p refl
+  same_from k m at h z None f = refl
+  same_from k m at h z (Some (r, p)) f = f r p refl
 
   -- as many lines as bytes are left are enough
   enough : (k m at : ℕ) (h : List ℕ) (z : ℕ) → length s - at ≤ k → length s - at ≤ m → due_from k n s at h z ≡ due_from m n s at h z
@@ -93,16 +93,16 @@ module _ (n : ℕ) (s : List ℕ) where
   abbrev pub left : ℕ → List ℕ → ℕ → Taken
   left at h z = due_from (length s - at) n s at h z
 
-  pub left_none : (at : ℕ) (h : List ℕ) (z : ℕ) → request_at s at ≡ Done → left at h z ≡ nothing at h z
+  pub left_none : (at : ℕ) (h : List ℕ) (z : ℕ) → request_at s at ≡ None → left at h z ≡ nothing at h z
   left_none at h z e = from_end (length s - at) at h z e
 
-  module _ (at : ℕ) (h : List ℕ) (z : ℕ) (r : Request) (p : ℕ) (e : request_at s at ≡ Due r p) where
+  module _ (at : ℕ) (h : List ℕ) (z : ℕ) (r : Request) (p : ℕ) (e : request_at s at ≡ Some (r, p)) where
     one : left at h z ≡ follows (length s - at - 1) at h z r p
     unfolding due_from
     one =
         let F = found s at r p e in
         let m : length s - at ≡ suc (length s - at - 1) = omega (arith, F.later, F.inside) in
-        ap (λ (k : ℕ). due_from k n s at h z) m ∙ ap (λ (q : NextRequest). on_request q (nothing at h z) (follows (length s - at - 1) at h z)) e
+        ap (λ (k : ℕ). due_from k n s at h z) m ∙ ap (λ (q : Option (Request × ℕ)). on_request q (nothing at h z) (follows (length s - at - 1) at h z)) e
 
     pub left_later : n < r.slot → left at h z ≡ taken h z (line_at at r.slot)
     left_later l = one ∙ picked _ _ _ (lt-ltb _ _ l)
@@ -145,11 +145,11 @@ module _ (n : ℕ) (s : List ℕ) (a : ℕ) where
   from_leaves zero at h z = nothing_left h z _
   from_leaves (suc k) at h z = by_request (request_at s at) (λ r p e. joined h z r _ (from_leaves k p (hold_on h r) (join_on z r) e))
     where
-      by_request : (q : NextRequest)
+      by_request : (q : Option (Request × ℕ))
           → ((r : Request) (p : ℕ) → Leaves h z (due_from k n s p (hold_on h r) (join_on z r)))
           → Leaves h z (on_request q (nothing n s at h z) (follows n s k at h z))
-      by_request Done f = nothing_left h z _
-      by_request (Due r p) f = by_slot (ltb n r.slot)
+      by_request None f = nothing_left h z _
+      by_request (Some (r, p)) f = by_slot (ltb n r.slot)
         where
           by_slot : (b : Bool) → Leaves h z (pick b (taken h z (line_at at r.slot)) (due_from k n s p (hold_on h r) (join_on z r)))
           by_slot true = nothing_left h z _

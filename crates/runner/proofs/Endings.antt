@@ -3,49 +3,52 @@ use Prim.Native.Nat.{ℕ, ◌≤◌, ◌<◌}
 use mathlib.Core.Bool.{Bool, true, false, not}
 use mathlib.Core.List.{List}
 use mathlib.Core.Path.{◌≡◌, refl, sym, ◌∙◌, ap}
+use Rattle.std.specs.Prelude.{Result, Ok, Err}
 use lib.Dec.{ltb}
 use lib.ListN.{length}
 use borrow.Author.Tests.{lt-ltb, le-ltb}
 use Rattle.model.specs.declared.Tree.{Tree}
 use Rattle.model.specs.declared.Channel.{Channel}
 use Rattle.model.specs.declared.State.{State}
+use Rattle.model.specs.declared.Refusal.{Refusal}
+use Rattle.model.specs.Answer.{number_of}
 use Rattle.folds.specs.Fold.{pick}
 use Rattle.rules.specs.Rules.{tree_keeps}
 use Rattle.folds.proofs.Folds.{picked, passed, clash}
 use Rattle.text.specs.Text.{lines}
-use Rattle.lines.specs.declared.FileAnswer.{FileAnswer}
-use Rattle.lines.specs.declared.FileAnswer.TheVariants.{Accepted, Refused, Broken}
+use Rattle.lines.specs.Answer.{FileAnswer, Accepted, Refused, Broken}
 use Rattle.trace.specs.declared.Request.{Request}
 use Rattle.trace.specs.TraceFile.{read_trace, requests}
 use Rattle.model.specs.Builders.{zero_state}
-use Rattle.machine.specs.Machine.{Start, started, not_started, Beginning, beginning, fresh_state, freshened}
+use Rattle.machine.specs.Answers.{fresh_outcome}
+use Rattle.machine.specs.Machine.{started, not_started, Beginning, beginning, fresh_state, freshened}
 use Rattle.runner.specs.Run.{Trail, run_for, Ending, refused_at, broken, done, stopped, end_after, end_of, answered, over, overwritten, ran_of, buffer_after}
 use Rattle.runner.specs.Wait.{no_wait, wait_for, told_read, told_of}
 
 -- what the start's answer says of the configuration
-module _ (t : Tree) (ch : Channel) (f : Start) (s : State) where
-  begun_by : (b : Bool) → beginning f s ≡ pick b (beginning started (fresh_state t ch)) (beginning (not_started 11) (zero_state ch))
-      → f ≡ started → (b ≡ true) × (s ≡ fresh_state t ch)
-  begun_by true e g = (refl, ap (λ (x : Beginning). x.state) e)
-  begun_by false e g =
+module _ (t : Tree) (ch : Channel) where
+  begun_by : (b : Bool) (s : State) → beginning started s ≡ pick b (beginning started (fresh_state t ch)) (beginning (not_started 11) (zero_state ch))
+      → (b ≡ true) × (s ≡ fresh_state t ch)
+  begun_by true s e = (refl, ap (λ (x : Beginning). x.state) e)
+  begun_by false s e =
       let h = ap (λ (x : Beginning). x.answer) e in
       clash cc
 
-  unbegun_by : (b : Bool) → beginning f s ≡ pick b (beginning started (fresh_state t ch)) (beginning (not_started 11) (zero_state ch))
-      → (n : ℕ) → f ≡ not_started n → b ≡ false
-  unbegun_by true e n g =
+  unbegun_by : (b : Bool) (n : ℕ) (s : State)
+      → beginning (not_started n) s ≡ pick b (beginning started (fresh_state t ch)) (beginning (not_started 11) (zero_state ch)) → b ≡ false
+  unbegun_by true n s e =
       let h = ap (λ (x : Beginning). x.answer) e in
       clash cc
-  unbegun_by false e n g = refl
+  unbegun_by false n s e = refl
 
-  module _ (e : beginning f s ≡ freshened t ch) where
-    pub begun : f ≡ started → (tree_keeps t ≡ true) × (s ≡ fresh_state t ch)
+  module _ (r : Result State Refusal) (e : fresh_outcome ch r ≡ freshened t ch) where
+    pub begun : (s : State) → r ≡ Ok s → (tree_keeps t ≡ true) × (s ≡ fresh_state t ch)
     unfolding freshened
-    begun = begun_by (tree_keeps t) e
+    begun s f = begun_by (tree_keeps t) s (sym (ap (fresh_outcome ch) f) ∙ e)
 
-    pub unbegun : (n : ℕ) → f ≡ not_started n → tree_keeps t ≡ false
+    pub unbegun : (x : Refusal) → r ≡ Err x → tree_keeps t ≡ false
     unfolding freshened
-    unbegun = unbegun_by (tree_keeps t) e
+    unbegun x f = unbegun_by (tree_keeps t) (number_of x) (zero_state ch) (sym (ap (fresh_outcome ch) f) ∙ e)
 
 module _ (t : Tree) (ch : Channel) (s d : List ℕ) where
   pub ran_broken : tree_keeps t ≡ false → (broken 11 ≡ ran_of t ch s (length d)) × (d ≡ buffer_after t ch s d)

@@ -7,7 +7,6 @@ pub mod Telling
 pub mod Endings
 pub mod Laws
 pub mod Asked
-pub mod Parts
 pub mod Settled
 pub mod First
 pub mod Raised

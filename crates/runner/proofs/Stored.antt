@@ -26,13 +26,14 @@ use Rattle.machine.proofs.Laws.{offer_keeps, offer_verdict}
 use Rattle.machine.proofs.Steps.{limits_8, verdict_14, verdict_known}
 use Rattle.turns.proofs.Descent.{Choice as Choice-of, choice}
 use Rattle.machine.proofs.Keeps.{stored, admit_waiting, take_waiting}
-use Rattle.counts.specs.Choice.{ports, Choice}
-use Rattle.counts.specs.Table.{limits, budgets}
-use Rattle.counts.proofs.Table.{TableOf, LimitsOf}
+use Rattle.counts.specs.declared.Table.{Table}
+use Rattle.counts.specs.Choice.{Choice}
+use Rattle.counts.proofs.Entries.{TableOf, LimitsOf}
 use Rattle.counts.proofs.Choosing.{Matches, Chosen, chooses, passes}
 use Rattle.counts.proofs.Counted.{Counted, counted_more, none_live, weight_small}
 use Rattle.runner.specs.Offers.{Offering, held_of, release, offering, offer_held, offer_all, offer_each}
-use Rattle.admit.specs.Admitting.{Arrays, answer_on, offered_on, offers_for, offers_of, offers_in, offers_before}
+use Rattle.admit.specs.declared.Arrays.{Arrays}
+use Rattle.admit.specs.Admitting.{answer_on, offered_on, offers_for, offers_of, offers_in, offers_before}
 use Rattle.admit.proofs.Offers.{on_admitted_lem, offers_known, offers_unknown, in_passes}
 use Rattle.runner.specs.Arrays.{Slot, slot_on, chosen_on, with_ports, serve_on}
 use Rattle.runner.proofs.Settled.{Idles, each_none}
@@ -47,9 +48,9 @@ pub record Stored (t : Tree) (c : Channel) (s : State) (d : Arrays) : Type 0 whe
   pub size : length d.outstanding ≡ 32
   pub outstanding : (a : ℕ) → a < t.accs → get_or d.outstanding a 0 ≡ outstanding_of s a
   pub admitted : d.admitted ≡ s.admitted
-  pub last : d.last ≡ s.last
-  pub allowance : d.allowance ≡ s.allowance
-  pub counts : Counted t (waiting_of s) d.under d.live
+  pub last : d.ports.last ≡ s.last
+  pub allowance : d.ports.allowance ≡ s.allowance
+  pub counts : Counted t (waiting_of s) d.ports.under d.ports.live
 
 -- d are the arrays of the state and the held counts of x
 pub record StoredOffering (t : Tree) (c : Channel) (x : Offering) (d : Arrays) : Type 0 where
@@ -57,7 +58,7 @@ pub record StoredOffering (t : Tree) (c : Channel) (x : Offering) (d : Arrays) :
   pub held : d.held ≡ x.held
 
 -- the arrays' offers are those of the machine
-module _ (t : Tree) (c : Channel) (g : List ℕ) (W : TableOf t g) (L : LimitsOf t c g) where
+module _ (t : Tree) (c : Channel) (g : Table) (W : TableOf t g) (L : LimitsOf t c g) where
   module _ (a : ℕ) (la : a < t.accs) where
     module _ (x : Offering) (d : Arrays) (O : StoredOffering t c x d) where
       S : Sound t
@@ -79,7 +80,7 @@ module _ (t : Tree) (c : Channel) (g : List ℕ) (W : TableOf t g) (L : LimitsOf
       none_answer : job_of t c a ≡ 0 → ((offered t x.state a).answer ≡ refused 14) × (answer_on g a d ≡ refused 8)
       none_answer z = (
         offer_verdict t x.state a O.stored.rules ∙ sym (verdict_14 t x.state a la (job ∙ z)),
-        sym (limits_8 (get_or (limits g) a 0) (get_or d.outstanding a 0) (get_or (budgets g) a 0) (get_or d.admitted a 0) (omega (arith, L a known, limit_none t c a z))),
+        sym (limits_8 (get_or g.limit a 0) (get_or d.outstanding a 0) (get_or g.budget a 0) (get_or d.admitted a 0) (omega (arith, L a known, limit_none t c a z))),
       )
 
       -- else they answer the same
@@ -113,7 +114,7 @@ module _ (t : Tree) (c : Channel) (g : List ℕ) (W : TableOf t g) (L : LimitsOf
               counts = counted_more t S g W a la (waiting_of x.state) (waiting_of (admit x.state a))
                   (admit_waiting t S x.state K a la)
                   (weight_small t S (waiting_of (admit x.state a)) (λ i li. omega (arith, (kept_of t (admit x.state a) k).waiting i li, limit_most t x.state.channel i, S.phi i li)))
-                  d.under d.live O.stored.counts;
+                  d.ports.under d.ports.live O.stored.counts;
             };
             held = ap (λ (l : List ℕ). set l a (get_or l a 0 - 1)) O.held;
           })
@@ -204,12 +205,12 @@ module _ (t : Tree) (s : State) (k : keeps t s ≡ true) (c v : List ℕ) (C : C
       S = sound_of t s k
 
 -- the service on any arrays, by its tests
-module _ (w : List ℕ) (d : Arrays) where
-  pub serve_none : get_or d.live 0 0 ≡ 0 → slot_on 255 d ≡ serve_on w d
+module _ (w : Table) (d : Arrays) where
+  pub serve_none : get_or d.ports.live 0 0 ≡ 0 → slot_on 255 d ≡ serve_on w d
   unfolding serve_on
   serve_none e = sym (picked _ _ _ (eq-eqb _ _ e))
 
-  pub serve_some : (get_or d.live 0 0 ≡ 0 → ⊥) → (x : Choice) → x ≡ chosen_on w d → slot_on x.served (with_ports x.ports d) ≡ serve_on w d
+  pub serve_some : (get_or d.ports.live 0 0 ≡ 0 → ⊥) → (x : Choice) → x ≡ chosen_on w d → slot_on x.served (with_ports x.ports d) ≡ serve_on w d
   unfolding serve_on
   serve_some e x f = ap (λ (z : Choice). slot_on z.served (with_ports z.ports d)) f ∙ sym (passed _ _ _ (ne_eqb _ _ e))
 
@@ -219,14 +220,14 @@ pub record StoredSlot (t : Tree) (s : State) (d : Arrays) (x : Slot) : Type 0 wh
   pub outstanding : x.arrays.outstanding ≡ d.outstanding
   pub admitted : x.arrays.admitted ≡ d.admitted
   pub held : x.arrays.held ≡ d.held
-  pub last : x.arrays.last ≡ (served_from t s).last
-  pub allowance : x.arrays.allowance ≡ (served_from t s).allowance
-  pub counts : Counted t (waiting_of (served_from t s)) x.arrays.under x.arrays.live
+  pub last : x.arrays.ports.last ≡ (served_from t s).last
+  pub allowance : x.arrays.ports.allowance ≡ (served_from t s).allowance
+  pub counts : Counted t (waiting_of (served_from t s)) x.arrays.ports.under x.arrays.ports.live
 
-module _ (t : Tree) (c : Channel) (g : List ℕ) (W : TableOf t g) (s : State) (d : Arrays) (R : Stored t c s d) where
-  served_none : get_or d.live 0 0 ≡ 0 → StoredSlot t s d (slot_on 255 d)
+module _ (t : Tree) (c : Channel) (g : Table) (W : TableOf t g) (s : State) (d : Arrays) (R : Stored t c s d) where
+  served_none : get_or d.ports.live 0 0 ≡ 0 → StoredSlot t s d (slot_on 255 d)
   served_none e =
-      let z = (live_root t s R.rules d.under d.live R.counts).0 e in
+      let z = (live_root t s R.rules d.ports.under d.ports.live R.counts).0 e in
       let same : served_from t s ≡ s = picked _ _ _ z in
       record {
         byte = sym (picked _ _ _ z);
@@ -235,25 +236,25 @@ module _ (t : Tree) (c : Channel) (g : List ℕ) (W : TableOf t g) (s : State) (
         held = refl;
         last = R.last ∙ sym (ap (λ (x : State). x.last) same);
         allowance = R.allowance ∙ sym (ap (λ (x : State). x.allowance) same);
-        counts = subst (λ (x : State). Counted t (waiting_of x) d.under d.live) (sym same) R.counts;
+        counts = subst (λ (x : State). Counted t (waiting_of x) d.ports.under d.ports.live) (sym same) R.counts;
       }
 
-  module _ (e : get_or d.live 0 0 ≡ 0 → ⊥) where
+  module _ (e : get_or d.ports.live 0 0 ≡ 0 → ⊥) where
     inner : 0 < inside 4 t (waiting_of s) 0
-    inner = some_inside t s R.rules d.under d.live R.counts e
+    inner = some_inside t s R.rules d.ports.under d.ports.live R.counts e
 
     turn : Choice-of t s (who 4 t s 0) (after 4 t s 0)
     turn = choice t (sound_of t s R.rules) s (kept_of t s R.rules) inner
 
-    matches : Matches t s g (ports d.under d.live d.last d.allowance)
+    matches : Matches t s g d.ports
     matches = record { rules = R.rules; table = W; counts = R.counts; last = R.last; allowance = R.allowance }
 
     chosen : Chosen t s 4 0 (chosen_on g d)
-    chosen = chooses t s g (ports d.under d.live d.last d.allowance) matches 4 0 (sound_of t s R.rules).some_ints inner
+    chosen = chooses t s g d.ports matches 4 0 (sound_of t s R.rules).some_ints inner
 
     served_one_lem : StoredSlot t s d (slot_on (chosen_on g d).served (with_ports (chosen_on g d).ports d))
     served_one_lem =
-        let z = some_live t s R.rules d.under d.live R.counts e in
+        let z = some_live t s R.rules d.ports.under d.ports.live R.counts e in
         let same : served_from t s ≡ serve t s = passed _ _ _ z in
         record {
           byte = chosen.served ∙ sym (passed _ _ _ z);
@@ -263,13 +264,13 @@ module _ (t : Tree) (c : Channel) (g : List ℕ) (W : TableOf t g) (s : State) (
           last = chosen.last ∙ sym (ap (λ (x : State). x.last) same);
           allowance = chosen.allowance ∙ sym (ap (λ (x : State). x.allowance) same);
           counts = subst (λ (x : State). Counted t (waiting_of x) (chosen_on g d).ports.under (chosen_on g d).ports.live) (sym same)
-              (passes t s g (ports d.under d.live d.last d.allowance) matches inner (waiting_of (serve t s))
+              (passes t s g d.ports matches inner (waiting_of (serve t s))
               (take_waiting t (sound_of t s R.rules) s (kept_of t s R.rules) (who 4 t s 0) (after 4 t s 0) turn) turn.acc);
         }
 
   -- the service on the arrays of a state is that of the definition
   pub serves : StoredSlot t s d (serve_on g d)
-  serves = elim (ℕ_discrete (get_or d.live 0 0) 0) [
+  serves = elim (ℕ_discrete (get_or d.ports.live 0 0) 0) [
     | yes e ↦ subst (StoredSlot t s d) (serve_none g d e) (served_none e)
     | no e ↦ subst (StoredSlot t s d) (serve_some g d e (chosen_on g d) refl) (served_one_lem e)
   ]

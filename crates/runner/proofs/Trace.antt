@@ -1,5 +1,6 @@
 -- The lines of an accepted trace, walked from its bytes: where bytes are left, a request stands there, it is the next of the
 -- trace's requests, and what follows its line is accepted too. By the steps of the reader's walk.
+use Rattle.std.specs.Prelude.{Option, Some, None}
 use Prim.Native.Nat.{ℕ, suc, zero, ◌+◌, ◌-◌, ◌*◌, ◌≤◌, ◌<◌}
 use mathlib.Core.List.{List, [], ◌∷◌}
 use mathlib.Core.Path.{◌≡◌, refl, sym, ◌∙◌, ap, subst}
@@ -14,12 +15,10 @@ use Rattle.folds.proofs.Folds.{picked, passed, clash}
 use Rattle.rules.proofs.Sound.{sound}
 use Rattle.trace.specs.declared.Request.{Request}
 use Rattle.machine.specs.Machine.{last_slot}
-use Rattle.trace.specs.declared.NextRequest.{NextRequest}
-use Rattle.trace.specs.declared.NextRequest.TheVariants.{Done, Due}
-use Rattle.lines.specs.declared.FileAnswer.TheVariants.{Accepted}
+use Rattle.lines.specs.Answer.{Accepted}
 use Rattle.trace.specs.TraceFile.{added, no_totals, read_trace, request_at}
 use Rattle.trace.proofs.Traces.{trace_start_lem}
-use Rattle.trace.proofs.Requests.{accepted_trace, Step, walk_step, walk_end}
+use Rattle.trace.proofs.Requests.{accepted_trace, same_request, Step, walk_step, walk_end}
 use Rattle.runner.specs.Offers.{held_of}
 use Rattle.runner.specs.Run.{hold, held_with, left_after}
 use Rattle.runner.specs.declared.NextLine.{NextLine}
@@ -61,15 +60,16 @@ module _ (s : List ℕ) (at : ℕ) (A : Accepts s at) where
   here h = walk_step A.line A.accs A.last A.totals s at A.most h A.accepted
 
   -- where bytes are left, a request stands there
-  pub line_some : at < length s → request_at s at ≡ Done → ⊥
+  pub line_some : at < length s → request_at s at ≡ None → ⊥
   line_some h e = let x = (here h).found in clash cc
 
-  pub line_next : at < length s → (r : Request) (p : ℕ) → request_at s at ≡ Due r p → Next s at r p
+  pub line_next : at < length s → (r : Request) (p : ℕ) → request_at s at ≡ Some (r, p) → Next s at r p
   line_next h r p e =
       let x = here h in
       let d = x.found in
-      let q : x.request ≡ r = cc in
-      let m : x.place ≡ p = cc in
+      let same = same_request _ _ _ _ (sym d ∙ e) in
+      let q = same.0 in
+      let m = same.1 in
       subst (Next s at r) m
       (subst (λ (y : Request). Next s at y x.place) q
       (record {
@@ -171,14 +171,14 @@ module _ (n : ℕ) (s : List ℕ) (h₀ : List ℕ) (at₀ : ℕ) where
       ends h z at last_slot T (subst (λ (rs : List Request). last_slot ≤ due_of rs) (sym e) (omega arith)) (none_due n h (left_at s at) e)
 
   -- one line of the walk; what follows a request that is due is left to the caller
-  walk_one : (h : List ℕ) (z at : ℕ) → Taking h at → (q : NextRequest) → request_at s at ≡ q
+  walk_one : (h : List ℕ) (z at : ℕ) → Taking h at → (q : Option (Request × ℕ)) → request_at s at ≡ q
       → ((r : Request) (p : ℕ) → Next s at r p → Taking (hold h r) p → NextOf n s h₀ at₀ (left n s p (hold h r) (join_on z r)))
       → NextOf n s h₀ at₀ (left n s at h z)
-  walk_one h z at T Done e f = elim (dec_lt at (length s)) [
+  walk_one h z at T None e f = elim (dec_lt at (length s)) [
     | yes l ↦ absurd (line_some s at T.accepts l e)
     | no d ↦ subst (NextOf n s h₀ at₀) (sym (left_none n s at h z e)) (all_taken h z at T (omega arith))
   ]
-  walk_one h z at T (Due r p) e f =
+  walk_one h z at T (Some (r, p)) e f =
       let F = found s at r p e in
       let N = line_next s at T.accepts (omega (arith, F.later, F.inside)) r p e in
       elim (dec_lt n r.slot) [

@@ -27,11 +27,13 @@ use Rattle.machine.proofs.Returns.{no_ones}
 use Rattle.machine.specs.Calls.{slot}
 use Rattle.machine.proofs.Laws.{offer_others, slot_keeps, fresh_keeps, step_channel}
 use Rattle.machine.proofs.Steps.{slot_passed}
-use Rattle.counts.specs.Table.{port_number, own_ports}
-use Rattle.counts.proofs.Table.{TableOf, LimitsOf}
+use Rattle.counts.specs.declared.Table.{Table}
+use Rattle.counts.specs.Table.{port_number}
+use Rattle.counts.proofs.Entries.{TableOf, LimitsOf}
 use Rattle.counts.proofs.Counted.{Counted, counted_none}
 use Rattle.trace.specs.declared.Request.{Request}
-use Rattle.admit.specs.Admitting.{Arrays, arrays, is_in}
+use Rattle.admit.specs.declared.Arrays.{Arrays}
+use Rattle.admit.specs.Admitting.{is_in}
 use Rattle.admit.proofs.Sets.{none_of, in_none}
 use Rattle.runner.specs.declared.NextLine.{NextLine}
 use Rattle.runner.specs.declared.SlotEnd.{SlotEnd}
@@ -40,7 +42,7 @@ use Rattle.runner.specs.Run.{Run, held_with, left_after, with_due, before_slot, 
 use Rattle.runner.specs.Places.{left_at, Accepts}
 use Rattle.runner.specs.Due.{Taken, taken, due_on}
 use Rattle.runner.proofs.Due.{due_others}
-use Rattle.runner.specs.Arrays.{serve_on, opens_on, left_on, end_on, slot_end_on, after_on, home_in, home_on, ready_on, with_held, before_on, waiting_on}
+use Rattle.runner.specs.Arrays.{arrays_from, serve_on, opens_on, left_on, end_on, slot_end_on, after_on, home_in, home_on, ready_on, with_held, before_on, waiting_on}
 use Rattle.runner.proofs.Held.{each_same, each_less}
 use Rattle.runner.proofs.Trace.{Room, AtLine, NextOf, left_ends, due_taken}
 use Rattle.runner.proofs.Settled.{Idles, Settled, settled_each, settled_home}
@@ -65,13 +67,13 @@ no_bits : (d : ℕ) → bit d 0 ≡ 0
 no_bits d = ap (λ y. y % 2) (zero-div (2 ^ d))
 
 -- what waits of an accelerator is what waits under its own port
-own_waiting : (t : Tree) (w : List ℕ) → tree_keeps t ≡ true → TableOf t w → (s : State) (c v : List ℕ) → Counted t (waiting_of s) c v
-    → (a : ℕ) → a < t.accs → get_or c (get_or (own_ports w) (a % 32) 0 % 120) 0 ≡ waiting_of s a
+own_waiting : (t : Tree) (w : Table) → tree_keeps t ≡ true → TableOf t w → (s : State) (c v : List ℕ) → Counted t (waiting_of s) c v
+    → (a : ℕ) → a < t.accs → get_or c (get_or w.own_port (a % 32) 0 % 120) 0 ≡ waiting_of s a
 own_waiting t w k T s c v C a l =
     let S = sound t k in
     let i : a % 32 ≡ a = omega (arith, S.most_accs) in
     let port : port_number (home_of t a) (home_port_of t a) < 120 = omega (arith, S.home a l, S.home_port a l, S.most_ints) in
-    ap (λ (b : ℕ). get_or c (get_or (own_ports w) b 0 % 120) 0) i
+    ap (λ (b : ℕ). get_or c (get_or w.own_port b 0 % 120) 0) i
     ∙ ap (λ (p : ℕ). get_or c (p % 120) 0) (T.own a (omega (arith, S.most_accs)))
     ∙ ap (λ (p : ℕ). get_or c p 0) (mod-eq_of_lt port)
     ∙ C.count (home_of t a) (home_port_of t a) (S.home a l) (S.home_port a l)
@@ -86,7 +88,7 @@ pub record Shows (t : Tree) (c : Channel) (s : List ℕ) (z : State) (bs : List 
   pub settled : e.opened ≡ false → Settled t z d.held (home_in (delay_of t) bs)
 
 -- what a run does not change: w is a table of t, and k the set of its accelerators
-pub record Fixed (t : Tree) (w : List ℕ) (k : ℕ) : Type 0 where
+pub record Fixed (t : Tree) (w : Table) (k : ℕ) : Type 0 where
   pub rules : tree_keeps t ≡ true
   pub table : TableOf t w
   pub accelerators : (a : ℕ) → is_in k a ≡ ltb a t.accs
@@ -100,10 +102,10 @@ pub record Walk (t : Tree) (c : Channel) (s : List ℕ) (Q : Run → Type 0) (bs
   pub holds : Q (run_of s state d x)
 
 -- a run begins with nothing waiting, admitted or held, the first line next, as if a window had just opened
-pub walk_start : (t : Tree) (c : Channel) (s l o v : List ℕ) (f : State) (Q : Run → Type 0) → tree_keeps t ≡ true → f ≡ fresh_state t c → Accepts s 0
-    → l ≡ f.last → o ≡ replicate 15 0 → v ≡ replicate 15 0 → Q (start t c (left_at s 0))
-    → Walk t c s Q [] (arrays (replicate 32 0) (replicate 32 0) (replicate 32 0) (replicate 120 0) v l o) (record { at = 0; due = 0 }) (end_on 255 true t.bus.window) 0
-walk_start t c s l o v f Q k e A el eo ev q = record {
+pub walk_start : (t : Tree) (c : Channel) (s : List ℕ) (f : State) (d : Arrays) (Q : Run → Type 0) → tree_keeps t ≡ true → f ≡ fresh_state t c → Accepts s 0
+    → d ≡ arrays_from f.last → Q (start t c (left_at s 0))
+    → Walk t c s Q [] d (record { at = 0; due = 0 }) (end_on 255 true t.bus.window) 0
+walk_start t c s f d Q k e A i q = subst (λ (b : Arrays). Walk t c s Q [] b (record { at = 0; due = 0 }) (end_on 255 true t.bus.window) 0) (sym i) (record {
   state = fresh_state t c;
   shows = record {
     stored = record {
@@ -113,9 +115,9 @@ walk_start t c s l o v f Q k e A el eo ev q = record {
       outstanding = λ a _. ap (λ (h : ℕ). get_or (set zero_counts h (get_or zero_counts h 0 - 1)) a 0) (ago_none (delay_of t + 1))
           ∙ ap (λ (l : List ℕ). get_or l a 0) (set_out zero_counts 255 0 (lit< tt)) ∙ zeros 32 a ∙ sym (none a);
       admitted = refl;
-      last = el ∙ ap (λ (x : State). x.last) e;
-      allowance = eo;
-      counts = subst (Counted t _ (replicate 120 0)) (sym ev) (counted_none t (sound t k) _ (λ a _. zeros 32 a));
+      last = ap (λ (x : State). x.last) e;
+      allowance = refl;
+      counts = counted_none t (sound t k) _ (λ a _. zeros 32 a);
     };
     line = record { accepts = A; room = λ a. omega (arith, zeros 32 a); due = omega arith };
     past = past_none t (fresh_state t c) (λ a d. ap (bit d) (zeros 32 a) ∙ no_bits d) (omega (arith, (sound t k).most_accs));
@@ -124,7 +126,7 @@ walk_start t c s l o v f Q k e A el eo ev q = record {
   slot = refl;
   left = left_first t.bus.window (sound t k).window;
   holds = q;
-}
+})
   where
     zero_counts : List ℕ
     zero_counts = replicate 32 0
@@ -137,12 +139,12 @@ module _ (t : Tree) (c : Channel) (s : List ℕ) (z : State) (bs : List ℕ) (d 
   run = run_of s z d x
 
   -- the test before each slot is the definition's
-  shows_done : (b : Bool) → b ≡ (eqb x.at (length s) && none_held d.held && eqb (get_or d.live 0 0) 0) → b ≡ is_done run
+  shows_done : (b : Bool) → b ≡ (eqb x.at (length s) && none_held d.held && eqb (get_or d.ports.live 0 0) 0) → b ≡ is_done run
   shows_done b q =
       q ∙ ap₂ (λ (y z : Bool). y && none_held d.held && z) (left_ends s x.at H.line.accepts)
-      (live_none t z H.stored.rules d.under d.live H.stored.counts)
+      (live_none t z H.stored.rules d.ports.under d.ports.live H.stored.counts)
 
-  module _ (w : List ℕ) (k : ℕ) (F : Fixed t w k) (L : LimitsOf t c w) (n : ℕ) (N : z.slot ≡ n) where
+  module _ (w : Table) (k : ℕ) (F : Fixed t w k) (L : LimitsOf t c w) (n : ℕ) (N : z.slot ≡ n) where
     abbrev due : List ℕ
     due = (due_on n s x d.held).held
 
@@ -206,8 +208,8 @@ module _ (t : Tree) (c : Channel) (s : List ℕ) (z : State) (bs : List ℕ) (d 
     mid_slot = each_same (λ (y : State). y.slot) t (λ y a. (offer_others t y a).slot) t.accs (with_due run) ∙ N
 
     -- what waits then of an accelerator stands under its own port
-    mid_waiting : (a : ℕ) → a < t.accs → waiting_on w before.under a ≡ waiting_of mid a
-    mid_waiting = own_waiting t w F.rules F.table mid before.under before.live before_shown.stored.counts
+    mid_waiting : (a : ℕ) → a < t.accs → waiting_on w before.ports.under a ≡ waiting_of mid a
+    mid_waiting = own_waiting t w F.rules F.table mid before.ports.under before.ports.live before_shown.stored.counts
 
     -- where no window has opened and no line is due, nothing is admitted but of the one whose answer comes home
     mid_same : e.opened ≡ false → n < x.due → (a : ℕ) → a < t.accs → (a ≡ home → ⊥) → waiting_of mid a ≡ waiting_of z a
@@ -382,12 +384,12 @@ module _ (t : Tree) (c : Channel) (s : List ℕ) (z : State) (bs : List ℕ) (d 
       }
 
 -- the test before each slot, and one slot, for any loop over a run
-module _ (t : Tree) (c : Channel) (w : List ℕ) (k : ℕ) (s : List ℕ) (F : Fixed t w k) (L : LimitsOf t c w) (Q : Run → Type 0) (bs : List ℕ) (d : Arrays) (x : NextLine) (e : SlotEnd)
+module _ (t : Tree) (c : Channel) (w : Table) (k : ℕ) (s : List ℕ) (F : Fixed t w k) (L : LimitsOf t c w) (Q : Run → Type 0) (bs : List ℕ) (d : Arrays) (x : NextLine) (e : SlotEnd)
     (n : ℕ) (G : Walk t c s Q bs d x e n) where
   abbrev pub here : Run
   here = run_of s G.state d x
 
-  pub walk_done : (b : Bool) → b ≡ (eqb x.at (length s) && none_held d.held && eqb (get_or d.live 0 0) 0) → b ≡ is_done here
+  pub walk_done : (b : Bool) → b ≡ (eqb x.at (length s) && none_held d.held && eqb (get_or d.ports.live 0 0) 0) → b ≡ is_done here
   walk_done = shows_done t c s G.state bs d x e G.shows
 
   -- the line, the arrays and the slot's end are those of the two calls
@@ -416,9 +418,9 @@ module _ (t : Tree) (c : Channel) (w : List ℕ) (k : ℕ) (s : List ℕ) (F : F
   -- before it, once the offers are made: what waits of an accelerator stands under its own port, and is no less than before them; the same,
   -- where no window has opened and no line is due, but for the one whose answer comes home
   pub walk_offered : (mid : Arrays) → mid ≡ before_on s n x e.opened k (home_in (delay_of t) bs) w d → (a : ℕ) → a < t.accs
-      → waiting_on w mid.under a ≡ waiting_of (before_slot t here).state a
+      → waiting_on w mid.ports.under a ≡ waiting_of (before_slot t here).state a
   walk_offered mid q a l =
-      ap (λ (y : Arrays). waiting_on w y.under a) q ∙ mid_waiting t c s G.state bs d x e G.shows w k F L n G.slot a l
+      ap (λ (y : Arrays). waiting_on w y.ports.under a) q ∙ mid_waiting t c s G.state bs d x e G.shows w k F L n G.slot a l
 
   pub walk_raises : (a : ℕ) → waiting_of G.state a ≤ waiting_of (before_slot t here).state a
   walk_raises = each_raises t t.accs (with_due here)
@@ -429,7 +431,7 @@ module _ (t : Tree) (c : Channel) (w : List ℕ) (k : ℕ) (s : List ℕ) (F : F
 
   -- after it what waits of an accelerator stands under its own port
   pub walk_waiting : (x₁ : NextLine) (e₂ : SlotEnd) (d₂ : Arrays) → Step x₁ e₂ d₂ → n < last_slot → (a : ℕ) → a < t.accs
-      → get_or d₂.under (get_or (own_ports w) (a % 32) 0 % 120) 0 ≡ waiting_of (next t here).state a
+      → get_or d₂.ports.under (get_or w.own_port (a % 32) 0 % 120) 0 ≡ waiting_of (next t here).state a
   walk_waiting x₁ e₂ d₂ S g a l =
       let W = walk_next x₁ e₂ d₂ S g _ refl (λ (r : Run). r ≡ next t here) (λ _. refl) in
-      own_waiting t w F.rules F.table W.state d₂.under d₂.live W.shows.stored.counts a l ∙ ap (λ (r : Run). waiting_of r.state a) W.holds
+      own_waiting t w F.rules F.table W.state d₂.ports.under d₂.ports.live W.shows.stored.counts a l ∙ ap (λ (r : Run). waiting_of r.state a) W.holds

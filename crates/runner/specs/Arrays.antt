@@ -1,5 +1,6 @@
 -- One slot of a run on the arrays that it holds in place of a state: what the inner functions come to on any arrays.
 --
+-- arrays_from l         the arrays of a run that begins from the last ports l: nothing waits, is admitted or is held
 -- Slot                  a slot's byte and the arrays after it; slot_on b d: these two
 -- chosen_on w d         the choice from the root, by the table w of the configuration
 -- with_ports p d        the arrays d with what is kept of the ports, p
@@ -23,12 +24,18 @@
 -- waiting_on w u a      how many transactions of accelerator a wait: what u, the counts of the ports, has for its own port
 use Rattle.std.specs.Prelude.{ℕ, ◌+◌, ◌-◌, ◌%◌, Bool, ◌&&◌, ◌||◌, List, eqb, ltb, get_or, length, set, replicate}
 use Rattle.folds.specs.Fold.{pick}
-use Rattle.counts.specs.Table.{own_ports}
-use Rattle.counts.specs.Choice.{Ports, ports, Choice, choose_on}
-use Rattle.admit.specs.Admitting.{Arrays, is_in, offers_before}
+use Rattle.counts.specs.declared.Table.{Table}
+use Rattle.counts.specs.declared.Ports.{Ports}
+use Rattle.counts.specs.Choice.{ports, Choice, choose_on}
+use Rattle.admit.specs.declared.Arrays.{Arrays}
+use Rattle.admit.specs.Admitting.{arrays, is_in, offers_before}
 use Rattle.runner.specs.declared.NextLine.{NextLine}
 use Rattle.runner.specs.declared.SlotEnd.{SlotEnd}
 use Rattle.runner.specs.Due.{due_on}
+
+abbrev pub arrays_from : List ℕ → Arrays
+arrays_from l =
+    arrays (replicate 32 0) (replicate 32 0) (replicate 32 0) (ports (replicate 120 0) (replicate 15 0) l (replicate 15 0))
 
 pub record Slot : Type 0 where
   pub byte : ℕ
@@ -37,24 +44,15 @@ pub record Slot : Type 0 where
 abbrev pub slot_on : ℕ → Arrays → Slot
 slot_on b d = record { byte = b; arrays = d }
 
-abbrev pub chosen_on : List ℕ → Arrays → Choice
-chosen_on w d = choose_on 4 w 0 (ports d.under d.live d.last d.allowance)
+abbrev pub chosen_on : Table → Arrays → Choice
+chosen_on w d = choose_on 4 w 0 d.ports
 
 abbrev pub with_ports : Ports → Arrays → Arrays
-with_ports p d =
-    record {
-      outstanding = d.outstanding;
-      admitted = d.admitted;
-      held = d.held;
-      under = p.under;
-      live = p.live;
-      last = p.last;
-      allowance = p.allowance;
-    }
+with_ports p d = arrays d.outstanding d.admitted d.held p
 
-unfoldable pub serve_on : List ℕ → Arrays → Slot
+unfoldable pub serve_on : Table → Arrays → Slot
 serve_on w d =
-    pick (eqb (get_or d.live 0 0) 0) (slot_on 255 d) (slot_on (chosen_on w d).served (with_ports (chosen_on w d).ports d))
+    pick (eqb (get_or d.ports.live 0 0) 0) (slot_on 255 d) (slot_on (chosen_on w d).served (with_ports (chosen_on w d).ports d))
 
 abbrev pub open_on : Bool → Arrays → Arrays
 open_on b d =
@@ -62,10 +60,7 @@ open_on b d =
       outstanding = d.outstanding;
       admitted = pick b (replicate 32 0) d.admitted;
       held = d.held;
-      under = d.under;
-      live = d.live;
-      last = d.last;
-      allowance = d.allowance;
+      ports = d.ports;
     }
 
 abbrev pub opens_on : ℕ → Bool
@@ -77,10 +72,10 @@ left_on p m = pick (opens_on m) p (m - 1)
 abbrev pub end_on : ℕ → Bool → ℕ → SlotEnd
 end_on x b m = record { served = x; opened = b; left = m }
 
-abbrev pub slot_end_on : List ℕ → (p m : ℕ) → Arrays → SlotEnd
+abbrev pub slot_end_on : Table → (p m : ℕ) → Arrays → SlotEnd
 slot_end_on w p m d = end_on (serve_on w d).byte (opens_on m) (left_on p m)
 
-abbrev pub after_on : List ℕ → ℕ → Arrays → Arrays
+abbrev pub after_on : Table → ℕ → Arrays → Arrays
 after_on w m d = open_on (opens_on m) (serve_on w d).arrays
 
 abbrev pub ago_in : ℕ → List ℕ → ℕ
@@ -95,10 +90,7 @@ home_on h d =
       outstanding = set d.outstanding h (get_or d.outstanding h 0 - 1);
       admitted = d.admitted;
       held = d.held;
-      under = d.under;
-      live = d.live;
-      last = d.last;
-      allowance = d.allowance;
+      ports = d.ports;
     }
 
 abbrev pub ready_on : Bool → (k z : ℕ) → ℕ → Bool
@@ -110,15 +102,12 @@ with_held h d =
       outstanding = d.outstanding;
       admitted = d.admitted;
       held = h;
-      under = d.under;
-      live = d.live;
-      last = d.last;
-      allowance = d.allowance;
+      ports = d.ports;
     }
 
-abbrev pub before_on : (s : List ℕ) (n : ℕ) → NextLine → Bool → (k h : ℕ) → List ℕ → Arrays → Arrays
+abbrev pub before_on : (s : List ℕ) (n : ℕ) → NextLine → Bool → (k h : ℕ) → Table → Arrays → Arrays
 before_on s n x b k h w d =
     offers_before w h (ready_on b k (due_on n s x d.held).accelerators) (with_held (due_on n s x d.held).held (home_on h d))
 
-abbrev pub waiting_on : List ℕ → List ℕ → ℕ → ℕ
-waiting_on w u a = get_or u (get_or (own_ports w) (a % 32) 0 % 120) 0
+abbrev pub waiting_on : Table → List ℕ → ℕ → ℕ
+waiting_on w u a = get_or u (get_or w.own_port (a % 32) 0 % 120) 0

@@ -10,13 +10,11 @@
 -- due_from k n s at h z  the lines of trace s that are due in slot n, at most k of them, from the place `at` on, added to h, and their
 --                        accelerators put into z; the walk ends where no line of a request begins
 -- due_on n s x h         the same from the next line x, which is not looked at before it is due
-use Rattle.std.specs.Prelude.{ℕ, zero, suc, ◌+◌, ◌-◌, ◌^◌, min, List, ltb, length, set}
+use Rattle.std.specs.Prelude.{ℕ, zero, suc, ◌+◌, ◌-◌, ◌^◌, min, List, ltb, length, set, Option, Some, None}
 use Rattle.std.specs.Int.Bits.{bit_or}
 use Rattle.folds.specs.Fold.{pick}
 use Rattle.machine.specs.Machine.{last_slot}
 use Rattle.trace.specs.declared.Request.{Request}
-use Rattle.trace.specs.declared.NextRequest.{NextRequest}
-use Rattle.trace.specs.declared.NextRequest.TheVariants.{Done, Due}
 use Rattle.trace.specs.TraceFile.{request_at}
 use Rattle.runner.specs.declared.NextLine.{NextLine}
 use Rattle.runner.specs.Offers.{held_of}
@@ -38,9 +36,9 @@ hold_on h r = set h r.accelerator (min 4294967295 (held_of h r.accelerator + r.c
 abbrev pub join_on : ℕ → Request → ℕ
 join_on z r = bit_or z (2 ^ r.accelerator)
 
-abbrev pub on_request : NextRequest → Taken → (Request → ℕ → Taken) → Taken
-on_request Done x f = x
-on_request (Due r p) x f = f r p
+abbrev pub on_request : Option (Request × ℕ) → Taken → (Request → ℕ → Taken) → Taken
+on_request None x f = x
+on_request (Some (r, p)) x f = f r p
 
 unfoldable pub due_from : ℕ → ℕ → List ℕ → ℕ → List ℕ → ℕ → Taken
 due_from zero n s at h z = taken h z (line_at at last_slot)

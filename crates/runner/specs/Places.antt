@@ -5,7 +5,7 @@
 use Rattle.std.specs.Prelude.{ℕ, ◌≤◌, List, ◌≡◌, length, drop}
 use Rattle.text.specs.Text.{lines, unended}
 use Rattle.trace.specs.declared.Request.{Request}
-use Rattle.lines.specs.declared.FileAnswer.TheVariants.{Accepted}
+use Rattle.lines.specs.Answer.{Accepted}
 use Rattle.trace.specs.TraceFile.{read_offers, requests}
 
 abbrev pub left_at : List ℕ → ℕ → List Request

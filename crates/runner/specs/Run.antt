@@ -33,8 +33,7 @@ use Rattle.rules.specs.Rules.{tree_keeps}
 use Rattle.model.specs.Answer.{number_of}
 use Rattle.text.specs.Text.{lines}
 use Rattle.trace.specs.declared.Request.{Request}
-use Rattle.lines.specs.declared.FileAnswer.{FileAnswer}
-use Rattle.lines.specs.declared.FileAnswer.TheVariants.{Accepted, Refused, Broken}
+use Rattle.lines.specs.Answer.{FileAnswer, Accepted, Refused, Broken}
 use Rattle.trace.specs.TraceFile.{read_trace, requests}
 use Rattle.machine.specs.Machine.{Answer, admitted, served, idle, refused, fresh_state, none_waits, slotted}
 use Rattle.runner.specs.Offers.{held_of, Offering, offering, offer_each}

@@ -30,8 +30,7 @@ use Rattle.model.specs.Tree.{waiting_of}
 use Rattle.rules.specs.Rules.{tree_keeps}
 use Rattle.text.specs.Text.{lines}
 use Rattle.trace.specs.declared.Request.{Request}
-use Rattle.lines.specs.declared.FileAnswer.{FileAnswer}
-use Rattle.lines.specs.declared.FileAnswer.TheVariants.{Accepted, Refused, Broken}
+use Rattle.lines.specs.Answer.{FileAnswer, Accepted, Refused, Broken}
 use Rattle.trace.specs.TraceFile.{read_trace, requests}
 use Rattle.runner.specs.Run.{Run, before_slot, start, run_for}
 use Rattle.runner.specs.Slots.{standing, bytes_before}

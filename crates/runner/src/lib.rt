@@ -14,10 +14,10 @@ ghost use Rattle.runner.specs.Wait.{no_wait, waits_after, used_by, told_of};
 ghost use Rattle.runner.specs.Places.{left_at, Accepts};
 
 use counts::tables::table_of;
-use lines::FileAnswer;
-use machine::{FreshAnswer, fresh};
+use lines::FileError;
+use machine::fresh;
 use model::{Channel, Refusal, State, Tree};
-use steps::{after_slot, before_slot, below, home_of, is_done, turns_of};
+use steps::{after_slot, arrays_from, before_slot, below, home_of, is_done};
 use trace::read_requests;
 use waiting::{number_asked, tell};
 
@@ -98,7 +98,7 @@ fn ended(done: bool, used: u32) -> RunAnswer
 
 // The run of an accepted trace on a channel, one byte a slot, until nothing is left or the buffer is full, and what it tells of transaction k of
 // accelerator a, of none if k is 0. In place of a state it keeps what is outstanding, admitted and held of each accelerator, what
-// waits under each port, the turns and the live ports, and the next line's slot. The slot count is the number of bytes used, and these
+// is kept of the ports, and the next line's slot. The slot count is the number of bytes used, and these
 // bytes say whose answer comes home.
 fn run_slots(
     t: Tree,
@@ -115,10 +115,7 @@ fn run_slots(
     ensures wait { wait_of result.wait ≡ waits_after t (start t channel (left_at trace.now 0)) (used_by t channel (left_at trace.now 0) (length out.old)) a k }
 {
     let table = table_of(t, channel);
-    let last = fresh.last;
-    let mut blocks = [0u32; 96];
-    let mut under = [0u16; 120];
-    let mut turns = turns_of(last);
+    let mut arrays = arrays_from(fresh.last);
     let mut line = NextLine { at: 0, due: 0 };
     let accs = below(t.accs);
     let window = t.bus.window as u32;
@@ -133,7 +130,7 @@ fn run_slots(
         count: 0,
     };
     let mut used: usize = 0;
-    while used < out.len() && !is_done(trace, line.at, &blocks, &turns) {
+    while used < out.len() && !is_done(trace, line.at, &arrays) {
         line = before_slot(
             trace,
             used as u32,
@@ -142,24 +139,15 @@ fn run_slots(
             accs,
             home_of(&out[0..used], t.bus.delay),
             &table,
-            &mut blocks,
-            &mut under,
-            &mut turns,
+            &mut arrays,
         );
-        past = after_slot(
-            &table,
-            window,
-            past.left,
-            &mut blocks,
-            &mut under,
-            &mut turns,
-        );
+        past = after_slot(&table, window, past.left, &mut arrays);
         out[used] = past.served;
-        told = tell(told, k, a, used as u32, &table, &under, past.served);
+        told = tell(told, k, a, used as u32, &table, &arrays.ports, past.served);
         used += 1;
     }
     RunWait {
-        answer: ended(is_done(trace, line.at, &blocks, &turns), used as u32),
+        answer: ended(is_done(trace, line.at, &arrays), used as u32),
         wait: told,
     }
 }
@@ -171,21 +159,19 @@ pub fn run_wait(t: Tree, channel: Channel, trace: &[u8], a: u8, k: u32, out: &mu
     ensures bytes { out.new ≡ buffer_after t channel trace.now out.old }
     ensures wait { wait_of result.wait ≡ told_of t channel trace.now a k (length out.old) }
 {
-    let start = fresh(t, channel);
-    let started = start.answer;
-    let FreshAnswer::Started = started else {
+    let Ok(start) = fresh(t, channel) else {
         return untold(RunAnswer::Broken);
     };
     if 65536 < out.len() {
         return untold(RunAnswer::Refused(Refusal::Limit, 0));
     }
     match read_requests(t.accs, trace) {
-        FileAnswer::Accepted => {
+        Ok(()) => {
             let number = number_asked(t.accs, a, k);
-            run_slots(t, channel, start.state, trace, a, number, out)
+            run_slots(t, channel, start, trace, a, number, out)
         }
-        FileAnswer::Refused(why, line) => untold(RunAnswer::Refused(why, line)),
-        FileAnswer::Broken => untold(RunAnswer::Broken),
+        Err(FileError::Refused(why, line)) => untold(RunAnswer::Refused(why, line)),
+        Err(FileError::Broken) => untold(RunAnswer::Broken),
     }
 }
 

@@ -1,18 +1,15 @@
 // What a run does in one slot beside the offers: who comes home, the lines due, the service, and the window's end.
-ghost use Rattle.std.specs.Prelude.{◌≡◌, ◌&&◌, ℕ, ◌<◌, ◌+◌, ◌-◌, ◌^◌, min, eqb, length, get_or, set, take, drop, replicate, List};
-ghost use Rattle.counts.specs.Counts.{lasts, allowances, lives};
-ghost use Rattle.admit.specs.Admitting.{outstandings, admitteds, helds, arrays_of, is_in};
-ghost use Rattle.folds.specs.Fold.{pick};
+ghost use Rattle.std.specs.Prelude.{◌≡◌, ◌&&◌, ℕ, ◌+◌, ◌-◌, ◌^◌, min, eqb, length, get_or, set};
+ghost use Rattle.admit.specs.Admitting.{is_in};
 ghost use Rattle.runner.specs.Run.{none_held};
 ghost use Rattle.runner.specs.Due.{taken, due_on};
-ghost use Rattle.runner.specs.Arrays.{slot_on, serve_on, left_on, slot_end_on, after_on, home_in, ready_on, before_on};
+ghost use Rattle.runner.specs.Arrays.{arrays_from, slot_on, serve_on, left_on, slot_end_on, after_on, home_in, ready_on, before_on};
 
 use crate::{DueLines, IDLE, NextLine, SlotEnd};
-use admit::{ADMITTED, HELD, offer_each};
-use counts::LIVE;
-use counts::choice::choose;
+use admit::Arrays;
+use counts::{Ports, Table};
 use rules::less_one;
-use trace::{NextRequest, request_at};
+use trace::request_at;
 
 // What an accelerator holds with a line's count added: no more than the type has.
 fn more_held(held: u32, count: u8) -> u32
@@ -26,9 +23,8 @@ fn more_held(held: u32, count: u8) -> u32
 }
 
 // Adds the lines due in this slot to the held counts.
-fn take_due(trace: &[u8], slot: u32, line: NextLine, blocks: &mut [u32; 96]) -> DueLines
-    ensures due { taken (helds blocks.new) result.accelerators result.next ≡ due_on slot trace.now line (helds blocks.old) }
-    ensures rest { take 64 blocks.new ≡ take 64 blocks.old }
+fn take_due(trace: &[u8], slot: u32, line: NextLine, held: &mut [u32; 32]) -> DueLines
+    ensures { taken held.new result.accelerators result.next ≡ due_on slot trace.now line held.old }
 {
     let mut accelerators: u32 = 0;
     if slot < line.due {
@@ -39,7 +35,7 @@ fn take_due(trace: &[u8], slot: u32, line: NextLine, blocks: &mut [u32; 96]) -> 
     }
     let mut place = line.at;
     while place < trace.len() {
-        let NextRequest::Due(request, next) = request_at(trace, place) else {
+        let Some((request, next)) = request_at(trace, place) else {
             return DueLines {
                 next: NextLine {
                     at: place,
@@ -57,8 +53,8 @@ fn take_due(trace: &[u8], slot: u32, line: NextLine, blocks: &mut [u32; 96]) -> 
                 accelerators: accelerators,
             };
         }
-        let a = HELD + request.accelerator as usize;
-        blocks[a] = more_held(blocks[a], request.count);
+        let a = request.accelerator as usize;
+        held[a] = more_held(held[a], request.count);
         accelerators = accelerators | (1 << request.accelerator);
         place = next;
     }
@@ -71,63 +67,34 @@ fn take_due(trace: &[u8], slot: u32, line: NextLine, blocks: &mut [u32; 96]) -> 
     }
 }
 
-fn none_held(blocks: &[u32; 96]) -> bool
-    ensures { result ≡ none_held (helds blocks.now) }
+fn none_held(held: &[u32; 32]) -> bool
+    ensures { result ≡ none_held held.now }
 {
     let mut ok = true;
-    let mut a: usize = 0;
-    while a < 32 {
-        ok = ok & (blocks[HELD + a] == 0);
-        a += 1;
+    for h in held {
+        ok &= *h == 0;
     }
     ok
 }
 
 // No line left, none held, none waiting: nothing waits exactly if no port of the root is live.
-pub fn is_done(trace: &[u8], at: usize, blocks: &[u32; 96], turns: &[u8; 45]) -> bool
-    ensures { result ≡ (eqb at (length trace.now) && none_held (helds blocks.now) && eqb (get_or (lives turns.now) 0 0) 0) }
+pub fn is_done(trace: &[u8], at: usize, arrays: &Arrays) -> bool
+    ensures { result ≡ (eqb at (length trace.now) && none_held arrays.now.held && eqb (get_or arrays.now.ports.live 0 0) 0) }
 {
-    if turns[LIVE] != 0 {
+    if arrays.ports.live[0] != 0 {
         return false;
     }
-    (at == trace.len()) & none_held(blocks)
+    (at == trace.len()) && none_held(&arrays.held)
 }
 
 // Serves the transaction whose turn it is, and answers its accelerator, or that the slot is idle. It is outstanding as before.
-fn serve(table: &[u16; 246], under: &mut [u16; 120], turns: &mut [u8; 45]) -> u8
-    ensures { (b : List ℕ) → slot_on result (arrays_of b under.new turns.new)
-        ≡ serve_on table.now (arrays_of b under.old turns.old) }
+fn serve(table: &Table, arrays: &mut Arrays) -> u8
+    ensures { slot_on result arrays.new ≡ serve_on table.now arrays.old }
 {
-    if turns[LIVE] == 0 {
+    if arrays.ports.live[0] == 0 {
         return IDLE;
     }
-    choose(table, 4, 0, under, turns)
-}
-
-// The counts with no transaction admitted.
-fn without_admitted(b: [u32; 96]) -> [u32; 96]
-    ensures outstanding { outstandings result ≡ outstandings b }
-    ensures admitted { admitteds result ≡ replicate 32 0 }
-    ensures held { helds result ≡ helds b }
-{
-    let mut r = b;
-    let mut a: usize = 0;
-    while a < 32 {
-        r[ADMITTED + a] = 0;
-        a += 1;
-    }
-    r
-}
-
-// Where a window opens the admitted counts return to 0.
-fn open_window(opens: bool, blocks: &mut [u32; 96])
-    ensures outstanding { outstandings blocks.new ≡ outstandings blocks.old }
-    ensures admitted { admitteds blocks.new ≡ pick opens (replicate 32 0) (admitteds blocks.old) }
-    ensures held { helds blocks.new ≡ helds blocks.old }
-{
-    if opens {
-        *blocks = without_admitted(*blocks);
-    }
+    arrays.ports.choose(table, 4, 0)
 }
 
 // How many slots of the window are left after one of these: a whole window where it was the last.
@@ -153,14 +120,12 @@ pub fn home_of(bytes: &[u8], delay: u8) -> u8
 }
 
 // One transaction of this accelerator stops being outstanding.
-fn come_home(home: u8, blocks: &mut [u32; 96])
-    ensures outstanding { outstandings blocks.new
-        ≡ set (outstandings blocks.old) home (get_or (outstandings blocks.old) home 0 - 1) }
-    ensures rest { drop 32 blocks.new ≡ drop 32 blocks.old }
+fn come_home(home: u8, outstanding: &mut [u32; 32])
+    ensures { outstanding.new ≡ set outstanding.old home (get_or outstanding.old home 0 - 1) }
 {
     let i = home as usize;
     if i < 32 {
-        blocks[i] = less_one(blocks[i]);
+        outstanding[i] = less_one(outstanding[i]);
     }
 }
 
@@ -193,45 +158,29 @@ pub fn before_slot(
     opened: bool,
     accs: u32,
     home: u8,
-    table: &[u16; 246],
-    blocks: &mut [u32; 96],
-    under: &mut [u16; 120],
-    turns: &mut [u8; 45],
+    table: &Table,
+    arrays: &mut Arrays,
 ) -> NextLine
-    ensures arrays { arrays_of blocks.new under.new turns.new
-        ≡ before_on trace.now slot line opened accs home table.now (arrays_of blocks.old under.old turns.old) }
-    ensures line { result ≡ (due_on slot trace.now line (helds blocks.old)).line }
+    ensures arrays { arrays.new ≡ before_on trace.now slot line opened accs home table.now arrays.old }
+    ensures line { result ≡ (due_on slot trace.now line arrays.old.held).line }
 {
-    come_home(home, blocks);
-    let due = take_due(trace, slot, line, blocks);
-    offer_each(
-        home,
-        ready(opened, accs, due.accelerators),
-        table,
-        blocks,
-        under,
-        turns,
-    );
+    come_home(home, &mut arrays.outstanding);
+    let due = take_due(trace, slot, line, &mut arrays.held);
+    arrays.offer_each(home, ready(opened, accs, due.accelerators), table);
     due.next
 }
 
 // One slot is run once the offers are made: the service, and the end of a window of which so many slots are left, this one
-// counted.
-pub fn after_slot(
-    table: &[u16; 246],
-    window: u32,
-    left: u32,
-    blocks: &mut [u32; 96],
-    under: &mut [u16; 120],
-    turns: &mut [u8; 45],
-) -> SlotEnd
-    ensures end { result ≡ slot_end_on table.now window left (arrays_of blocks.old under.old turns.old) }
-    ensures arrays { arrays_of blocks.new under.new turns.new
-        ≡ after_on table.now left (arrays_of blocks.old under.old turns.old) }
+// counted. Where a window opens the admitted counts return to 0.
+pub fn after_slot(table: &Table, window: u32, left: u32, arrays: &mut Arrays) -> SlotEnd
+    ensures end { result ≡ slot_end_on table.now window left arrays.old }
+    ensures arrays { arrays.new ≡ after_on table.now left arrays.old }
 {
-    let served = serve(table, under, turns);
+    let served = serve(table, arrays);
     let opened = left == 1;
-    open_window(opened, blocks);
+    if opened {
+        arrays.admitted = [0; 32];
+    }
     SlotEnd {
         served: served,
         opened: opened,
@@ -239,17 +188,19 @@ pub fn after_slot(
     }
 }
 
-// The turns with these last ports, no allowance and no live port.
-pub fn turns_of(last: [u8; 15]) -> [u8; 45]
-    ensures last { lasts result ≡ last }
-    ensures allowance { allowances result ≡ replicate 15 0 }
-    ensures live { lives result ≡ replicate 15 0 }
+// The arrays of a run that begins from these last ports: nothing waits, is admitted or is held.
+pub fn arrays_from(last: [u8; 15]) -> Arrays
+    ensures { result ≡ arrays_from last }
 {
-    let mut turns = [0u8; 45];
-    let mut j: usize = 0;
-    while j < 15 {
-        turns[j] = last[j];
-        j += 1;
+    Arrays {
+        outstanding: [0; 32],
+        admitted: [0; 32],
+        held: [0; 32],
+        ports: Ports {
+            under: [0; 120],
+            live: [0; 15],
+            last: last,
+            allowance: [0; 15],
+        },
     }
-    turns
 }

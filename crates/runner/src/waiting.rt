@@ -1,12 +1,12 @@
 // What a run tells of one transaction, slot by slot.
-ghost use Rattle.std.specs.Prelude.{◌≡◌, ◌≤◌, ◌<◌, ◌+◌, ◌%◌, eqb, leb, ltb, get_or};
-ghost use Rattle.counts.specs.Table.{own_ports};
+ghost use Rattle.std.specs.Prelude.{◌≡◌, ◌≤◌, ◌<◌, ◌+◌, eqb, leb, ltb};
 ghost use Rattle.folds.specs.Fold.{pick};
 ghost use Rattle.runner.specs.Wait.{least_of, tell_on};
+ghost use Rattle.runner.specs.Arrays.{waiting_on};
 ghost use Rattle.runner.specs.Answers.{wait_of};
 
 use crate::Wait;
-use counts::OWN_PORT;
+use counts::{Ports, Table};
 
 // The least number below n + 1 of which a test holds, by that below n and the test of n.
 fn least(least: u32, n: u32, holds: bool) -> u32
@@ -44,31 +44,23 @@ fn counted(count: u32, served: u8, a: u8) -> u32
 }
 
 // How many transactions of accelerator a wait: what waits under its own port.
-fn waiting_at(table: &[u16; 246], under: &[u16; 120], a: u8) -> u16
-    ensures { result ≡ get_or under.now (get_or (own_ports table.now) (a % 32) 0 % 120) 0 }
+fn waiting_at(table: &Table, ports: &Ports, a: u8) -> u16
+    ensures { result ≡ waiting_on table.now ports.now.under a }
 {
-    let port = table[OWN_PORT + (a % 32) as usize];
-    under[(port % 120) as usize]
+    let port = table.own_port[(a % 32) as usize];
+    ports.under[(port % 120) as usize]
 }
 
-// What a run tells of transaction k of accelerator a after one slot more, in which this one was served; `under` has what waits under
+// What a run tells of transaction k of accelerator a after one slot more, in which this one was served; `ports` has what waits under
 // each port then. Nothing is looked at where no number is asked.
-pub fn tell(
-    w: Wait,
-    k: u32,
-    a: u8,
-    slot: u32,
-    table: &[u16; 246],
-    under: &[u16; 120],
-    served: u8,
-) -> Wait
+pub fn tell(w: Wait, k: u32, a: u8, slot: u32, table: &Table, ports: &Ports, served: u8) -> Wait
     requires { (slot < 65536) × (w.count ≤ slot) }
-    ensures { wait_of result ≡ tell_on (wait_of w) k a slot (get_or under.now (get_or (own_ports table.now) (a % 32) 0 % 120) 0) served }
+    ensures { wait_of result ≡ tell_on (wait_of w) k a slot (waiting_on table.now ports.now.under a) served }
 {
     if k == 0 {
         return w;
     }
-    let waiting = waiting_at(table, under, a) as u32;
+    let waiting = waiting_at(table, ports, a) as u32;
     let count = counted(w.count, served, a);
     Wait {
         admission: least(w.admission, slot, reached(k, count, waiting)),

@@ -20,8 +20,7 @@ use Rattle.folds.proofs.Folds.{passed, clash, both, all_at}
 use Rattle.rules.proofs.Sound.{sound, kept_of, limit_none}
 use Rattle.text.specs.Text.{lines}
 use Rattle.trace.specs.declared.Request.{Request}
-use Rattle.lines.specs.declared.FileAnswer.{FileAnswer}
-use Rattle.lines.specs.declared.FileAnswer.TheVariants.{Accepted, Refused, Broken}
+use Rattle.lines.specs.Answer.{FileAnswer, Accepted, Refused, Broken}
 use Rattle.trace.specs.TraceFile.{read_trace, requests, total_for}
 use Rattle.machine.specs.Machine.{Answer, admitted, served, idle, refused, last_slot, fresh_state, none_waits, slotted}
 use Rattle.machine.specs.Calls.{Call, slot, state_after}

@@ -14,8 +14,7 @@ use Rattle.folds.specs.Fold.{pick}
 use Rattle.rules.specs.Rules.{tree_keeps}
 use Rattle.folds.proofs.Folds.{passed}
 use Rattle.text.specs.Text.{lines}
-use Rattle.lines.specs.declared.FileAnswer.{FileAnswer}
-use Rattle.lines.specs.declared.FileAnswer.TheVariants.{Accepted, Refused, Broken}
+use Rattle.lines.specs.Answer.{FileAnswer, Accepted, Refused, Broken}
 use Rattle.trace.specs.TraceFile.{read_trace, requests}
 use Rattle.machine.specs.Machine.{fresh_state}
 use Rattle.runner.specs.Run.{start, run_for, end_of, answered, ran_of}

@@ -10,17 +10,14 @@ ghost use Rattle.shares.specs.Shares.{counted, others_at, share_along, share_wit
 
 use model::access::{accelerator_at, interconnect_at, limit_of, weight_under};
 use model::{Channel, Tree};
-use rules::smaller;
 
 // How many transactions of each accelerator may be outstanding on a channel.
 fn limits(t: Tree, channel: Channel) -> [u8; 32]
     ensures { weight_in result ≡ limit_of t channel }
 {
     let mut table = [0u8; 32];
-    let mut i: usize = 0;
-    while i < 32 {
+    for i in 0..32usize {
         table[i] = limit_of(t, channel, i as u8);
-        i += 1;
     }
     table
 }
@@ -33,7 +30,7 @@ fn count_port(t: Tree, limits: [u8; 32], j: u8, p: u8, q: u8) -> u32
         return 0;
     }
     let x = interconnect_at(t, j);
-    smaller(x.granularity as u32, weight_under(t, limits, j, q))
+    u32::from(x.granularity).min(weight_under(t, limits, j, q))
 }
 
 // D at interconnect j for its port p.
@@ -41,10 +38,8 @@ fn others_at(t: Tree, limits: [u8; 32], j: u8, p: u8) -> u32
     ensures { (result ≡ others_at t (weight_in limits) j p) × (result ≤ 2040) }
 {
     let mut sum: u32 = 0;
-    let mut q: u8 = 0;
-    while q < 8 {
+    for q in 0..8 {
         sum += count_port(t, limits, j, p, q);
-        q += 1;
     }
     sum
 }

@@ -8,7 +8,7 @@ use native.Mathlib.Omega.{arith}
 use lib.Dec.{eqb}
 use borrow.Author.Tests.{le-leb, lt-leb, ne_eqb}
 use Rattle.folds.specs.Fold.{pick, within}
-use Rattle.placing.specs.declared.TreeRead.{TreeRead}
+use Rattle.placing.specs.Placing.{TreeRead}
 use Rattle.model.specs.declared.Tree.{Tree}
 use Rattle.model.specs.Tree.{beat_limit}
 use Rattle.rules.specs.Rules.{tree_keeps}

@@ -1,4 +1,3 @@
 pub mod Words
-pub mod Replies
 pub mod Texts
 pub mod Beyond

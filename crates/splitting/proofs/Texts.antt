@@ -10,11 +10,10 @@ use Rattle.folds.specs.Fold.{pick}
 use Rattle.folds.proofs.Folds.{picked}
 use Rattle.folds.proofs.Entries.{entries_at}
 use Rattle.put.specs.Page.{joined}
-use Rattle.lines.specs.declared.FileAnswer.{FileAnswer}
-use Rattle.lines.specs.declared.FileAnswer.TheVariants.{Accepted, Refused, Broken}
+use Rattle.lines.specs.Answer.{FileAnswer, Accepted, Refused, Broken}
 use Rattle.model.specs.declared.Tree.{Tree}
 use Rattle.model.specs.Tree.{beat_limit}
-use Rattle.placing.specs.declared.TreeRead.{TreeRead}
+use Rattle.placing.specs.Placing.{TreeRead}
 use Rattle.burst.specs.declared.Burst.{Burst}
 use Rattle.burst.specs.Burst.{Split, pieces, not_split, split_by, listed, start_of, beats_of, starts_after, beats_after}
 use Rattle.burst.proofs.Boards.{on_board}

@@ -10,7 +10,7 @@
 use Rattle.std.specs.Prelude.{ℕ, min, List, ◌++◌, get_or}
 use Rattle.text.specs.Write.{decimal_text}
 use Rattle.put.specs.Page.{bytes, field, ended, joined}
-use Rattle.placing.specs.declared.TreeRead.{TreeRead}
+use Rattle.placing.specs.Placing.{TreeRead}
 use Rattle.listing.specs.Listing.{refusal_text}
 use Rattle.burst.specs.declared.Burst.{Burst}
 use Rattle.burst.specs.Burst.{start_of, beats_of}

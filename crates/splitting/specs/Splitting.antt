@@ -18,10 +18,8 @@ use Rattle.folds.specs.Fold.{pick, within}
 use Rattle.model.specs.declared.Tree.{Tree as Plan}
 use Rattle.model.specs.Tree.{beat_limit}
 use Rattle.text.specs.Text.{decimal}
-use Rattle.lines.specs.declared.FileAnswer.{FileAnswer}
-use Rattle.lines.specs.declared.FileAnswer.TheVariants.{Accepted, Refused as FileRefused, Broken}
-use Rattle.lines.specs.Answer.{answer_number, answer_line}
-use Rattle.placing.specs.declared.TreeRead.{TreeRead}
+use Rattle.lines.specs.Answer.{FileAnswer, Accepted, Refused as FileRefused, Broken, answer_number, answer_line}
+use Rattle.placing.specs.Placing.{TreeRead}
 use Rattle.usage.specs.declared.NumberWord.{NumberWord}
 use Rattle.usage.specs.declared.NumberWord.TheVariants.{NoNumber, Number}
 use Rattle.usage.specs.Usage.{asks_help, help_asked, is_option, plain_number, address_asked}

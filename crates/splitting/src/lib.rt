@@ -5,6 +5,7 @@
 ghost use Rattle.std.specs.Prelude.{◌≡◌};
 ghost use Rattle.put.specs.Page.{Written};
 ghost use Rattle.put.specs.Texts.{Puts};
+ghost use Rattle.lines.specs.Answer.{file_error};
 ghost use Rattle.reader.specs.TreeFile.{read_tree};
 ghost use Rattle.usage.specs.Usage.{address_asked};
 ghost use Rattle.burst.specs.Burst.{split_by, starts_after, beats_after};
@@ -12,11 +13,11 @@ ghost use Rattle.burst.specs.Answers.{split_means};
 ghost use Rattle.splitting.specs.Splitting.{burst_asked, split_asked, burst_part, denied_part, reply_of, reply_in, tree_denied, reply_from, starts_from, beats_from};
 ghost use Rattle.splitting.specs.Lines.{piece_text, count_text, pieces_text, list_text, reply_text};
 
-use burst::{Burst, SplitAnswer};
-use lines::{FileAnswer, answer_line, answer_number};
+use burst::Burst;
+use lines::{FileError, answer_line, answer_number};
 use listing::refusal_text;
 use model::access::beat_limit;
-use model::{Tree, number};
+use model::{Refusal, Tree, number};
 use put::Text;
 use reader::read_tree;
 use usage::{NumberWord, address_asked, asks_help, help_asked, is_option, number_asked};
@@ -106,12 +107,12 @@ fn denied_part(limit: u32, b: Burst, number: u8) -> Part
 }
 
 // The answer for a tree that was read, where a burst has at most `limit` beats.
-fn reply_of(limit: u32, b: Burst, answer: SplitAnswer) -> Reply
+fn reply_of(limit: u32, b: Burst, answer: Result<u32, Refusal>) -> Reply
     ensures { result ≡ reply_of limit b (split_means answer) }
 {
     match answer {
-        SplitAnswer::Pieces(k) => Reply::Pieces(k),
-        SplitAnswer::Refused(r) => {
+        Ok(k) => Reply::Pieces(k),
+        Err(r) => {
             let n = number(r);
             Reply::Refused(denied_part(limit, b, n), n, 0)
         }
@@ -129,25 +130,23 @@ fn reply_in(t: Tree, b: Burst, starts: &mut [u32; 256], beats: &mut [u32; 256]) 
 }
 
 // The answer for a tree file that is refused.
-fn tree_denied(answer: FileAnswer) -> Reply
-    ensures { result ≡ tree_denied answer }
+fn tree_denied(error: FileError) -> Reply
+    ensures { result ≡ tree_denied (file_error error) }
 {
-    Reply::Refused(Part::Tree, answer_number(answer), answer_line(answer))
+    Reply::Refused(Part::Tree, answer_number(Err(error)), answer_line(Err(error)))
 }
 
 // Cuts a burst into pieces of the burst length of the tree that is read from `tree`: how many, and of each the start address and the
 // beats; the entries after them are 0. A refusal leaves both arrays as they were.
+#[tactic(auto, unfolding(crate::specs::Splitting::reply_from, crate::specs::Splitting::starts_from, crate::specs::Splitting::beats_from))]
 pub fn split_file(tree: &[u8], b: Burst, starts: &mut [u32; 256], beats: &mut [u32; 256]) -> Reply
     ensures answer { result ≡ reply_from (read_tree tree.now) b }
     ensures starts { starts.new ≡ starts_from (read_tree tree.now) b starts.old }
     ensures beats { beats.new ≡ beats_from (read_tree tree.now) b beats.old }
 {
-    let x = read_tree(tree);
-    let answer = x.answer;
-    match answer {
-        FileAnswer::Accepted => reply_in(x.tree, b, starts, beats),
-        FileAnswer::Refused(_, _) => tree_denied(answer),
-        FileAnswer::Broken => tree_denied(answer),
+    match read_tree(tree) {
+        Ok(t) => reply_in(t, b, starts, beats),
+        Err(error) => tree_denied(error),
     }
 }
 

@@ -1,6 +1,7 @@
 -- The code's way through a line of a trace, field by field in the file, gives what test 1 says of the line. A field that a tab or
 -- the LF ends is the first of the line's fields from there on; a line with another name, another count of fields or a field that is
 -- no number fails the test. By the laws of fields at a place, and by cases.
+use Rattle.std.specs.Prelude.{Some, None}
 use Prim.Native.Nat.{ℕ, suc, ◌+◌, ◌-◌, ◌≤◌, ◌<◌}
 use mathlib.Core.Bool.{Bool, true, false, ◌&&◌}
 use mathlib.Core.List.{List, [], ◌∷◌, map}
@@ -22,18 +23,17 @@ use Rattle.lines.specs.declared.Kind.TheVariants.{NoRecord, BusLine, IntLine, Ac
 use Rattle.lines.specs.declared.Line.{Line}
 use Rattle.lines.specs.Lines.{name_of, kind_of, named, push, pushed, line_with, line_from, line_of, value_at, shaped, limits_kept, in_trace}
 use Rattle.lines.proofs.Back.{pushed_kind, pushed_count, shape_count, name_exactly}
-use Rattle.trace.specs.declared.NumberAt.TheVariants.{NoNumber, NumberTo}
-use Rattle.trace.specs.declared.OfferText.TheVariants.{Unshaped, Shaped}
-use Rattle.trace.specs.OfferText.{number_in, number_at, shaped_text, offer_text, offer_of}
+use Rattle.trace.specs.declared.OfferText.{OfferText}
+use Rattle.trace.specs.OfferText.{number_in, number_at, shaped_text, text_of, offer_text, offer_of}
 
 -- the answer of `number_at` at each return
 module _ (s : List ℕ) (at sep e : ℕ) (q : e ≡ at + field_length (drop at s)) where
-  pub number_past : length s ≤ e → number_at s at sep ≡ NoNumber
+  pub number_past : length s ≤ e → number_at s at sep ≡ None
   unfolding number_at
   number_past h = picked _ _ _ (le-leb (length s) (at + field_length (drop at s)) (omega arith))
 
   module _ (h : e < length s) where
-    pub number_other : (get_or s e 0 ≡ sep → ⊥) → number_at s at sep ≡ NoNumber
+    pub number_other : (get_or s e 0 ≡ sep → ⊥) → number_at s at sep ≡ None
     unfolding number_at
     number_other d =
         passed _ _ _ (lt-leb (length s) (at + field_length (drop at s)) (omega arith)) ∙ passed _ _ _ (ne_eqb _ _ (λ g. d (ap (λ i. get_or s i 0) q ∙ g)))
@@ -51,15 +51,18 @@ module _ (s : List ℕ) (at sep e : ℕ) (q : e ≡ at + field_length (drop at s
     pub number_field : get_or s e 0 ≡ sep → (f k : Field) → f ≡ field_of (take (e - at) (drop at s)) → f ≡ k → number_in k (e + 1) ≡ number_at s at sep
     number_field g f k r t = ap (λ x. number_in x (e + 1)) (sym t ∙ r) ∙ sym (number_here g)
 
-number_in_lem : (f : Field) (n x next : ℕ) → number_in f n ≡ NumberTo x next → (f ≡ Number x) × (n ≡ next)
+pub same_some : {A : Type 0} {p q : A} → Some p ≡ Some q → p ≡ q
+same_some e = cc
+
+number_in_lem : (f : Field) (n x next : ℕ) → number_in f n ≡ Some (x, next) → (f ≡ Number x) × (n ≡ next)
 number_in_lem Malformed n x next e = clash cc
 number_in_lem Dash n x next e = clash cc
-number_in_lem (Number y) n x next e = (cc, cc)
+number_in_lem (Number y) n x next e = let q = same_some e in (ap (λ (k : ℕ × ℕ). Number k.0) q, ap (λ (k : ℕ × ℕ). k.1) q)
 
-not_number_lem : (f : Field) (n x : ℕ) → number_in f n ≡ NoNumber → f ≡ Number x → ⊥
+not_number_lem : (f : Field) (n x : ℕ) → number_in f n ≡ None → f ≡ Number x → ⊥
 not_number_lem f n x e g = let h = sym (ap (λ k. number_in k n) g) ∙ e in clash cc
 
-none_to : {x next : ℕ} → NoNumber ≡ NumberTo x next → ⊥
+none_to : {p : ℕ × ℕ} → None ≡ Some p → ⊥
 none_to e = clash cc
 
 -- the first part of two equal rows, and rows that are not equal
@@ -105,7 +108,7 @@ module _ (s : List ℕ) (at : ℕ) where
   abbrev field : List ℕ
   field = take (e - at) (drop at s)
 
-  pub number_then : (x next : ℕ) → number_at s at 9 ≡ NumberTo x next → Then s at x next
+  pub number_then : (x next : ℕ) → number_at s at 9 ≡ Some (x, next) → Then s at x next
   number_then x next r = elim (dec_lt e (length s)) [
     | no h ↦ absurd (none_to (sym (number_past s at 9 e refl (omega arith)) ∙ r))
     | yes h ↦ elim (ℕ_discrete (get_or s e 0) 9) [
@@ -122,7 +125,7 @@ module _ (s : List ℕ) (at : ℕ) where
     ]
   ]
 
-  pub number_last : (x next : ℕ) → number_at s at 10 ≡ NumberTo x next → Last s at x next
+  pub number_last : (x next : ℕ) → number_at s at 10 ≡ Some (x, next) → Last s at x next
   number_last x next r = elim (dec_lt e (length s)) [
     | no h ↦ absurd (none_to (sym (number_past s at 10 e refl (omega arith)) ∙ r))
     | yes h ↦ elim (ℕ_discrete (get_or s e 0) 10) [
@@ -141,7 +144,7 @@ module _ (s : List ℕ) (at : ℕ) where
   ]
 
   -- where no number is followed by a tab, the line has no LF, or its next field is its last or no number
-  pub no_number_then : number_at s at 9 ≡ NoNumber → end_at s at < length s → (f g : List ℕ) (fs : List (List ℕ)) (x : ℕ)
+  pub no_number_then : number_at s at 9 ≡ None → end_at s at < length s → (f g : List ℕ) (fs : List (List ℕ)) (x : ℕ)
       → fields (line_at s at) ≡ f ∷ (g ∷ fs) → field_of f ≡ Number x → ⊥
   no_number_then r w f g fs x p n = elim (dec_lt e (length s)) [
     | no h ↦ omega (arith, field_unended s at e refl (omega arith))
@@ -153,7 +156,7 @@ module _ (s : List ℕ) (at : ℕ) where
   ]
 
   -- where no number is followed by an LF, the line has no LF, or its next field is not its last or no number
-  pub no_number_last : number_at s at 10 ≡ NoNumber → end_at s at < length s → (f : List ℕ) (x : ℕ) → fields (line_at s at) ≡ f ∷ [] → field_of f ≡ Number x → ⊥
+  pub no_number_last : number_at s at 10 ≡ None → end_at s at < length s → (f : List ℕ) (x : ℕ) → fields (line_at s at) ≡ f ∷ [] → field_of f ≡ Number x → ⊥
   no_number_last r w f x p n = elim (dec_lt e (length s)) [
     | no h ↦ omega (arith, field_unended s at e refl (omega arith))
     | yes h ↦ elim (ℕ_discrete (get_or s e 0) 9) [
@@ -286,14 +289,14 @@ offer_line_lem f g h x y z p q r =
 
 -- the answer of `offer_at` at each return
 module _ (s : List ℕ) (at : ℕ) where
-  pub text_none : (end_at s at < length s → is_offer_line (line_of (line_at s at)) ≡ true → ⊥) → offer_text s at ≡ Unshaped
+  pub text_none : (end_at s at < length s → is_offer_line (line_of (line_at s at)) ≡ true → ⊥) → offer_text s at ≡ None
   unfolding offer_text
   text_none d = elim (dec_lt (end_at s at) (length s)) [
     | no h ↦ picked _ _ _ (le-leb (length s) (end_at s at) (omega arith))
     | yes h ↦ passed _ _ _ (lt-leb (length s) (end_at s at) h) ∙ passed _ _ _ (not_true_false _ (d h))
   ]
 
-  pub text_offer : (x y z : ℕ) → end_at s at < length s → line_of (line_at s at) ≡ offer_of x y z → offer_text s at ≡ Shaped x y z (end_at s at + 1)
+  pub text_offer : (x y z : ℕ) → end_at s at < length s → line_of (line_at s at) ≡ offer_of x y z → offer_text s at ≡ Some (text_of x y z (end_at s at + 1))
   unfolding offer_text shaped all
   text_offer x y z h e = passed _ _ _ (lt-leb (length s) (end_at s at) h) ∙ ap (λ (l : Line). shaped_text l (end_at s at + 1)) e
 
@@ -303,7 +306,7 @@ module _ (s : List ℕ) (at : ℕ) where
   line_parts name fs p = ap line_from p
 
   pub parts_none : (name : List ℕ) (fs : List (List ℕ)) → fields (line_at s at) ≡ name ∷ fs → (end_at s at < length s → OfferFields name fs → ⊥)
-      → offer_text s at ≡ Unshaped
+      → offer_text s at ≡ None
   parts_none name fs p d = text_none (λ h e. d h (offer_fields name fs (sym (ap is_offer_line (line_parts name fs p)) ∙ e)))
 
 false_true : {b : Bool} → b ≡ false → b ≡ true → ⊥
@@ -314,11 +317,11 @@ module _ (s : List ℕ) (at e : ℕ) (q : e ≡ at + field_length (drop at s)) w
   abbrev name : List ℕ
   name = take (e - at) (drop at s)
 
-  pub offer_past : length s ≤ e → offer_text s at ≡ Unshaped
+  pub offer_past : length s ≤ e → offer_text s at ≡ None
   offer_past l = text_none s at (λ w o. omega (arith, field_unended s at e q l))
 
   module _ (h : e < length s) where
-    pub offer_short : (get_or s e 0 ≡ 9 → ⊥) → offer_text s at ≡ Unshaped
+    pub offer_short : (get_or s e 0 ≡ 9 → ⊥) → offer_text s at ≡ None
     offer_short d = parts_none s at name [] (field_last s at e q h d).0 (λ w o. one_none (sym o.parts))
 
     module _ (g : get_or s e 0 ≡ 9) where
@@ -328,36 +331,36 @@ module _ (s : List ℕ) (at e : ℕ) (q : e ≡ at + field_length (drop at s)) w
       ends : end_at s at ≡ end_at s (e + 1)
       ends = (field_then s at e q h g).1
 
-      pub offer_other : same name (111 ∷ []) ≡ false → offer_text s at ≡ Unshaped
+      pub offer_other : same name (111 ∷ []) ≡ false → offer_text s at ≡ None
       offer_other d = parts_none s at name _ rest (λ w o. false_true d o.named)
 
       module _ (n : same name (111 ∷ []) ≡ true) where
-        pub offer_no_slot : number_at s (e + 1) 9 ≡ NoNumber → offer_text s at ≡ Unshaped
+        pub offer_no_slot : number_at s (e + 1) 9 ≡ None → offer_text s at ≡ None
         offer_no_slot r =
             parts_none s at name _ rest (λ w o. no_number_then s (e + 1) r (omega (arith, ends)) o.first o.second _ _ o.parts o.slot.1)
 
-        module _ (x b : ℕ) (r1 : number_at s (e + 1) 9 ≡ NumberTo x b) where
+        module _ (x b : ℕ) (r1 : number_at s (e + 1) 9 ≡ Some (x, b)) where
           abbrev T1 : Then s (e + 1) x b
           T1 = number_then s (e + 1) x b r1
 
-          pub offer_no_accelerator : number_at s b 9 ≡ NoNumber → offer_text s at ≡ Unshaped
+          pub offer_no_accelerator : number_at s b 9 ≡ None → offer_text s at ≡ None
           offer_no_accelerator r =
               parts_none s at name _ (rest ∙ ap (λ fs. name ∷ fs) T1.parts)
               (λ w o. no_number_then s b r (omega (arith, ends, T1.ends)) o.second o.third _ _ (tails o.parts) o.accelerator.1)
 
-          module _ (y d : ℕ) (r2 : number_at s b 9 ≡ NumberTo y d) where
+          module _ (y d : ℕ) (r2 : number_at s b 9 ≡ Some (y, d)) where
             abbrev T2 : Then s b y d
             T2 = number_then s b y d r2
 
             abbrev parts2 : fields (line_at s at) ≡ name ∷ (T1.field ∷ (T2.field ∷ fields (line_at s d)))
             parts2 = rest ∙ ap (λ fs. name ∷ fs) (T1.parts ∙ ap (λ fs. T1.field ∷ fs) T2.parts)
 
-            pub offer_no_count : number_at s d 10 ≡ NoNumber → offer_text s at ≡ Unshaped
+            pub offer_no_count : number_at s d 10 ≡ None → offer_text s at ≡ None
             offer_no_count r =
                 parts_none s at name _ parts2
                 (λ w o. no_number_last s d r (omega (arith, ends, T1.ends, T2.ends)) o.third _ (tails (tails o.parts)) o.count.1)
 
-            pub offer_read : (z next : ℕ) → number_at s d 10 ≡ NumberTo z next → offer_text s at ≡ Shaped x y z next
+            pub offer_read : (z next : ℕ) → number_at s d 10 ≡ Some (z, next) → offer_text s at ≡ Some (text_of x y z next)
             offer_read z next r =
                 let T3 = number_last s d z next r in
                 let p = parts2 ∙ ap (λ fs. name ∷ (T1.field ∷ (T2.field ∷ fs))) T3.parts in
@@ -366,7 +369,7 @@ module _ (s : List ℕ) (at e : ℕ) (q : e ≡ at + field_length (drop at s)) w
                 ∙ ap (λ (k : Kind). line_with k (map field_of (T1.field ∷ (T2.field ∷ (T3.field ∷ []))))) (name_kind name n)
                 ∙ offer_line_lem _ _ _ x y z T1.number T2.number T3.number in
                 let m : end_at s at + 1 ≡ next = omega (arith, ends, T1.ends, T2.ends, T3.ends) in
-                text_offer s at x y z (omega (arith, ends, T1.ends, T2.ends, T3.within)) l ∙ ap (Shaped x y z) m
+                text_offer s at x y z (omega (arith, ends, T1.ends, T2.ends, T3.within)) l ∙ ap (λ k. Some (text_of x y z k)) m
 
 -- what the answer of `offer_at` says: the line's numbers, and that it is an o line with its LF
 pub record Read (s : List ℕ) (at x y z next : ℕ) : Type 0 where
@@ -382,20 +385,20 @@ module _ (s : List ℕ) (at : ℕ) where
   unfolding offer_text
   text_within h = passed _ _ _ (lt-leb (length s) (end_at s at) h)
 
-  pub text_not : offer_text s at ≡ Unshaped → end_at s at < length s → is_offer_line (line_of (line_at s at)) ≡ false
+  pub text_not : offer_text s at ≡ None → end_at s at < length s → is_offer_line (line_of (line_at s at)) ≡ false
   text_not r h = go (is_offer_line (line_of (line_at s at))) refl
     where
       go : (b : Bool) → is_offer_line (line_of (line_at s at)) ≡ b → b ≡ false
       go false e = refl
       go true e = let q = sym (picked _ _ _ e) ∙ sym (text_within h) ∙ r in clash cc
 
-  pub text_read : (x y z next : ℕ) → offer_text s at ≡ Shaped x y z next → Read s at x y z next
-  text_read x y z next r = elim (dec_lt (end_at s at) (length s)) [
-    | no h ↦ let q = sym (text_none s at (λ w o. absurd (h w))) ∙ r in clash cc
+  pub text_read : (o : OfferText) → offer_text s at ≡ Some o → Read s at o.slot o.accelerator o.count o.next
+  text_read o r = elim (dec_lt (end_at s at) (length s)) [
+    | no h ↦ let q = sym (text_none s at (λ w _. absurd (h w))) ∙ r in clash cc
     | yes h ↦ go h (is_offer_line (line_of (line_at s at))) refl
   ]
     where
-      go : end_at s at < length s → (b : Bool) → is_offer_line (line_of (line_at s at)) ≡ b → Read s at x y z next
+      go : end_at s at < length s → (b : Bool) → is_offer_line (line_of (line_at s at)) ≡ b → Read s at o.slot o.accelerator o.count o.next
       go h false e = let q = sym (passed _ _ _ e) ∙ sym (text_within h) ∙ r in clash cc
       go h true e =
           let q = sym (picked _ _ _ e) ∙ sym (text_within h) ∙ r in

@@ -1,5 +1,6 @@
 -- What an accepted trace says: its requests are in order, within limits and totals, and walking the bytes gives them one
 -- after the other. By induction on the lines, with what an accepted line says at each.
+use Rattle.std.specs.Prelude.{Option, Some, None, Result, Ok, Err}
 use Prim.Native.Nat.{ℕ, zero, suc, ◌+◌, ◌-◌, ◌≤◌, ◌<◌}
 use mathlib.Core.Bool.{Bool, true, false}
 use mathlib.Core.List.{List, [], ◌∷◌}
@@ -22,15 +23,12 @@ use Rattle.rules.proofs.Sound.{sound}
 use Rattle.lines.specs.declared.Kind.TheVariants.{OfferLine}
 use Rattle.lines.specs.declared.Line.{Line}
 use Rattle.trace.specs.declared.Request.{Request}
-use Rattle.trace.specs.declared.OfferRead.{OfferRead}
-use Rattle.trace.specs.declared.OfferRead.TheVariants.{NoOffer, Offer}
-use Rattle.trace.specs.declared.NextRequest.TheVariants.{Done, Due}
-use Rattle.lines.specs.declared.FileAnswer.{FileAnswer}
-use Rattle.lines.specs.declared.FileAnswer.TheVariants.{Accepted, Refused}
+use Rattle.lines.specs.Answer.{FileAnswer, Accepted, Refused}
 use Rattle.lines.specs.Lines.{line_of, value_at}
 use Rattle.trace.specs.TraceFile.{total_of, added, offer_line, after_offer, read_offers, no_totals, read_trace}
 use Rattle.trace.specs.TraceFile.{requests, rising, in_range, all_in_range, total_for, is_offer, request_at}
 use Rattle.lines.proofs.Limits.{most, least}
+use Rattle.trace.proofs.Offers.{same_some}
 use Rattle.trace.proofs.Traces.{Good, offer_says, trace_from, request_done, request_line}
 use Rattle.trace.proofs.Traces.{trace_broken, trace_size, trace_start_lem, trace_unended, trace_line}
 
@@ -38,9 +36,9 @@ pub not_accepted : {A : Type 0} (x : Refusal) (n : ℕ) → Refused x n ≡ Acce
 not_accepted x n e = clash cc
 
 -- a line that reading goes on after was a request
-pub taken_offer : (n : ℕ) (x : OfferRead) (next : Request → FileAnswer) → after_offer n x next ≡ Accepted → (r : Request) × (x ≡ Offer r) × (next r ≡ Accepted)
-taken_offer n (NoOffer y) next e = not_accepted y n e
-taken_offer n (Offer r) next e = (r, refl, e)
+pub taken_offer : (n : ℕ) (x : Result Request Refusal) (next : Request → FileAnswer) → after_offer n x next ≡ Accepted → (r : Request) × (x ≡ Ok r) × (next r ≡ Accepted)
+taken_offer n (Err y) next e = not_accepted y n e
+taken_offer n (Ok r) next e = (r, refl, e)
 
 -- a request in its limits
 pub good_range : (accs last : ℕ) (totals : List ℕ) (l : Line) (r : Request) → Good accs last totals l r → in_range accs r ≡ true
@@ -130,13 +128,17 @@ accepted_trace t s e =
     none (suc n) zero = refl
     none (suc n) (suc a) = none n a
 
+-- two answers of `request_at` that are equal give the same request and the same place
+pub same_request : (r q : Request) (p m : ℕ) → ◌≡◌ {A = Option (Request × ℕ)} (Some (r, p)) (Some (q, m)) → (r ≡ q) × (p ≡ m)
+same_request r q p m e = let h = same_some e in (ap (λ (x : Request × ℕ). x.0) h, ap (λ (x : Request × ℕ). x.1) h)
+
 -- one step of the walk: the request at a place, and what is left after it
 pub record Step (n accs last : ℕ) (totals s : List ℕ) (at : ℕ) : Type 0 where
   pub request : Request
   pub place : ℕ
   pub on : at < place
   pub within : place ≤ length s
-  pub found : request_at s at ≡ Due request place
+  pub found : request_at s at ≡ Some (request, place)
   pub first : requests (lines (drop at s)) ≡ request ∷ requests (lines (drop place s))
   pub due : last ≤ request.slot
   pub known : request.accelerator < accs
@@ -168,7 +170,7 @@ walk_step n accs last totals s at m h e = go (ℕ_discrete end (length s))
           place = end + 1;
           on = omega arith;
           within = omega arith;
-          found = request_line s at end refl b ∙ picked _ _ _ x ∙ ap (λ (r : Request). Due r (end + 1)) G.same;
+          found = request_line s at end refl b ∙ picked _ _ _ x ∙ ap (λ (r : Request). Some (r, end + 1)) G.same;
           first = ap requests (lines_next s at end (omega arith) refl b).0 ∙ ap (λ (r : Request). r ∷ requests (lines (drop (end + 1) s))) G.same;
           due = G.rising;
           known = G.known;
@@ -176,6 +178,6 @@ walk_step n accs last totals s at m h e = go (ℕ_discrete end (length s))
         }
 
 -- the end of the walk
-pub walk_end : (s : List ℕ) (at : ℕ) → length s ≤ at → (request_at s at ≡ Done) × (requests (lines (drop at s)) ≡ [])
+pub walk_end : (s : List ℕ) (at : ℕ) → length s ≤ at → (request_at s at ≡ None) × (requests (lines (drop at s)) ≡ [])
 unfolding requests
 walk_end s at h = (request_done s at (at + part_length 10 (drop at s)) refl (omega arith), ap requests (lines_none s at h).0)

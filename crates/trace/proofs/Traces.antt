@@ -1,5 +1,6 @@
 -- Laws of a trace file: the answer of each chain of tests at each return, and the file read at a position, where the answer
 -- for the whole is the answer for what is left. By the tests in order, and by the laws of lines at a position.
+use Rattle.std.specs.Prelude.{Option, Some, None, Result, Ok, Err}
 use Prim.Native.Nat.{ℕ, ◌+◌, ◌-◌, ◌≤◌, ◌<◌}
 use mathlib.Core.Bool.{Bool, true, false, ◌&&◌}
 use mathlib.Core.List.{List}
@@ -21,13 +22,7 @@ use Rattle.folds.proofs.Folds.{picked, passed, both, joined, clash}
 use Rattle.lines.specs.declared.Kind.TheVariants.{OfferLine}
 use Rattle.lines.specs.declared.Line.{Line}
 use Rattle.trace.specs.declared.Request.{Request}
-use Rattle.trace.specs.declared.OfferRead.{OfferRead}
-use Rattle.trace.specs.declared.OfferRead.TheVariants.{NoOffer, Offer}
-use Rattle.trace.specs.declared.NextRequest.{NextRequest}
-use Rattle.trace.specs.declared.NextRequest.TheVariants.{Done, Due}
-use Rattle.trace.specs.declared.OfferText.TheVariants.{Unshaped}
-use Rattle.lines.specs.declared.FileAnswer.{FileAnswer}
-use Rattle.lines.specs.declared.FileAnswer.TheVariants.{Accepted, Refused, Broken}
+use Rattle.lines.specs.Answer.{FileAnswer, Accepted, Refused, Broken}
 use Rattle.lines.specs.Lines.{line_of, value_at, shaped, limits_kept, in_trace}
 use Rattle.trace.specs.TraceFile.{request_of, total_of, added, offer_line, after_offer, read_offers, no_totals, read_trace, read_requests, request_on, request_at}
 use Rattle.trace.specs.OfferText.{offer_text, offer_of}
@@ -35,42 +30,42 @@ use Rattle.trace.proofs.Offers.{end_at, is_offer_line, Read, text_not, offer_sha
 use Rattle.lines.proofs.Limits.{yes_not, no_not, nonempty}
 
 module _ (accs last : ℕ) (totals : List ℕ) (l : Line) where
-  pub offer_shape : in_trace l.kind && shaped l ≡ false → offer_line accs last totals l ≡ NoOffer Shape
+  pub offer_shape : in_trace l.kind && shaped l ≡ false → offer_line accs last totals l ≡ Err Shape
   unfolding offer_line
   offer_shape e = picked _ _ _ (yes_not _ e)
 
   module _ (e : in_trace l.kind && shaped l ≡ true) where
-    pub offer_limit : limits_kept OfferLine l.values ≡ false → offer_line accs last totals l ≡ NoOffer Limit
+    pub offer_limit : limits_kept OfferLine l.values ≡ false → offer_line accs last totals l ≡ Err Limit
     unfolding offer_line
     offer_limit f = passed _ _ _ (no_not _ e) ∙ picked _ _ _ (yes_not _ f)
 
     module _ (f : limits_kept OfferLine l.values ≡ true) where
-      pub offer_unknown : accs ≤ value_at l 1 → offer_line accs last totals l ≡ NoOffer Unknown
+      pub offer_unknown : accs ≤ value_at l 1 → offer_line accs last totals l ≡ Err Unknown
       unfolding offer_line
       offer_unknown g = passed _ _ _ (no_not _ e) ∙ passed _ _ _ (no_not _ f) ∙ picked _ _ _ (le-leb _ _ g)
 
       module _ (g : value_at l 1 < accs) where
-        pub offer_falling : value_at l 0 < last → offer_line accs last totals l ≡ NoOffer Falling
+        pub offer_falling : value_at l 0 < last → offer_line accs last totals l ≡ Err Falling
         unfolding offer_line
         offer_falling h = passed _ _ _ (no_not _ e) ∙ passed _ _ _ (no_not _ f) ∙ passed _ _ _ (lt-leb _ _ g) ∙ picked _ _ _ (lt-ltb _ _ h)
 
         module _ (h : last ≤ value_at l 0) where
-          pub offer_total : 65535 < total_of totals (value_at l 1) + value_at l 2 → offer_line accs last totals l ≡ NoOffer Limit
+          pub offer_total : 65535 < total_of totals (value_at l 1) + value_at l 2 → offer_line accs last totals l ≡ Err Limit
           unfolding offer_line
           offer_total k =
               passed _ _ _ (no_not _ e) ∙ passed _ _ _ (no_not _ f) ∙ passed _ _ _ (lt-leb _ _ g) ∙ passed _ _ _ (le-ltb _ _ h) ∙ picked _ _ _ (lt-ltb _ _ k)
 
-          pub offer_good : total_of totals (value_at l 1) + value_at l 2 ≤ 65535 → offer_line accs last totals l ≡ Offer (request_of l.values)
+          pub offer_good : total_of totals (value_at l 1) + value_at l 2 ≤ 65535 → offer_line accs last totals l ≡ Ok (request_of l.values)
           unfolding offer_line
           offer_good k =
               passed _ _ _ (no_not _ e) ∙ passed _ _ _ (no_not _ f) ∙ passed _ _ _ (lt-leb _ _ g) ∙ passed _ _ _ (le-ltb _ _ h) ∙ passed _ _ _ (le-ltb _ _ k)
 
 -- a test whose failure is a refusal has passed where the line is accepted
-not_refused : (c : Bool) (x : Refusal) (y : OfferRead) (r : Request) → pick c (NoOffer x) y ≡ Offer r → (c ≡ false) × (y ≡ Offer r)
+not_refused : (c : Bool) (x : Refusal) (y : Result Request Refusal) (r : Request) → pick c (Err x) y ≡ Ok r → (c ≡ false) × (y ≡ Ok r)
 not_refused true x y r e = clash cc
 not_refused false x y r e = (refl, e)
 
-same_offer : (p r : Request) → Offer p ≡ Offer r → p ≡ r
+same_offer : (p r : Request) → ◌≡◌ {A = Result Request Refusal} (Ok p) (Ok r) → p ≡ r
 same_offer p r e = cc
 
 -- what an accepted line says
@@ -82,7 +77,7 @@ pub record Good (accs last : ℕ) (totals : List ℕ) (l : Line) (r : Request) :
   pub total : total_of totals r.accelerator + r.count ≤ 65535
   pub same : request_of l.values ≡ r
 
-pub offer_says : (accs last : ℕ) (totals : List ℕ) (l : Line) (r : Request) → offer_line accs last totals l ≡ Offer r → Good accs last totals l r
+pub offer_says : (accs last : ℕ) (totals : List ℕ) (l : Line) (r : Request) → offer_line accs last totals l ≡ Ok r → Good accs last totals l r
 unfolding offer_line
 offer_says accs last totals l r e =
     let a = not_refused _ _ _ _ e in
@@ -153,21 +148,21 @@ module _ (n accs last : ℕ) (totals s : List ℕ) (at : ℕ) where
         ap₂ (read_offers n accs last totals) r.0 r.1 ∙ passed _ _ _ (ne_eqb _ _ (nonempty s at e (omega arith) (omega arith)))
 
     -- one line, and what is left after it
-    pub trace_line : (e ≡ length s → ⊥) → (x : OfferRead) → x ≡ offer_line accs last totals (line_of (take (e - at) (drop at s)))
+    pub trace_line : (e ≡ length s → ⊥) → (x : Result Request Refusal) → x ≡ offer_line accs last totals (line_of (take (e - at) (drop at s)))
         → trace_from n accs last totals s at ≡ after_offer n x (λ r. trace_from (n + 1) accs r.slot (added totals r) s (e + 1))
     unfolding read_offers
     trace_line l x o =
         let f = part_fits 10 s at (omega arith) in
         let r = lines_next s at e (omega arith) q (omega arith) in
         ap₂ (read_offers n accs last totals) r.0 r.1
-        ∙ ap (λ (y : OfferRead). after_offer n y (λ r. trace_from (n + 1) accs r.slot (added totals r) s (e + 1))) (sym o)
+        ∙ ap (λ (y : Result Request Refusal). after_offer n y (λ r. trace_from (n + 1) accs r.slot (added totals r) s (e + 1))) (sym o)
 
 -- the line at a position
 module _ (s : List ℕ) (at e : ℕ) (q : e ≡ at + part_length 10 (drop at s)) where
   same_part : take (e - at) (drop at s) ≡ take (part_length 10 (drop at s)) (drop at s)
   same_part = let m : e - at ≡ part_length 10 (drop at s) = omega arith in ap (λ k. take k (drop at s)) m
 
-  pub request_done : length s ≤ e → request_at s at ≡ Done
+  pub request_done : length s ≤ e → request_at s at ≡ None
   unfolding request_at
   request_done h = picked _ _ _ (le-leb (length s) (at + part_length 10 (drop at s)) (omega arith))
 
@@ -192,16 +187,16 @@ module _ (s : List ℕ) (at : ℕ) where
   same_line = ap line_of (same_part s at (end_at s at) refl)
 
   module _ (n accs last : ℕ) (totals : List ℕ) (h : at < length s) where
-    pub trace_unshaped : offer_text s at ≡ Unshaped → trace_from n accs last totals s at ≡ Refused Shape n
+    pub trace_unshaped : offer_text s at ≡ None → trace_from n accs last totals s at ≡ Refused Shape n
     trace_unshaped r = elim (ℕ_discrete (end_at s at) (length s)) [
       | yes q ↦ trace_unended n accs last totals s at (end_at s at) h refl q
       | no d ↦
           let w = part_fits 10 s at (omega arith) in
           let no = offer_shape accs last totals line (text_not s at r (omega arith)) in
-          trace_line n accs last totals s at (end_at s at) h refl d (NoOffer Shape) (sym (ap (offer_line accs last totals) same_line ∙ no))
+          trace_line n accs last totals s at (end_at s at) h refl d (Err Shape) (sym (ap (offer_line accs last totals) same_line ∙ no))
     ]
 
-    trace_read : (x y z next : ℕ) → Read s at x y z next → (o : OfferRead) → o ≡ offer_line accs last totals (offer_of x y z)
+    trace_read : (x y z next : ℕ) → Read s at x y z next → (o : Result Request Refusal) → o ≡ offer_line accs last totals (offer_of x y z)
         → trace_from n accs last totals s at ≡ after_offer n o (λ r. trace_from (n + 1) accs r.slot (added totals r) s next)
     trace_read x y z next R o q =
         trace_line n accs last totals s at (end_at s at) h refl (λ e. omega (arith, R.within)) o
@@ -210,14 +205,14 @@ module _ (s : List ℕ) (at : ℕ) where
         ∙ ap (offer_line accs last totals) (ap (λ k. offer_of k (value_at line 1) (value_at line 2)) R.slot ∙ ap₂ (offer_of x) R.accelerator R.count)))
         ∙ ap (λ k. after_offer n o (λ r. trace_from (n + 1) accs r.slot (added totals r) s k)) (sym R.place)
 
-    module _ (x y z next : ℕ) (R : Read s at x y z next) (o : OfferRead) (q : o ≡ offer_line accs last totals (offer_of x y z)) where
-      pub trace_refused : (f : Refusal) → o ≡ NoOffer f → trace_from n accs last totals s at ≡ Refused f n
-      trace_refused f e = trace_read x y z next R (NoOffer f) (sym e ∙ q)
+    module _ (x y z next : ℕ) (R : Read s at x y z next) (o : Result Request Refusal) (q : o ≡ offer_line accs last totals (offer_of x y z)) where
+      pub trace_refused : (f : Refusal) → o ≡ Err f → trace_from n accs last totals s at ≡ Refused f n
+      trace_refused f e = trace_read x y z next R (Err f) (sym e ∙ q)
 
-      pub trace_taken : (r : Request) → o ≡ Offer r → trace_from n accs last totals s at ≡ trace_from (n + 1) accs r.slot (added totals r) s next
-      trace_taken r e = trace_read x y z next R (Offer r) (sym e ∙ q)
+      pub trace_taken : (r : Request) → o ≡ Ok r → trace_from n accs last totals s at ≡ trace_from (n + 1) accs r.slot (added totals r) s next
+      trace_taken r e = trace_read x y z next R (Ok r) (sym e ∙ q)
 
-  pub request_unshaped : offer_text s at ≡ Unshaped → request_at s at ≡ Done
+  pub request_unshaped : offer_text s at ≡ None → request_at s at ≡ None
   request_unshaped r = elim (dec_lt (end_at s at) (length s)) [
     | no h ↦ request_done s at (end_at s at) refl (omega arith)
     | yes h ↦
@@ -227,28 +222,28 @@ module _ (s : List ℕ) (at : ℕ) where
   ]
 
   request_read : (x y z next : ℕ) → Read s at x y z next
-      → request_at s at ≡ pick (limits_kept OfferLine (offer_of x y z).values && ltb y 32) (Due (request_of (offer_of x y z).values) next) Done
+      → request_at s at ≡ pick (limits_kept OfferLine (offer_of x y z).values && ltb y 32) (Some (request_of (offer_of x y z).values, next)) None
   request_read x y z next R =
       request_line s at (end_at s at) refl R.within
       ∙ ap (λ (l : Line). request_on l (end_at s at)) same_line
-      ∙ ap (λ b. pick (b && limits_kept OfferLine line.values && ltb (value_at line 1) 32) (Due (request_of line.values) (end_at s at + 1)) Done) R.offer
-      ∙ ap (λ b. pick (b && ltb (value_at line 1) 32) (Due (request_of line.values) (end_at s at + 1)) Done) (offer_limits_same line)
+      ∙ ap (λ b. pick (b && limits_kept OfferLine line.values && ltb (value_at line 1) 32) (Some (request_of line.values, (end_at s at + 1))) None) R.offer
+      ∙ ap (λ b. pick (b && ltb (value_at line 1) 32) (Some (request_of line.values, (end_at s at + 1))) None) (offer_limits_same line)
       ∙ ap (λ k. answer k (value_at line 1) (value_at line 2) (end_at s at + 1)) R.slot
       ∙ ap₂ (λ k m. answer x k m (end_at s at + 1)) R.accelerator R.count
       ∙ ap (answer x y z) (sym R.place)
     where
-      answer : ℕ → ℕ → ℕ → ℕ → NextRequest
-      answer x y z next = pick (limits_kept OfferLine (offer_of x y z).values && ltb y 32) (Due (request_of (offer_of x y z).values) next) Done
+      answer : ℕ → ℕ → ℕ → ℕ → Option (Request × ℕ)
+      answer x y z next = pick (limits_kept OfferLine (offer_of x y z).values && ltb y 32) (Some (request_of (offer_of x y z).values, next)) None
 
   module _ (x y z next : ℕ) (R : Read s at x y z next) (k : Bool) (q : k ≡ limits_kept OfferLine (offer_of x y z).values) where
     same_test : limits_kept OfferLine (offer_of x y z).values && ltb y 32 ≡ k && ltb y 32
     same_test = ap (λ b. b && ltb y 32) (sym q)
 
-    pub request_none : k && ltb y 32 ≡ false → request_at s at ≡ Done
+    pub request_none : k && ltb y 32 ≡ false → request_at s at ≡ None
     request_none e = request_read x y z next R ∙ passed _ _ _ (same_test ∙ e)
 
-    pub request_due : k && ltb y 32 ≡ true → (r : Request) → r ≡ request_of (offer_of x y z).values → Due r next ≡ request_at s at
-    request_due e r f = ap (λ (p : Request). Due p next) f ∙ sym (request_read x y z next R ∙ picked _ _ _ (same_test ∙ e))
+    pub request_due : k && ltb y 32 ≡ true → (r : Request) → r ≡ request_of (offer_of x y z).values → Some (r, next) ≡ request_at s at
+    request_due e r f = ap (λ (p : Request). Some (p, next)) f ∙ sym (request_read x y z next R ∙ picked _ _ _ (same_test ∙ e))
 
     pub request_limits : k && ltb y 32 ≡ true → (limits_kept OfferLine (offer_of x y z).values ≡ true) × (y < 32)
     request_limits e = let b = both k (ltb y 32) e in (sym q ∙ b.0, ltb-true _ _ b.1)

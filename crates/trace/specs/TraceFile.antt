@@ -20,8 +20,9 @@
 -- is_offer l               line l is an o line of shape and limits, of an accelerator that a tree can have
 -- request_on l end         the request on line l, and the place after its LF at `end`
 -- request_at s at          the request on the line that begins at a place of the bytes, and the place after its LF
-use Rattle.std.specs.Prelude.{ℕ, ◌+◌, Bool, true, ◌&&◌, not, List, [], ◌∷◌, length, get_or, set, take, drop, replicate, leb, ltb, eqb}
+use Rattle.std.specs.Prelude.{ℕ, Option, Some, None, Result, Ok, Err, ◌+◌, Bool, true, ◌&&◌, not, List, [], ◌∷◌, length, get_or, set, take, drop, replicate, leb, ltb, eqb}
 use Rattle.model.specs.declared.Tree.{Tree}
+use Rattle.model.specs.declared.Refusal.{Refusal}
 use Rattle.model.specs.declared.Refusal.TheVariants.{Shape, Limit, Falling, Unknown}
 use Rattle.folds.specs.Fold.{pick, within}
 use Rattle.rules.specs.Rules.{tree_keeps}
@@ -29,12 +30,7 @@ use Rattle.text.specs.Text.{part_length, lines, unended}
 use Rattle.lines.specs.declared.Kind.TheVariants.{OfferLine}
 use Rattle.lines.specs.declared.Line.{Line}
 use Rattle.trace.specs.declared.Request.{Request}
-use Rattle.trace.specs.declared.OfferRead.{OfferRead}
-use Rattle.trace.specs.declared.OfferRead.TheVariants.{NoOffer, Offer}
-use Rattle.trace.specs.declared.NextRequest.{NextRequest}
-use Rattle.trace.specs.declared.NextRequest.TheVariants.{Done, Due}
-use Rattle.lines.specs.declared.FileAnswer.{FileAnswer}
-use Rattle.lines.specs.declared.FileAnswer.TheVariants.{Accepted, Refused, Broken}
+use Rattle.lines.specs.Answer.{FileAnswer, Accepted, Refused, Broken}
 use Rattle.lines.specs.Lines.{line_of, value_at, shaped, limits_kept, in_trace}
 
 abbrev pub request_of : List ℕ → Request
@@ -46,19 +42,19 @@ total_of totals a = get_or totals a 0
 abbrev pub added : List ℕ → Request → List ℕ
 added totals r = set totals r.accelerator (total_of totals r.accelerator + r.count)
 
-unfoldable pub offer_line : ℕ → ℕ → List ℕ → Line → OfferRead
+unfoldable pub offer_line : ℕ → ℕ → List ℕ → Line → Result Request Refusal
 offer_line accs last totals l =
-    pick (not (in_trace l.kind && shaped l)) (NoOffer Shape)
-    (pick (not (limits_kept OfferLine l.values)) (NoOffer Limit)
-    (pick (leb accs (value_at l 1)) (NoOffer Unknown)
-    (pick (ltb (value_at l 0) last) (NoOffer Falling)
-    (pick (ltb 65535 (total_of totals (value_at l 1) + value_at l 2)) (NoOffer Limit)
-    (Offer (request_of l.values))))))
+    pick (not (in_trace l.kind && shaped l)) (Err Shape)
+    (pick (not (limits_kept OfferLine l.values)) (Err Limit)
+    (pick (leb accs (value_at l 1)) (Err Unknown)
+    (pick (ltb (value_at l 0) last) (Err Falling)
+    (pick (ltb 65535 (total_of totals (value_at l 1) + value_at l 2)) (Err Limit)
+    (Ok (request_of l.values))))))
 
 -- a refused line ends the reading at line n; after a request it goes on
-abbrev pub after_offer : ℕ → OfferRead → (Request → FileAnswer) → FileAnswer
-after_offer n (NoOffer x) next = Refused x n
-after_offer n (Offer r) next = next r
+abbrev pub after_offer : ℕ → Result Request Refusal → (Request → FileAnswer) → FileAnswer
+after_offer n (Err x) next = Refused x n
+after_offer n (Ok r) next = next r
 
 unfoldable pub read_offers : ℕ → ℕ → ℕ → List ℕ → List (List ℕ) → List ℕ → FileAnswer
 read_offers n accs last totals [] u = pick (eqb (length u) 0) Accepted (Refused Shape n)
@@ -103,10 +99,10 @@ abbrev pub is_offer : Line → Bool
 is_offer l = in_trace l.kind && shaped l && limits_kept OfferLine l.values && ltb (value_at l 1) 32
 
 -- the line from `at` to its LF at `end`
-abbrev pub request_on : Line → ℕ → NextRequest
-request_on l end = pick (is_offer l) (Due (request_of l.values) (end + 1)) Done
+abbrev pub request_on : Line → ℕ → Option (Request × ℕ)
+request_on l end = pick (is_offer l) (Some (request_of l.values, end + 1)) None
 
-unfoldable pub request_at : List ℕ → ℕ → NextRequest
+unfoldable pub request_at : List ℕ → ℕ → Option (Request × ℕ)
 request_at s at =
-    pick (leb (length s) (at + part_length 10 (drop at s))) Done
+    pick (leb (length s) (at + part_length 10 (drop at s))) None
     (request_on (line_of (take (part_length 10 (drop at s)) (drop at s))) (at + part_length 10 (drop at s)))

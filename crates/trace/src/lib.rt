@@ -3,11 +3,12 @@
 #![tactic(auto)]
 
 ghost use Rattle.std.specs.Prelude.{◌≡◌, true, ◌+◌, ◌<◌, ◌≤◌, ltb, get_or};
+ghost use Rattle.lines.specs.Answer.{file_answer};
 ghost use Rattle.lines.specs.Lines.{limits_kept};
 ghost use Rattle.trace.specs.OfferText.{number_at, offer_text, offer_of};
 ghost use Rattle.trace.specs.TraceFile.{request_of, offer_line, read_trace, read_requests, request_at};
 
-use lines::{FileAnswer, Kind, limits_kept};
+use lines::{FileError, Kind, limits_kept};
 use model::{Refusal, Tree};
 use rules::tree_keeps;
 use text::{Field, field_end, read_field, same_bytes};
@@ -20,92 +21,77 @@ pub struct Request {
     pub count: u8,
 }
 
-// A trace line's answer: the request, or why it is refused.
+// What a line of a trace says that passes test 1 of a line: slot, accelerator and count, and the place after its LF.
 #[derive(Clone, Copy)]
-pub enum OfferRead {
-    NoOffer(Refusal),
-    Offer(Request),
+pub struct OfferText {
+    pub slot: u64,
+    pub accelerator: u64,
+    pub count: u64,
+    pub next: usize,
 }
 
-// What stands at a place of a trace: the end, or a request and the place after its line.
-#[derive(Clone, Copy)]
-pub enum NextRequest {
-    Done,
-    Due(Request, usize),
-}
-
-// What a field of a trace says, where it begins at a place of the file and a certain byte ends it: a number and the place after
-// that byte, or no number.
-#[derive(Clone, Copy)]
-pub enum NumberAt {
-    NoNumber,
-    NumberTo(u64, usize),
-}
-
-// What a line of a trace says, where it begins at a place of the file: slot, accelerator and count, and the place after its LF;
-// or it fails test 1 of a line.
-#[derive(Clone, Copy)]
-pub enum OfferText {
-    Unshaped,
-    Shaped(u64, u64, u64, usize),
-}
-
-// The field is a part of the file.
-fn number_at(s: &[u8], at: usize, sep: u8) -> NumberAt
+// The number in the field that begins at a place of the file and that the byte `sep` ends, and the place after that byte. The field
+// is a part of the file.
+fn number_at(s: &[u8], at: usize, sep: u8) -> Option<(u64, usize)>
     ensures { result ≡ number_at s.now at sep }
 {
     let end = field_end(s, at);
     if s.len() <= end {
-        return NumberAt::NoNumber;
+        return None;
     }
     if s[end] != sep {
-        return NumberAt::NoNumber;
+        return None;
     }
-    let f = read_field(&s[at..end]);
-    match f {
-        Field::Malformed => NumberAt::NoNumber,
-        Field::Dash => NumberAt::NoNumber,
-        Field::Number(x) => NumberAt::NumberTo(x, end + 1),
+    match read_field(&s[at..end]) {
+        Field::Number(x) => Some((x, end + 1)),
+        Field::Malformed | Field::Dash => None,
     }
 }
 
-// The line is read in one pass, with no search for its LF before.
-fn offer_at(s: &[u8], at: usize) -> OfferText
+// The line that begins at a place of the file, where it passes test 1 of a line. It is read in one pass, with no search for its LF
+// before.
+fn offer_at(s: &[u8], at: usize) -> Option<OfferText>
     ensures { result ≡ offer_text s.now at }
 {
     let end = field_end(s, at);
     if s.len() <= end {
-        return OfferText::Unshaped;
+        return None;
     }
     if s[end] != 9 {
-        return OfferText::Unshaped;
+        return None;
     }
     if !same_bytes(&s[at..end], b"o") {
-        return OfferText::Unshaped;
+        return None;
     }
-    let x = number_at(s, end + 1, 9);
-    let NumberAt::NumberTo(slot, second) = x else {
-        return OfferText::Unshaped;
-    };
-    let y = number_at(s, second, 9);
-    let NumberAt::NumberTo(accelerator, third) = y else {
-        return OfferText::Unshaped;
-    };
-    let z = number_at(s, third, 10);
-    let NumberAt::NumberTo(count, next) = z else {
-        return OfferText::Unshaped;
-    };
-    OfferText::Shaped(slot, accelerator, count, next)
+    let (slot, second) = number_at(s, end + 1, 9)?;
+    let (accelerator, third) = number_at(s, second, 9)?;
+    let (count, next) = number_at(s, third, 10)?;
+    Some(OfferText {
+        slot: slot,
+        accelerator: accelerator,
+        count: count,
+        next: next,
+    })
 }
 
-fn request_of(v: [u64; 11]) -> Request
-    requires { (limits_kept Kind.OfferLine v ≡ true) × (get_or v 1 0 < 256) }
-    ensures { result ≡ request_of v }
+// Test 2 of an o line, field by field.
+fn in_limits(l: OfferText) -> bool
+    ensures { result ≡ limits_kept Kind.OfferLine (offer_of l.slot l.accelerator l.count).values }
+{
+    limits_kept(
+        Kind::OfferLine,
+        [l.slot, l.accelerator, l.count, 0, 0, 0, 0, 0, 0, 0, 0],
+    )
+}
+
+fn request_of(l: OfferText) -> Request
+    requires { (limits_kept Kind.OfferLine (offer_of l.slot l.accelerator l.count).values ≡ true) × (l.accelerator < 256) }
+    ensures { result ≡ request_of (offer_of l.slot l.accelerator l.count).values }
 {
     Request {
-        slot: v[0] as u32,
-        accelerator: v[1] as u8,
-        count: v[2] as u8,
+        slot: l.slot as u32,
+        accelerator: l.accelerator as u8,
+        count: l.count as u8,
     }
 }
 
@@ -116,93 +102,76 @@ fn over_total(total: u32, count: u8) -> bool
 }
 
 // The tests after test 1 of one line of a trace, after lines that end with slot `last` and add up to `totals`.
-fn offer_line(
-    accs: u8,
-    last: u32,
-    totals: &[u32; 32],
-    slot: u64,
-    accelerator: u64,
-    count: u64,
-) -> OfferRead
+fn offer_line(accs: u8, last: u32, totals: &[u32; 32], l: OfferText) -> Result<Request, Refusal>
     requires { accs ≤ 32 }
-    ensures { result ≡ offer_line accs last totals.now (offer_of slot accelerator count) }
+    ensures { result ≡ offer_line accs last totals.now (offer_of l.slot l.accelerator l.count) }
 {
-    let v = [slot, accelerator, count, 0, 0, 0, 0, 0, 0, 0, 0];
-    if !limits_kept(Kind::OfferLine, v) {
-        return OfferRead::NoOffer(Refusal::Limit);
+    if !in_limits(l) {
+        return Err(Refusal::Limit);
     }
-    if accs as u64 <= accelerator {
-        return OfferRead::NoOffer(Refusal::Unknown);
+    if accs as u64 <= l.accelerator {
+        return Err(Refusal::Unknown);
     }
-    let r = request_of(v);
+    let r = request_of(l);
     if r.slot < last {
-        return OfferRead::NoOffer(Refusal::Falling);
+        return Err(Refusal::Falling);
     }
     let a = r.accelerator as usize;
     if over_total(totals[a], r.count) {
-        return OfferRead::NoOffer(Refusal::Limit);
+        return Err(Refusal::Limit);
     }
-    OfferRead::Offer(r)
+    Ok(r)
 }
 
 // Whether the trace is accepted on a configuration of so many accelerators, whose rules were checked before, or why and at which
 // line it is refused. Of none and of more than 32 there is no such configuration, and the answer is `Broken`.
-pub fn read_requests(accs: u8, s: &[u8]) -> FileAnswer
-    ensures { result ≡ read_requests accs s.now }
+pub fn read_requests(accs: u8, s: &[u8]) -> Result<(), FileError>
+    ensures { file_answer result ≡ read_requests accs s.now }
 {
     if !((1 <= accs) & (accs <= 32)) {
-        return FileAnswer::Broken;
+        return Err(FileError::Broken);
     }
     if 65536 < s.len() {
-        return FileAnswer::Refused(Refusal::Limit, 0);
+        return Err(FileError::Refused(Refusal::Limit, 0));
     }
     let mut totals = [0u32; 32];
     let mut last: u32 = 0;
     let mut at = 0;
     let mut n: u32 = 1;
     while at < s.len() {
-        let l = offer_at(s, at);
-        let OfferText::Shaped(slot, accelerator, count, next) = l else {
-            return FileAnswer::Refused(Refusal::Shape, n);
+        let Some(l) = offer_at(s, at) else {
+            return Err(FileError::Refused(Refusal::Shape, n));
         };
-        let x = offer_line(accs, last, &totals, slot, accelerator, count);
-        match x {
-            OfferRead::NoOffer(y) => {
-                return FileAnswer::Refused(y, n);
-            }
-            OfferRead::Offer(r) => {
-                let a = r.accelerator as usize;
-                totals[a] = totals[a] + r.count as u32;
-                last = r.slot;
-            }
-        }
-        at = next;
+        let r = match offer_line(accs, last, &totals, l) {
+            Ok(r) => r,
+            Err(why) => return Err(FileError::Refused(why, n)),
+        };
+        let a = r.accelerator as usize;
+        totals[a] = totals[a] + r.count as u32;
+        last = r.slot;
+        at = l.next;
         n += 1;
     }
-    FileAnswer::Accepted
+    Ok(())
 }
 
 // Whether the trace is accepted on this configuration, or why and at which line it is refused.
-pub fn read_trace(t: Tree, s: &[u8]) -> FileAnswer
-    ensures { result ≡ read_trace t s.now }
+pub fn read_trace(t: Tree, s: &[u8]) -> Result<(), FileError>
+    ensures { file_answer result ≡ read_trace t s.now }
 {
     if tree_keeps(t) {
         return read_requests(t.accs, s);
     }
-    FileAnswer::Broken
+    Err(FileError::Broken)
 }
 
-// The request on the line that begins at `at`, and the place after the line; the end where no such line is there.
-pub fn request_at(s: &[u8], at: usize) -> NextRequest
+// The request on the line that begins at `at`, and the place after the line; none where no such line is there.
+pub fn request_at(s: &[u8], at: usize) -> Option<(Request, usize)>
     ensures { result ≡ request_at s.now at }
 {
-    let l = offer_at(s, at);
-    let OfferText::Shaped(slot, accelerator, count, next) = l else {
-        return NextRequest::Done;
-    };
-    let v = [slot, accelerator, count, 0, 0, 0, 0, 0, 0, 0, 0];
-    if !(limits_kept(Kind::OfferLine, v) & (accelerator < 32)) {
-        return NextRequest::Done;
+    let l = offer_at(s, at)?;
+    if !(in_limits(l) & (l.accelerator < 32)) {
+        return None;
     }
-    NextRequest::Due(request_of(v), next)
+    Some((request_of(l), l.next))
 }

@@ -11,6 +11,7 @@ use lib.Bits.{bit_or, or_shifted_r}
 use lib.Pow.{shl_exact}
 use lib.Dec.{lit<}
 use lib.Seq.{set_out}
+use mir.Val.{bool_byte}
 use borrow.Author.Tests.{le-ltb, lt-ltb}
 use Rattle.model.specs.declared.Tree.{Tree}
 use Rattle.model.specs.declared.State.{State}
@@ -30,6 +31,11 @@ turn_far s j port allowance l o h =
     (sym (set_out s.last j port (omega arith))) (sym (set_out s.allowance j allowance (omega arith)))
 
 -- one more port of the live set: its bit is above all that stand there
+-- a test as a number
+pub test_bit : (c : Bool) → bool_byte c ≡ pick {A = ℕ} c 1 0
+test_bit true = refl
+test_bit false = refl
+
 bit_small : (c : Bool) → pick {A = ℕ} c 1 0 < 2 ^ 1
 bit_small true = lit< tt
 bit_small false = lit< tt

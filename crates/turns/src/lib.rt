@@ -7,7 +7,6 @@ ghost use Rattle.turns.specs.Turns.{live_set, next_port, turn_port, turn_allowan
 
 use model::access::{allowance_of, interconnect_at, last_of, port_at, waits_under};
 use model::{Port, State, Tree};
-use rules::less_one;
 
 // The turn at an interconnect in a slot: its port, and the allowance before this slot takes one off.
 #[derive(Clone, Copy)]
@@ -33,14 +32,8 @@ pub fn next_port(set: u8, last: u8) -> u8
     }
     let first = last % 8 + 1;
     let twice = set as u32 * 257;
-    let ahead = u32::trailing_zeros(twice >> first);
+    let ahead = (twice >> first).trailing_zeros();
     ((ahead + first as u32) % 8) as u8
-}
-
-fn live_bit(waiting: u32) -> u8
-    ensures { result ≡ pick (ltb 0 waiting) 1 0 }
-{
-    if 0 < waiting { 1 } else { 0 }
 }
 
 // The live ports of interconnect j, bit p for port p.
@@ -48,10 +41,8 @@ pub fn live_set(t: Tree, s: State, j: u8) -> u8
     ensures { result ≡ live_set t s j }
 {
     let mut set: u8 = 0;
-    let mut p: u8 = 0;
-    while p < 8 {
-        set = set | (live_bit(waits_under(t, s, j, p)) << p);
-        p += 1;
+    for p in 0..8 {
+        set |= u8::from(0 < waits_under(t, s, j, p)) << p;
     }
     set
 }
@@ -60,10 +51,7 @@ pub fn live_set(t: Tree, s: State, j: u8) -> u8
 pub fn grant(granularity: u8, waiting: u32) -> u8
     ensures { result ≡ min granularity waiting }
 {
-    if waiting < granularity as u32 {
-        return waiting as u8;
-    }
-    granularity
+    waiting.min(u32::from(granularity)) as u8
 }
 
 // The turn of interconnect j: its last port where its allowance is above 0, else the next live port after it.
@@ -121,7 +109,7 @@ pub fn choose(t: Tree, s: State, levels: u8, port: Port) -> Choice
             let turn = turn_at(t, s, j);
             let below = choose(t, s, levels - 1, port_at(t, j, turn.port));
             let down = below.state;
-            let next = with_turn(down, j, turn.port, less_one(turn.allowance as u32) as u8);
+            let next = with_turn(down, j, turn.port, turn.allowance.saturating_sub(1));
             Choice {
                 served: below.served,
                 state: next,

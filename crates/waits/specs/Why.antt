@@ -20,8 +20,7 @@ use Rattle.model.specs.Answer.{number_of}
 use Rattle.rules.specs.Rules.{tree_keeps}
 use Rattle.text.specs.Text.{lines}
 use Rattle.trace.specs.declared.Request.{Request}
-use Rattle.lines.specs.declared.FileAnswer.{FileAnswer}
-use Rattle.lines.specs.declared.FileAnswer.TheVariants.{Accepted, Refused, Broken}
+use Rattle.lines.specs.Answer.{FileAnswer, Accepted, Refused, Broken}
 use Rattle.trace.specs.TraceFile.{read_trace, requests}
 use Rattle.runner.specs.Run.{Run, start}
 use Rattle.runner.specs.Slots.{bytes_before}

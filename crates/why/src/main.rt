@@ -3,51 +3,19 @@
 // error.
 #![tactic(auto)]
 
-use input::{Input, file_bytes, page_text};
 use inquiry::{Asked, Part, Reply};
 use model::Channel;
+use printing::{NamedFile, Streams, load, say_text, show_pages, show_text};
 use reasons::explain;
 use std::io::Read;
 use std::rt::Files;
 
-fn say_usage(errors: &impl Print) {
-    let mut page = [0u8; 65536];
-    let n = usage::why_usage(&mut page);
-    input::say(errors, page_text(&page, n));
-}
-
-fn say_help(out: &impl Print, errors: &impl Print) {
-    let mut page = [0u8; 65536];
-    let n = usage::why_help(&mut page);
-    input::write_out(out, errors, page_text(&page, n));
-}
-
-// Writes one page of the reply's text; answers whether all of it was written.
-fn show_page(
-    out: &impl Print,
-    errors: &impl Print,
-    reply: Reply,
-    list: &[u8; 65536],
-    page: u32,
-) -> bool {
-    let mut text = [0u8; 65536];
-    let n = inquiry::page_text(reply, list, page, &mut text);
-    input::write_out(out, errors, page_text(&text, n))
-}
-
-// The pages of the reply's text, until one cannot be written: 32,768 lines and the last have at most 33.
-fn show(out: &impl Print, errors: &impl Print, reply: Reply, list: &[u8; 65536]) {
-    let count = inquiry::page_count(reply, list);
-    let mut page: u32 = 0;
-    while page < 33 {
-        if count <= page as usize {
-            return;
-        }
-        if !show_page(out, errors, reply, list, page) {
-            return;
-        }
-        page += 1;
-    }
+// The pages of the reply's text: 32,768 lines and the last have at most 33.
+fn show(s: &Streams<impl Print, impl Print>, reply: Reply, list: &[u8; 65536]) {
+    let count = inquiry::page_count(reply, list).min(33);
+    show_pages(s, count as u32, |page, out| {
+        inquiry::page_text(reply, list, page, out)
+    });
 }
 
 // What was refused, by this number at this line.
@@ -56,106 +24,78 @@ fn explain_part(
     part: Part,
     number: u8,
     line: u32,
-    tree_name: &[u8],
-    tree: &[u8],
-    trace_name: &[u8],
-    trace: &[u8],
+    tree: NamedFile<'_>,
+    trace: NamedFile<'_>,
 ) {
     match part {
-        Part::Tree => explain(errors, tree_name, false, tree, number, line),
-        Part::Trace => explain(errors, trace_name, true, trace, number, line),
-        Part::Accelerator => explain(errors, b"ACC", true, trace, number, line),
-        Part::Number => explain(errors, b"NUMBER", true, trace, number, line),
+        Part::Tree => explain(errors, tree.name, false, tree.bytes, number, line),
+        Part::Trace => explain(errors, trace.name, true, trace.bytes, number, line),
+        Part::Accelerator => explain(errors, b"ACC", true, trace.bytes, number, line),
+        Part::Number => explain(errors, b"NUMBER", true, trace.bytes, number, line),
     }
 }
 
 fn ask(
-    out: &impl Print,
-    errors: &impl Print,
+    s: &Streams<impl Print, impl Print>,
     channel: Channel,
     a: u8,
     k: u32,
-    tree_name: &[u8],
-    tree: &[u8],
-    trace_name: &[u8],
-    trace: &[u8],
+    tree: NamedFile<'_>,
+    trace: NamedFile<'_>,
 ) {
     let mut list = [0u8; 65536];
-    let reply = inquiry::inquire(tree, channel, trace, a, k, &mut list);
-    show(out, errors, reply, &list);
+    let reply = inquiry::inquire(tree.bytes, channel, trace.bytes, a, k, &mut list);
+    show(s, reply, &list);
     match reply {
         Reply::Refused(part, number, line) => {
-            explain_part(
-                errors, part, number, line, tree_name, tree, trace_name, trace,
-            )
+            explain_part(s.errors, part, number, line, tree, trace)
         }
         Reply::Waited(_, _) => {}
     }
 }
 
-// One byte more than a file may have shows a longer one.
 fn ask_files(
-    rt: &(impl Files + Print),
+    s: &Streams<impl Files + Print, impl Print>,
     stdin: &mut impl Read,
-    errors: &impl Print,
     channel: Channel,
     a: u8,
     k: u32,
     tree_name: &[u8],
     trace_name: &[u8],
 ) {
-    let mut tree = [0u8; 65537];
-    let mut trace = [0u8; 65537];
-    let read = input::load(tree_name, rt, stdin, errors, &mut tree);
-    let Input::Bytes(n) = read else {
+    let mut tree_bytes = [0u8; 65537];
+    let mut trace_bytes = [0u8; 65537];
+    let Some(tree) = load(s, stdin, tree_name, &mut tree_bytes) else {
         return;
     };
-    let read = input::load(trace_name, rt, stdin, errors, &mut trace);
-    let Input::Bytes(m) = read else {
+    let Some(trace) = load(s, stdin, trace_name, &mut trace_bytes) else {
         return;
     };
-    ask(
-        rt,
-        errors,
-        channel,
-        a,
-        k,
-        tree_name,
-        file_bytes(&tree, n),
-        trace_name,
-        file_bytes(&trace, m),
-    );
+    ask(s, channel, a, k, tree, trace);
 }
 
 // What the first five words ask.
 fn main(rt: HostRuntime) {
-    let stdin = &mut rt.stdin();
-    let errors = &rt.stderr();
+    let s = &Streams {
+        out: &rt,
+        errors: &rt.stderr(),
+    };
     let mut first = [0u8; 131072];
     let mut second = [0u8; 131072];
     let mut third = [0u8; 131072];
     let mut fourth = [0u8; 131072];
     let mut fifth = [0u8; 131072];
-    let k = input::word(&rt, 1, &mut first);
-    let n = input::word(&rt, 2, &mut second);
-    let m = input::word(&rt, 3, &mut third);
-    let i = input::word(&rt, 4, &mut fourth);
-    let j = input::word(&rt, 5, &mut fifth);
-    let tree_name = &second[0..n];
-    let trace_name = &third[0..m];
-    let asked = inquiry::why_asked(
-        input::words(&rt),
-        &first[0..k],
-        tree_name,
-        trace_name,
-        &fourth[0..i],
-        &fifth[0..j],
-    );
+    let channel = input::word(&rt, 1, &mut first);
+    let tree = input::word(&rt, 2, &mut second);
+    let trace = input::word(&rt, 3, &mut third);
+    let acc = input::word(&rt, 4, &mut fourth);
+    let number = input::word(&rt, 5, &mut fifth);
+    let asked = inquiry::why_asked(input::words(&rt), channel, tree, trace, acc, number);
     match asked {
-        Asked::Usage => say_usage(errors),
-        Asked::Help => say_help(&rt, errors),
-        Asked::Wait(channel, a, k) => ask_files(
-            &rt, stdin, errors, channel, a, k, tree_name, trace_name,
-        ),
+        Asked::Usage => say_text(s, usage::why_usage),
+        Asked::Help => {
+            show_text(s, usage::why_help);
+        }
+        Asked::Wait(channel, a, k) => ask_files(s, &mut rt.stdin(), channel, a, k, tree, trace),
     }
 }

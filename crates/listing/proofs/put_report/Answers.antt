@@ -19,7 +19,7 @@ returns-in_default c =
 
 pub loop-a-preserved : goal.loop-a-preserved
 loop-a-preserved c =
-    let m = row_made _ _ _ c.requires c.loop-a-test.true c.bound.ensures _ c.in-Bound.is in (
+    let m = row_made _ _ _ c.requires c.loop-a-test.true c.bound.ensures _ c.in-Ok.is in (
       lines_turn 174 (λ i. row_text i (analysis_of c.args.t i)) _ c.loop-a.invariant.0 (puts_as (ap (row_text c.loop-a.a) m) c.put_row.ensures),
       all_turn _ (λ i. (analysis_of c.args.t i).meets) _ _ c.loop-a.invariant.1 (ap (λ (r : Analysis). r.meets) m),
     )

@@ -1,12 +1,18 @@
--- `offer` meets its contract: the check of the rules picks the case of the definition.
-use mathlib.Core.Path.{sym, ◌∙◌}
-use Rattle.machine.proofs.Steps.{offer_11, offer_passed}
+-- `offer` meets its contract: the state is the one that the answer leads to.
+use mathlib.Core.Path.{ap, ap₂, sym, ◌∙◌}
+use Rattle.machine.specs.Machine.{outcome}
+use Rattle.machine.specs.Answers.{offer_means}
+use Rattle.machine.proofs.Steps.{offer_by_answer}
 use Rattle.machine.proofs.offer.Goals as goal
 
-pub returns-then-not-both_keep : goal.returns-then-not-both_keep
-returns-then-not-both_keep c =
-    offer_11 _ _ _ (sym c.both_keep.ensures ∙ c.if-not-both_keep.true)
+pub returns-in-Ok : goal.returns-in-Ok
+returns-in-Ok c =
+    let m = ap offer_means c.in-Ok.is in
+    ap₂ outcome m c.admitting-state.ensures
+    ∙ offer_by_answer c.args.t c.args.s c.args.a _ (sym m ∙ c.offer_answer-answer.ensures.answer)
 
-pub returns : goal.returns
-returns c =
-    c.offer_within.ensures ∙ offer_passed c.args.t c.args.s c.args.a (sym c.both_keep.ensures ∙ c.if-not-both_keep.false)
+pub returns-in-Err : goal.returns-in-Err
+returns-in-Err c =
+    let m = ap offer_means c.in-Err.is in
+    ap (λ v. outcome v c.args.s) m
+    ∙ offer_by_answer c.args.t c.args.s c.args.a _ (sym m ∙ c.offer_answer-answer.ensures.answer)

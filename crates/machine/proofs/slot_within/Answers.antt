@@ -11,8 +11,8 @@ use Rattle.turns.proofs.Steps.{choice_same}
 use Rattle.machine.proofs.Cases.{few_returns}
 use Rattle.machine.proofs.slot_within.Goals as goal
 
-pub ticked-next-requires : goal.ticked-next-requires
-ticked-next-requires c = (omega arith, (sound_of _ _ c.requires).delay)
+pub ticked-requires : goal.ticked-requires
+ticked-requires c = (omega arith, (sound_of _ _ c.requires).delay)
 
 pub take_one-requires : goal.take_one-requires
 take_one-requires c =
@@ -26,8 +26,8 @@ take_one-requires c =
       few_returns x.t x.s k a,
     )
 
-pub ticked-next-requires-2 : goal.ticked-next-requires-2
-ticked-next-requires-2 c =
+pub ticked-requires-2 : goal.ticked-requires-2
+ticked-requires-2 c =
     let x = c.args in
     let e = ap (λ (r : State). r.slot) c.take_one.ensures ∙ ap (λ (r : State). r.slot) c.choose-c.ensures.1
     ∙ choice_same (λ (r : State). r.slot) (λ r j p o. refl) 4 x.t x.s 0 in

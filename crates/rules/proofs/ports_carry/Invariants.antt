@@ -1,13 +1,9 @@
 -- `ports_carry` meets its contract: the loop has tested each number below the next one.
 use mathlib.Core.Path.{◌≡◌}
-use Prim.Native.Nat.{◌≤◌, ◌-◌}
 use Rattle.folds.specs.Fold.{all}
 use Rattle.model.specs.Tree.{port_of}
 use Rattle.rules.specs.Rules.{carries}
 use Rattle.rules.proofs.ports_carry.Given as goal
 
 abbrev pub invariant-loop-p : goal.invariant-loop-p
-invariant-loop-p l = (l.p ≤ 8) × (l.ok ≡ all l.p (λ q. carries l.t l.j q (port_of l.t l.j q)))
-
-abbrev pub decreases-loop-p : goal.decreases-loop-p
-decreases-loop-p l = 8 - l.p
+invariant-loop-p l = l.ok ≡ all l.p (λ q. carries l.t l.j q (port_of l.t l.j q))

@@ -1,14 +1,11 @@
 -- `records_keep` meets its contract: the loop has tested each number below the next one.
 use mathlib.Core.Path.{sym}
-use native.Mathlib.Omega.{arith}
-use borrow.Author.Rules.{rules}
-use Rattle.rules.specs.Rules.{record_keeps}
 use Rattle.model.proofs.Sums.{all_none, all_turn}
+use Rattle.rules.specs.Rules.{record_keeps}
 use Rattle.rules.proofs.records_keep.Goals as goal
 
 pub loop-a-init : goal.loop-a-init
-loop-a-init c = (search rules, sym (all_none _))
+loop-a-init c = sym (all_none _)
 
 pub loop-a-preserved : goal.loop-a-preserved
-loop-a-preserved c =
-    (omega arith, all_turn _ (record_keeps c.args.t c.args.s) _ _ c.loop-a.invariant.1 c.record_keeps-ok.ensures)
+loop-a-preserved c = all_turn _ (record_keeps c.args.t c.args.s) _ _ c.loop-a.invariant c.record_keeps-ok.ensures

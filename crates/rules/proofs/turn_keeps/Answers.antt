@@ -18,7 +18,7 @@ returns-then-j-t c =
     let g = ap (λ (x : Interconnect). x.granularity) c.interconnect_at-x.ensures in
     (and_cong (ap (λ (k : ℕ). leb k 7) l)
     (ap₂ leb c.allowance_of-allowance.ensures
-    (c.smaller-most.ensures ∙ ap₂ min g (c.waits_under.ensures ∙ ap (waits_under a.t a.s a.j) l)))) ∙ sym (picked _ _ _ (lt-ltb _ _ c.if-j-t.true))
+    (c.min-most.ensures ∙ ap₂ min (c.from.ensures ∙ g) (c.waits_under.ensures ∙ ap (waits_under a.t a.s a.j) l)))) ∙ sym (picked _ _ _ (lt-ltb _ _ c.if-j-t.true))
 
 pub returns : goal.returns
 unfolding turn_keeps

@@ -1,8 +1,9 @@
 -- `run_wait` meets its contract: each return is the ending that the tests before it pick, and what is told is told by a run alone.
-use mathlib.Core.Path.{ap, sym, ◌∙◌}
-use Rattle.machine.specs.Answers.{fresh_means}
+use mathlib.Core.Path.{ap, ap₂, sym, ◌∙◌}
+use Rattle.lines.specs.Answer.{file_error, file_answer}
 use Rattle.trace.proofs.Traces.{reads_kept}
-use Rattle.runner.specs.Run.{start}
+use Rattle.model.specs.Answer.{number_of}
+use Rattle.runner.specs.Run.{refused_at, start}
 use Rattle.runner.specs.Places.{left_at}
 use Rattle.runner.specs.Answers.{run_means}
 use Rattle.runner.specs.Wait.{waits_after, used_by}
@@ -16,7 +17,7 @@ returns-in_default c =
     let fresh = c in
     let x = fresh.args in
     let u = c.untold.ensures in
-    let no = unbegun x.t x.channel _ _ fresh.fresh-start.ensures _ (ap fresh_means c.in_default.is) in
+    let no = unbegun x.t x.channel _ fresh.fresh.ensures _ c.in_default.is in
     let r = ran_broken x.t x.channel x.trace.now x.out.now no in record {
       answer = ap run_means u.answer ∙ r.0;
       bytes = r.1;
@@ -29,7 +30,7 @@ returns-then-out-gt65536 c =
     let fresh = large in
     let x = fresh.args in
     let u = c.untold-then-out-gt65536.ensures in
-    let g = begun x.t x.channel _ _ fresh.fresh-start.ensures (ap fresh_means large.in-Started.is) in
+    let g = begun x.t x.channel _ fresh.fresh.ensures _ large.in-Ok.is in
     let r = ran_size x.t x.channel x.trace.now x.out.now g.0 large.if-out-gt65536.true in record {
       answer = ap run_means u.answer ∙ r.0;
       bytes = r.1;
@@ -43,20 +44,20 @@ run_slots-requires c =
     let small = read in
     let fresh = small in
     let x = fresh.args in
-    let g = begun x.t x.channel _ _ fresh.fresh-start.ensures (ap fresh_means small.in-Started.is) in
-    let y = sym (read.read_requests.ensures ∙ reads_kept x.t _ g.0) ∙ accepted.in-Accepted.is in
+    let g = begun x.t x.channel _ fresh.fresh.ensures _ small.in-Ok.is in
+    let y = sym (read.read_requests.ensures ∙ reads_kept x.t _ g.0) ∙ ap file_answer accepted.in-Ok-read_requests.is in
     (g.0, g.1, small.if-out-gt65536.false, accepts_start x.t x.trace.now y, asked_known x.t x.a x.k _ c.number_asked-number.ensures)
 
-pub returns-in-Accepted : goal.returns-in-Accepted
-returns-in-Accepted c =
+pub returns-in-Ok-read_requests : goal.returns-in-Ok-read_requests
+returns-in-Ok-read_requests c =
     let ran = c in
     let accepted = ran in
     let read = accepted in
     let small = read in
     let fresh = small in
     let x = fresh.args in
-    let g = begun x.t x.channel _ _ fresh.fresh-start.ensures (ap fresh_means small.in-Started.is) in
-    let y = sym (read.read_requests.ensures ∙ reads_kept x.t _ g.0) ∙ accepted.in-Accepted.is in
+    let g = begun x.t x.channel _ fresh.fresh.ensures _ small.in-Ok.is in
+    let y = sym (read.read_requests.ensures ∙ reads_kept x.t _ g.0) ∙ ap file_answer accepted.in-Ok-read_requests.is in
     let e = ran_read x.t x.channel x.trace.now x.out.now g.0 small.if-out-gt65536.false _ y in
     let w = told_read_lem x.t x.channel x.trace.now x.a x.k _ g.0 small.if-out-gt65536.false _ y in
     let r = ran.run_slots.ensures in
@@ -67,32 +68,32 @@ returns-in-Accepted c =
       wait = r.wait ∙ asked ∙ w;
     }
 
-pub returns-in-Refused : goal.returns-in-Refused
-returns-in-Refused c =
+pub returns-in-Err-Refused : goal.returns-in-Err-Refused
+returns-in-Err-Refused c =
     let why = c in
     let read = why in
     let small = read in
     let fresh = small in
     let x = fresh.args in
-    let u = c.untold-in-Refused.ensures in
-    let g = begun x.t x.channel _ _ fresh.fresh-start.ensures (ap fresh_means small.in-Started.is) in
-    let y = sym (read.read_requests.ensures ∙ reads_kept x.t _ g.0) ∙ why.in-Refused.is in
+    let u = c.untold-in-Err-Refused.ensures in
+    let g = begun x.t x.channel _ fresh.fresh.ensures _ small.in-Ok.is in
+    let y = sym (read.read_requests.ensures ∙ reads_kept x.t _ g.0) ∙ ap file_answer why.in-Err-Refused.is ∙ ap file_error why.in-Err-Refused.field-0-is in
     let e = ran_read x.t x.channel x.trace.now x.out.now g.0 small.if-out-gt65536.false _ y in record {
-      answer = ap run_means u.answer ∙ e.0;
+      answer = ap run_means u.answer ∙ ap₂ (λ r n. refused_at (number_of r) n) why.in-Err-Refused.why-is why.in-Err-Refused.line-is ∙ e.0;
       bytes = e.1;
       wait = u.wait ∙ told_read_lem x.t x.channel x.trace.now x.a x.k _ g.0 small.if-out-gt65536.false _ y;
     }
 
-pub returns-in-Broken : goal.returns-in-Broken
-returns-in-Broken c =
+pub returns-in-Err-Broken : goal.returns-in-Err-Broken
+returns-in-Err-Broken c =
     let broken = c in
     let read = broken in
     let small = read in
     let fresh = small in
     let x = fresh.args in
-    let u = c.untold-in-Broken.ensures in
-    let g = begun x.t x.channel _ _ fresh.fresh-start.ensures (ap fresh_means small.in-Started.is) in
-    let y = sym (read.read_requests.ensures ∙ reads_kept x.t _ g.0) ∙ broken.in-Broken.is in
+    let u = c.untold-in-Err-Broken.ensures in
+    let g = begun x.t x.channel _ fresh.fresh.ensures _ small.in-Ok.is in
+    let y = sym (read.read_requests.ensures ∙ reads_kept x.t _ g.0) ∙ ap file_answer broken.in-Err-Broken.is ∙ ap file_error broken.in-Err-Broken.field-0-is in
     let e = ran_read x.t x.channel x.trace.now x.out.now g.0 small.if-out-gt65536.false _ y in record {
       answer = ap run_means u.answer ∙ e.0;
       bytes = e.1;

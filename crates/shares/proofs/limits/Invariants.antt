@@ -11,7 +11,4 @@ abbrev pub Filled : List ℕ → (ℕ → ℕ) → ℕ → Type 0
 Filled l f i = (k : ℕ) → k < i → get_or l k 0 ≡ f k
 
 abbrev pub invariant-loop-i : goal.invariant-loop-i
-invariant-loop-i l = (l.i ≤ 32) × (length l.table ≡ 32) × Filled l.table (limit_of l.t l.channel) l.i
-
-abbrev pub decreases-loop-i : goal.decreases-loop-i
-decreases-loop-i l = 32 - l.i
+invariant-loop-i l = (length l.table ≡ 32) × Filled l.table (limit_of l.t l.channel) l.i

@@ -8,18 +8,18 @@ use Rattle.shares.specs.Shares.{counted, others_at}
 use Rattle.shares.proofs.others_at.Goals as goal
 
 pub loop-q-init : goal.loop-q-init
-loop-q-init c = (search rules, sym (sum_none _), search rules)
+loop-q-init c = (sym (sum_none _), search rules)
 
 pub loop-q-preserved : goal.loop-q-preserved
 loop-q-preserved c =
     let a = c.args in
     let i = c.loop-q.invariant in
     let f = counted a.t (weight_in a.limits) a.j a.p in
-    (omega arith, sum_turn _ f _ _ i.1 c.count_port-sum.ensures.0, omega (arith, c.count_port-sum.ensures.1, i.2))
+    (sum_turn _ f _ _ i.0 c.count_port-sum.ensures.0, omega (arith, c.count_port-sum.ensures.1, i.1))
 
 pub returns : goal.returns
 unfolding others_at
 returns c =
     let a = c.args in
     let i = c.loop-q.invariant in
-    (sum_end _ 8 (counted a.t (weight_in a.limits) a.j a.p) _ i.1 (omega arith), omega (arith, i.2))
+    (sum_end _ 8 (counted a.t (weight_in a.limits) a.j a.p) _ i.0 (omega arith), omega (arith, i.1))

@@ -7,7 +7,4 @@ use Rattle.shares.specs.Shares.{counted}
 use Rattle.shares.proofs.others_at.Given as goal
 
 abbrev pub invariant-loop-q : goal.invariant-loop-q
-invariant-loop-q l = (l.q ≤ 8) × (l.sum ≡ total l.q (counted l.t (weight_in l.limits) l.j l.p)) × (l.sum ≤ 255 * l.q)
-
-abbrev pub decreases-loop-q : goal.decreases-loop-q
-decreases-loop-q l = 8 - l.q
+invariant-loop-q l = (l.sum ≡ total l.q (counted l.t (weight_in l.limits) l.j l.p)) × (l.sum ≤ 255 * l.q)

@@ -14,25 +14,27 @@ returns-then-not-same_bytes c =
     sym (offer_other _ _ _ c.field_end-end.ensures c.if-s-end.false c.if-s-end-ne9.false
     (sym c.same_bytes.ensures ∙ c.if-not-same_bytes.true))
 
-pub returns-in_default : goal.returns-in_default
-returns-in_default c =
-    sym (offer_no_slot _ _ _ c.field_end-end.ensures c.if-s-end.false c.if-s-end-ne9.false
-    (sym c.same_bytes.ensures ∙ c.if-not-same_bytes.false) (sym c.number_at-x.ensures ∙ c.in_default.is))
+pub returns-in_err-slot : goal.returns-in_err-slot
+returns-in_err-slot c =
+    c.from_residual.ensures ∙ sym (offer_no_slot _ _ _ c.field_end-end.ensures c.if-s-end.false c.if-s-end-ne9.false
+    (sym c.same_bytes.ensures ∙ c.if-not-same_bytes.false) (sym c.number_at.ensures ∙ c.in_err-slot.was))
 
-pub returns-in_default-y : goal.returns-in_default-y
-returns-in_default-y c =
-    sym (offer_no_accelerator _ _ _ c.field_end-end.ensures c.if-s-end.false c.if-s-end-ne9.false
-    (sym c.same_bytes.ensures ∙ c.if-not-same_bytes.false) _ _ (sym c.number_at-x.ensures ∙ c.in-NumberTo.is)
-    (sym c.number_at-y.ensures ∙ c.in_default-y.is))
+pub returns-in_err-accelerator : goal.returns-in_err-accelerator
+returns-in_err-accelerator c =
+    c.from_residual-in_err-accelerator.ensures
+    ∙ sym (offer_no_accelerator _ _ _ c.field_end-end.ensures c.if-s-end.false c.if-s-end-ne9.false
+    (sym c.same_bytes.ensures ∙ c.if-not-same_bytes.false) _ _ (sym c.number_at.ensures ∙ c.in_ok-slot.was)
+    (sym c.number_at-2.ensures ∙ c.in_err-accelerator.was))
 
-pub returns-in_default-z : goal.returns-in_default-z
-returns-in_default-z c =
-    sym (offer_no_count _ _ _ c.field_end-end.ensures c.if-s-end.false c.if-s-end-ne9.false
-    (sym c.same_bytes.ensures ∙ c.if-not-same_bytes.false) _ _ (sym c.number_at-x.ensures ∙ c.in-NumberTo.is) _ _
-    (sym c.number_at-y.ensures ∙ c.in-NumberTo-y.is) (sym c.number_at-z.ensures ∙ c.in_default-z.is))
+pub returns-in_err-count : goal.returns-in_err-count
+returns-in_err-count c =
+    c.from_residual-in_err-count.ensures
+    ∙ sym (offer_no_count _ _ _ c.field_end-end.ensures c.if-s-end.false c.if-s-end-ne9.false
+    (sym c.same_bytes.ensures ∙ c.if-not-same_bytes.false) _ _ (sym c.number_at.ensures ∙ c.in_ok-slot.was) _ _
+    (sym c.number_at-2.ensures ∙ c.in_ok-accelerator.was) (sym c.number_at-3.ensures ∙ c.in_err-count.was))
 
 pub returns : goal.returns
 returns c =
     sym (offer_read _ _ _ c.field_end-end.ensures c.if-s-end.false c.if-s-end-ne9.false
-    (sym c.same_bytes.ensures ∙ c.if-not-same_bytes.false) _ _ (sym c.number_at-x.ensures ∙ c.in-NumberTo.is) _ _
-    (sym c.number_at-y.ensures ∙ c.in-NumberTo-y.is) _ _ (sym c.number_at-z.ensures ∙ c.in-NumberTo-z.is))
+    (sym c.same_bytes.ensures ∙ c.if-not-same_bytes.false) _ _ (sym c.number_at.ensures ∙ c.in_ok-slot.was) _ _
+    (sym c.number_at-2.ensures ∙ c.in_ok-accelerator.was) _ _ (sym c.number_at-3.ensures ∙ c.in_ok-count.was))

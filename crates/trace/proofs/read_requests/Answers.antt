@@ -25,43 +25,43 @@ loop-at-init c =
 pub returns-in_default : goal.returns-in_default
 returns-in_default c =
     sym (c.loop-at.invariant.4 ∙ trace_unshaped _ _ _ _ _ _ c.loop-at-test.true
-    (sym c.offer_at-l.ensures ∙ c.in_default.is))
+    (sym c.offer_at.ensures ∙ c.in_default.is))
 
-pub returns-in-NoOffer : goal.returns-in-NoOffer
-returns-in-NoOffer c =
-    let r = text_read _ c.loop-at.at _ _ _ _ (sym c.offer_at-l.ensures ∙ c.in-Shaped.is) in
-    sym (c.loop-at.invariant.4 ∙ trace_refused _ _ _ _ _ _ c.loop-at-test.true _ _ _ _ r _ c.offer_line-x.ensures
-    _ c.in-NoOffer.is)
+pub returns-in-Err : goal.returns-in-Err
+returns-in-Err c =
+    let r = text_read _ c.loop-at.at _ (sym c.offer_at.ensures ∙ c.in-Some.is) in
+    sym (c.loop-at.invariant.4 ∙ trace_refused _ _ _ _ _ _ c.loop-at-test.true _ _ _ _ r _ c.offer_line.ensures
+    _ c.in-Err.is)
 
 pub bounds-totals-a : goal.bounds-totals-a
 bounds-totals-a c =
-    let g = offer_says _ _ c.loop-at.totals _ _ (sym c.offer_line-x.ensures ∙ c.in-Offer.is) in
+    let g = offer_says _ _ c.loop-at.totals _ _ (sym c.offer_line.ensures ∙ c.in-Ok.is) in
     omega (arith, g.known, c.loop-at.invariant.3)
 
 pub overflow_add-totals : goal.overflow_add-totals
 overflow_add-totals c =
-    let g = offer_says _ _ c.loop-at.totals _ _ (sym c.offer_line-x.ensures ∙ c.in-Offer.is) in
+    let g = offer_says _ _ c.loop-at.totals _ _ (sym c.offer_line.ensures ∙ c.in-Ok.is) in
     omega (arith, g.total)
 
-pub bounds-totals-a-in-Offer : goal.bounds-totals-a-in-Offer
-bounds-totals-a-in-Offer c =
-    let g = offer_says _ _ c.loop-at.totals _ _ (sym c.offer_line-x.ensures ∙ c.in-Offer.is) in
+pub bounds-totals-a-in-loop-at : goal.bounds-totals-a-in-loop-at
+bounds-totals-a-in-loop-at c =
+    let g = offer_says _ _ c.loop-at.totals _ _ (sym c.offer_line.ensures ∙ c.in-Ok.is) in
     omega (arith, g.known, c.loop-at.invariant.3)
 
 pub loop-at-smaller : goal.loop-at-smaller
 loop-at-smaller c =
-    let r = text_read _ c.loop-at.at _ _ _ _ (sym c.offer_at-l.ensures ∙ c.in-Shaped.is) in
+    let r = text_read _ c.loop-at.at _ (sym c.offer_at.ensures ∙ c.in-Some.is) in
     omega (arith, r.place, r.within)
 
 pub loop-at-preserved : goal.loop-at-preserved
 loop-at-preserved c =
-    let r = text_read _ c.loop-at.at _ _ _ _ (sym c.offer_at-l.ensures ∙ c.in-Shaped.is) in (
+    let r = text_read _ c.loop-at.at _ (sym c.offer_at.ensures ∙ c.in-Some.is) in (
       omega (arith, r.place, r.within),
       c.loop-at.invariant.1,
       omega (arith, r.place),
       c.loop-at.invariant.3,
-      c.loop-at.invariant.4 ∙ trace_taken _ _ _ _ _ _ c.loop-at-test.true _ _ _ _ r _ c.offer_line-x.ensures _
-          c.in-Offer.is,
+      c.loop-at.invariant.4 ∙ trace_taken _ _ _ _ _ _ c.loop-at-test.true _ _ _ _ r _ c.offer_line.ensures _
+          c.in-Ok.is,
     )
 
 pub returns : goal.returns

@@ -24,6 +24,6 @@ returns-else-levels-eq0 t c =
     let d = b.port_at.ensures in (
       who_turn a.levels a.t a.s j _ _ h p d _ b.choose-below.ensures.0 ∙ sym (ap (reached (who a.levels a.t a.s)) e),
       c.with_turn-next.ensures
-          ∙ after_turn a.levels a.t a.s j _ _ h p d _ _ b.choose-below.ensures.1 (c.less_one.ensures ∙ ap (λ (n : ℕ). n - 1) b.turn_at-turn.ensures.1)
+          ∙ after_turn a.levels a.t a.s j _ _ h p d _ _ b.choose-below.ensures.1 (c.saturating_sub.ensures ∙ ap (λ (n : ℕ). n - 1) b.turn_at-turn.ensures.1)
           ∙ sym (ap (turned a.s (after a.levels a.t a.s)) e),
     )

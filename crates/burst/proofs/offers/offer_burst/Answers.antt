@@ -3,13 +3,14 @@ use mathlib.Core.Path.{◌≡◌, sym, ◌∙◌, ap, ap₂}
 use mathlib.Core.Bool.{Bool}
 use Prim.Native.Nat.{ℕ}
 use native.Mathlib.Omega.{arith}
+use Rattle.std.specs.Prelude.{Result}
 use Rattle.model.specs.declared.Tree.{Tree}
+use Rattle.model.specs.declared.Refusal.{Refusal}
 use Rattle.model.specs.declared.State.{State}
 use Rattle.model.specs.Tree.{beat_limit}
 use Rattle.rules.specs.Rules.{keeps}
 use Rattle.rules.proofs.Sound.{sound_of}
 use Rattle.burst.specs.declared.Burst.{Burst}
-use Rattle.burst.specs.declared.SplitAnswer.{SplitAnswer}
 use Rattle.burst.specs.Burst.{Split, split_of}
 use Rattle.burst.specs.Offers.{by_split, burst_offer}
 use Rattle.burst.specs.Answers.{split_means}
@@ -18,7 +19,7 @@ use Rattle.burst.proofs.offers.offer_burst.Goals as goal
 -- the burst offered, from what the splitter answered
 module _ (t : Tree) (s : State) (a : ℕ) (b : Burst) (from n : ℕ) (length : n ≡ t.bus.burst) (limit : ℕ)
     (most : limit ≡ beat_limit t.bus) (ok : Bool) (kept : ok ≡ keeps t s) where
-  by_answer : (x y : SplitAnswer) → split_means x ≡ split_of limit ok n b → x ≡ y
+  by_answer : (x y : Result ℕ Refusal) → split_means x ≡ split_of limit ok n b → x ≡ y
       → burst_offer t s a b from ≡ by_split (split_means y) t s a from
   by_answer x y e g =
       ap (λ (z : Split). by_split z t s a from)

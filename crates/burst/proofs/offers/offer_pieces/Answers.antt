@@ -8,12 +8,12 @@ use Rattle.burst.specs.Offers.{offering}
 use Rattle.burst.proofs.Offered.{Sofar, sofar_admitted, sofar_refused, sofar_all}
 use Rattle.burst.proofs.offers.offer_pieces.Goals as goal
 
-pub returns-in-Refused : goal.returns-in-Refused
-returns-in-Refused c =
+pub returns-in-Err : goal.returns-in-Err
+returns-in-Err c =
     let l = c.loop-admitted in
     let a = c.args in
     let o = c.offer-reply.ensures in
-    let e = sym (ap (λ (x : Outcome). x.answer) o) ∙ ap offer_means c.in-Refused.is in
+    let e = sym (ap (λ (x : Outcome). x.answer) o) ∙ ap offer_means c.in-Err.is in
     ap (offering _ l.admitted) (ap (λ (x : Outcome). x.state) o)
     ∙ sofar_refused a.t a.a a.k a.s l.state l.admitted c.loop-admitted-test.true l.invariant _ e
 
@@ -22,7 +22,7 @@ loop-admitted-preserved c =
     let l = c.loop-admitted in
     let a = c.args in
     let o = c.offer-reply.ensures in
-    let e = sym (ap (λ (x : Outcome). x.answer) o) ∙ ap offer_means c.in-Admitted.is in
+    let e = sym (ap (λ (x : Outcome). x.answer) o) ∙ ap offer_means c.in_default.is in
     subst (λ (x : State). Sofar a.t a.a a.k a.s x (l.admitted + 1)) (sym (ap (λ (x : Outcome). x.state) o))
     (sofar_admitted a.t a.a a.k a.s l.state l.admitted c.loop-admitted-test.true l.invariant e)
 

@@ -19,7 +19,7 @@ pub overflow_add-sum : goal.overflow_add-sum
 overflow_add-sum t c =
     let entry = c in
     let h : (entry.args.levels ≡ 0 → ⊥) = c.if-levels-eq0.false in
-    let i = c.loop-p.invariant.2 in
+    let i = c.loop-p.invariant.1 in
     let p = c.loop-p-test.true in
     record { fits = room _ entry.args.levels _ _ p entry.requires h i c.weight_beneath-sum.ensures.1 }
 
@@ -31,14 +31,14 @@ loop-p-preserved t c =
     let f = c.weight_beneath-sum.ensures.0 ∙ ap (beneath a.t a.weights (a.levels - 1)) c.port_at.ensures in
     let b = 255 * 8 ^ (a.levels - 1) in
     let r : c.weight_beneath-sum.result ≤ b = c.weight_beneath-sum.ensures.1 in
-    (omega arith, sum_turn _ (at_port a.t a.weights a.levels j) _ _ i.1 f, add_port _ _ _ _ i.2 r)
+    (sum_turn _ (at_port a.t a.weights a.levels j) _ _ i.0 f, add_port _ _ _ _ i.1 r)
 
 pub returns-in-Acc : goal.returns-in-Acc
 returns-in-Acc t c =
     let a = c.args in
     let e = ap (beneath a.t a.weights a.levels) c.in-Acc.is in (
-      c.widen.ensures ∙ c.weight_of.ensures ∙ sym e,
-      byte_beneath _ _ (omega (arith, c.weight_of.type_inv, c.widen.ensures)),
+      c.from.ensures ∙ c.weight_of.ensures ∙ sym e,
+      byte_beneath _ _ (omega (arith, c.weight_of.type_inv, c.from.ensures)),
     )
 
 pub returns-after-loop-p : goal.returns-after-loop-p
@@ -48,10 +48,10 @@ returns-after-loop-p t c =
     let i = c.loop-p.invariant in
     let h : (a.levels ≡ 0 → ⊥) = c.if-levels-eq0.false in
     let j = c.in-Int.j in
-    let s = sum_end _ 8 (at_port a.t a.weights a.levels j) _ i.1 (omega arith) in (
+    let s = sum_end _ 8 (at_port a.t a.weights a.levels j) _ i.0 (omega arith) in (
       s ∙ sym (e ∙ inside_step a.levels a.t (weight_in a.weights) _ h),
-      omega (arith, eight_at_most _ _ _ 8 i.2 i.0, eight_ports a.levels h),
+      omega (arith, eight_at_most _ _ _ 8 i.1 (omega arith), eight_ports a.levels h),
     )
 
 pub loop-p-init : goal.loop-p-init
-loop-p-init t c = (search rules, sym (sum_none _), search rules)
+loop-p-init t c = (sym (sum_none _), search rules)

@@ -20,7 +20,4 @@ abbrev pub decreases-weight_beneath : goal.decreases-weight_beneath
 decreases-weight_beneath l = l.levels
 
 abbrev pub invariant-loop-p : goal.invariant-loop-p
-invariant-loop-p l = (l.p ≤ 8) × (l.sum ≡ total l.p (at_port l.t l.weights l.levels l.j)) × (l.sum ≤ l.p * (255 * 8 ^ (l.levels - 1)))
-
-abbrev pub decreases-loop-p : goal.decreases-loop-p
-decreases-loop-p l = 8 - l.p
+invariant-loop-p l = (l.sum ≡ total l.p (at_port l.t l.weights l.levels l.j)) × (l.sum ≤ l.p * (255 * 8 ^ (l.levels - 1)))

@@ -2,27 +2,20 @@
 use mathlib.Core.List.{List}
 use mathlib.Core.Path.{◌∙◌, ap, ap₂}
 use Prim.Native.Nat.{ℕ}
-use Rattle.admit.specs.Admitting.{Arrays, is_in, offers_before}
+use Rattle.admit.specs.Admitting.{arrays, is_in, offers_before}
 use Rattle.admit.proofs.Offers.{in_same}
-use Rattle.runner.specs.Due.{Taken, due_on}
-use Rattle.runner.specs.Arrays.{ready_on, with_held}
-use Rattle.runner.proofs.Parts.{home_arrays, due_arrays}
+use Rattle.runner.specs.Due.{Taken}
+use Rattle.runner.specs.Arrays.{ready_on}
 use Rattle.runner.proofs.steps.before_slot.Goals as goal
 
 pub returns : goal.returns
 returns c =
-    let k = c in
-    let x = k.args in
-    let h = k.come_home in
-    let q = k.take_due-due in
-    let b = h.new.blocks in
-    let T = q.ensures in
-    let came = home_arrays x.blocks.now b x.under.now x.turns.now x.home h.ensures.outstanding h.ensures.rest in
-    let D = T.due ∙ ap (λ (l : List ℕ). due_on x.slot x.trace.now x.line l) (ap (λ (d : Arrays). d.held) came) in
-    let z = ap (λ (y : Taken). y.accelerators) D in record {
-      arrays = c.offer_each.ensures.offers
-          ∙ in_same x.table.now (is_in k.ready.result) _ (ready_on x.opened x.accs q.result.accelerators) k.ready.ensures 32
-          ∙ ap₂ (λ (i : ℕ) (d : Arrays). offers_before x.table.now x.home (ready_on x.opened x.accs i) d) z
-          (due_arrays b q.new.blocks x.under.now x.turns.now _ (ap (λ (y : Taken). y.held) D) T.rest ∙ ap (with_held _) came);
+    let x = c.args in
+    let came = c.come_home.ensures in
+    let D = c.take_due-due.ensures in
+    record {
+      arrays = c.offer_each.ensures
+          ∙ in_same x.table.now (is_in c.ready.result) _ (ready_on x.opened x.accs c.take_due-due.result.accelerators) c.ready.ensures 32
+          ∙ ap₂ (λ (o : List ℕ) (T : Taken). offers_before x.table.now x.home (ready_on x.opened x.accs T.accelerators) (arrays o x.arrays.now.admitted T.held x.arrays.now.ports)) came D;
       line = ap (λ (y : Taken). y.line) D;
     }

@@ -1,5 +1,0 @@
-use Rattle.std.proofs.Common.{◌-◌}
-use Rattle.why.proofs.show.Given as goal
-
-abbrev pub decreases-loop-page : goal.decreases-loop-page
-decreases-loop-page g l = 33 - l.page
