@@ -122,7 +122,7 @@ pub fn inquire(
     }
 }
 
-// The line of a slot: its number, the accelerator served, and where the paths meet, 255 for own.
+// The line of a slot: its number, and both bytes of the C interface: the accelerator served, and where the paths meet, 255 for own.
 fn put_line(text: &mut Text, slot: u64, served: u8, met: u8)
     ensures { Puts 63 text.old (line_text slot served met) text.new }
 {

@@ -9,6 +9,7 @@ ghost use Rattle.journal.specs.Journal.{slot_text, slots_due, slots_text, end_te
 
 use put::Text;
 
+// The line of a slot. Its byte, 255 for idle, is that of the C interface.
 fn put_slot(text: &mut Text, slot: u64, byte: u8)
     ensures { Puts 42 text.old (slot_text slot byte) text.new }
 {

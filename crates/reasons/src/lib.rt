@@ -95,6 +95,7 @@ fn put_reason(text: &mut Text, trace: bool, s: &[u8], number: u8, line: u32)
 }
 
 // The refusal of the file s, a tree or, if `trace`, a trace, by this number at this line, in words for a person.
+// Number and line are those of the programs' answers, and `trace` is of the bytes: a struct of them would be made for this call alone.
 pub fn reason_text(trace: bool, s: &[u8], number: u8, line: u32, out: &mut [u8; 65536]) -> usize
     ensures { Written (reason_text trace s.now number line) out.old out.new result }
 {

@@ -38,6 +38,7 @@ fn put_filled(text: &mut Text, s: &[u8], x: u64, y: u64)
 }
 
 // Row j of the sentences, with x and y in it.
+// A table by row and no enum: rows 1 to 12 are the refusals of these numbers, which come as numbers, and the definitions count the rows.
 pub fn put_sentence(text: &mut Text, j: usize, x: u64, y: u64)
     ensures { Puts 48000 text.old (sentence j x y) text.new }
 {
@@ -84,6 +85,8 @@ pub fn put_sentence(text: &mut Text, j: usize, x: u64, y: u64)
     put_filled(text, part(sentences, 10, j), x, y);
 }
 
+// Row k of the names.
+// A table by row and no match on record and field, which would have an arm for each of the 32 rows.
 fn put_name(text: &mut Text, k: usize)
     ensures { Puts 139 text.old (part_at 10 k names) text.new }
 {
