@@ -135,16 +135,7 @@ pub fn same_written(x: Written, y: Written) -> bool
 pub fn same_slices(a: &[u8], b: &[u8]) -> bool
     ensures { result ≡ same_slices a.now b.now }
 {
-    if a.len() != b.len() {
-        return false;
-    }
-    let mut same = true;
-    let mut i = 0;
-    while i < a.len() {
-        same = same & (a[i] == b[i]);
-        i += 1;
-    }
-    same
+    a == b
 }
 
 // Have two pages the same bytes?

@@ -183,10 +183,8 @@ fn dashes_kept(kind: Kind, dashes: [bool; 11]) -> bool
 {
     let f = form_of(kind);
     let mut ok = true;
-    let mut i = 0;
-    while i < f.count {
-        ok = ok & (f.dashes[i] | !dashes[i]);
-        i += 1;
+    for i in 0..f.count {
+        ok &= f.dashes[i] | !dashes[i];
     }
     ok
 }
@@ -194,14 +192,7 @@ fn dashes_kept(kind: Kind, dashes: [bool; 11]) -> bool
 pub fn is_record(kind: Kind) -> bool
     ensures { result ≡ is_record kind }
 {
-    match kind {
-        Kind::NoRecord => false,
-        Kind::BusLine => true,
-        Kind::IntLine => true,
-        Kind::AccLine => true,
-        Kind::OfferLine => true,
-        Kind::Bus3Line => true,
-    }
+    !matches!(kind, Kind::NoRecord)
 }
 
 // Test 1 of a line.
@@ -221,10 +212,8 @@ pub fn limits_kept(kind: Kind, values: [u64; 11]) -> bool
 {
     let f = form_of(kind);
     let mut ok = true;
-    let mut i = 0;
-    while i < f.count {
-        ok = ok & ((f.lows[i] <= values[i]) & (values[i] <= f.highs[i]));
-        i += 1;
+    for i in 0..f.count {
+        ok &= (f.lows[i] <= values[i]) & (values[i] <= f.highs[i]);
     }
     ok
 }

@@ -106,11 +106,8 @@ fn no_gap(t: Tree) -> bool
     ensures { result ≡ all t.accs (λ a. ltb 0 (phi_of t a)) }
 {
     let mut ok = true;
-    let mut a: u8 = 0;
-    while a < t.accs {
-        let x = accelerator_at(t, a);
-        ok = ok & (0 < x.phi);
-        a += 1;
+    for a in 0..t.accs {
+        ok &= 0 < accelerator_at(t, a).phi;
     }
     ok
 }
@@ -128,14 +125,7 @@ pub fn finished(n: u32, t: Tree) -> Result<Tree, FileError>
 fn in_tree(kind: Kind) -> bool
     ensures { result ≡ in_tree kind }
 {
-    match kind {
-        Kind::NoRecord => false,
-        Kind::BusLine => true,
-        Kind::IntLine => true,
-        Kind::AccLine => true,
-        Kind::OfferLine => false,
-        Kind::Bus3Line => true,
-    }
+    !matches!(kind, Kind::NoRecord | Kind::OfferLine)
 }
 
 // One line of a tree file, line n, on the tree read so far.

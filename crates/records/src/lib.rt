@@ -3,7 +3,7 @@
 // Each public function answers on any values: a record that cannot be held leaves the tree as it is.
 #![tactic(auto)]
 
-ghost use Rattle.std.specs.Prelude.{◌≡◌, true, ◌<◌, max};
+ghost use Rattle.std.specs.Prelude.{◌≡◌, true, ◌<◌};
 ghost use Rattle.lines.specs.Lines.{bus_kind, limits_kept};
 ghost use Rattle.records.specs.Records.{empty_tree, bus_of, with_port, with_interconnect, acc_of, bus_stored, has_room, root_stored, child_stored, acc_stored};
 
@@ -173,15 +173,6 @@ fn acc_of(v: [u64; 11]) -> Accelerator
     }
 }
 
-fn larger(a: u8, b: u8) -> u8
-    ensures { result ≡ max a b }
-{
-    if a < b {
-        return b;
-    }
-    a
-}
-
 // The fields v of an acc line stored.
 pub fn store_acc(t: Tree, v: [u64; 11]) -> Tree
     ensures { result ≡ acc_stored t v }
@@ -194,6 +185,6 @@ pub fn store_acc(t: Tree, v: [u64; 11]) -> Tree
     let x = acc_of(v);
     let mut r = with_port(t, v[1] as u8, v[2] as u8, Port::Acc(a));
     r.accelerators[i] = x;
-    r.accs = larger(t.accs, a + 1);
+    r.accs = t.accs.max(a + 1);
     r
 }

@@ -71,10 +71,7 @@ fn put_list(t: Tree, a: u8, bytes: &[u8], from: usize, until: usize, out: &mut [
 fn apart(from: u32, until: u32) -> u32
     ensures { result ≡ until - from }
 {
-    if until < from {
-        return 0;
-    }
-    until - from
+    until.saturating_sub(from)
 }
 
 // The answer by what a run told of transaction k of accelerator a and its bytes: nothing is written before the service is known.

@@ -1,7 +1,6 @@
 -- `limits_kept` meets its contract: the loop has tested each field before the next one.
 use mathlib.Core.Path.{refl, sym, subst}
 use Prim.Native.Nat.{◌≤◌}
-use native.Mathlib.Omega.{arith}
 use Rattle.model.proofs.Sums.{all_none, all_turn}
 use Rattle.lines.specs.declared.Form.{Form}
 use Rattle.lines.specs.Lines.{limit_kept}
@@ -10,11 +9,8 @@ use Rattle.lines.proofs.limits_kept.Goals as goal
 
 pub loop-i-init : goal.loop-i-init
 loop-i-init c =
-    (subst (λ (f : Form). f.count ≤ 11) (sym c.form_of-f.ensures) (form_count c.args.kind), omega arith, sym (all_none _))
+    (subst (λ (f : Form). f.count ≤ 11) (sym c.form_of-f.ensures) (form_count c.args.kind), sym (all_none _))
 
 pub loop-i-preserved : goal.loop-i-preserved
 loop-i-preserved c =
-    let at-loop = c in
-    let at-form-of = at-loop in
-    let at-args = at-form-of in
-    (at-loop.loop-i.invariant.0, omega arith, all_turn _ (limit_kept at-form-of.form_of-f.result at-args.args.values) _ _ at-loop.loop-i.invariant.2 refl)
+    (c.loop-i.invariant.0, all_turn _ (limit_kept c.form_of-f.result c.args.values) _ _ c.loop-i.invariant.1 refl)

@@ -34,4 +34,4 @@ overflow_add-a c =
 
 pub returns : goal.returns
 returns c =
-    acc_entry_lem c.args.t c.args.v _ _ _ c.with_port-r.ensures c.acc_of-x.ensures c.larger.ensures ∙ sym (acc_stored_lem c.args.t c.args.v (sym c.limits_kept.ensures ∙ c.if-not-limits_kept.false))
+    acc_entry_lem c.args.t c.args.v _ _ _ c.with_port-r.ensures c.acc_of-x.ensures c.max.ensures ∙ sym (acc_stored_lem c.args.t c.args.v (sym c.limits_kept.ensures ∙ c.if-not-limits_kept.false))
