@@ -24,7 +24,7 @@ pub enum Way {
     UnusedPort,
 }
 
-const WAYS: [Way; 7] = [
+pub const WAYS: [Way; 7] = [
     Way::Cycle,
     Way::EachOther,
     Way::AcceleratorTwice,
@@ -33,11 +33,6 @@ const WAYS: [Way; 7] = [
     Way::UnusedAccelerator,
     Way::UnusedPort,
 ];
-
-// One of the ways.
-pub fn some_way(d: &mut [usize; 16384]) -> Way {
-    WAYS[number_below(d, 7) % 7]
-}
 
 // A number from 1 to 255.
 fn not_zero(d: &mut [usize; 16384]) -> u8 {

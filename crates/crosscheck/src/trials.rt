@@ -10,7 +10,7 @@ use crate::walked::same_requests;
 use crate::whys::try_whys;
 use crate::writings::{try_writings, try_written};
 use alter::altered;
-use alter::tangle::{some_way, tangled};
+use alter::tangle::{WAYS, tangled};
 use answercheck::{same_bytes, same_end, same_flag, same_said};
 use callcheck::{busy_state, try_other};
 use generator::number_below;
@@ -359,7 +359,7 @@ pub fn try_altered(
     out: &mut [u8; 131074],
 ) {
     try_other_tree(t, altered(t, d), channel, s, d, out);
-    let way = some_way(d);
+    let way = WAYS[number_below(d, 7) % 7];
     if !try_other_tree(t, tangled(t, way, d), channel, s, d, out) {
         add(d, TANGLED, way as usize, 1);
     }
