@@ -3,7 +3,8 @@
 #![tactic(auto)]
 
 ghost use Rattle.std.specs.Prelude.{◌≡◌, ◌-◌};
-ghost use Rattle.folds.specs.Fold.{all, within};
+ghost use Rattle.std.specs.List.{list_all, range_with_len};
+ghost use Rattle.folds.specs.Fold.{within};
 ghost use Rattle.model.specs.Tree.{beat_limit, port_of};
 ghost use Rattle.rules.specs.Rules.{bus_keeps, is_empty, carries, root_placed, child_placed, is_placed, used_interconnect, unused_interconnect, interconnect_keeps, used_accelerator, unused_accelerator, accelerator_keeps, tree_keeps, on_the_way, record_keeps, turn_keeps, state_keeps, keeps};
 
@@ -60,23 +61,15 @@ fn port_carries(t: Tree, j: u8, p: u8, x: Port) -> bool
 }
 
 fn ports_carry(t: Tree, j: u8) -> bool
-    ensures { result ≡ all 8 (λ p. carries t j p (port_of t j p)) }
+    ensures { result ≡ list_all (λ p. carries t j p (port_of t j p)) (range_with_len 0 8) }
 {
-    let mut ok = true;
-    for p in 0..8 {
-        ok &= port_carries(t, j, p, port_at(t, j, p));
-    }
-    ok
+    (0..8).all(|p| port_carries(t, j, p, port_at(t, j, p)))
 }
 
 fn ports_empty(t: Tree, j: u8) -> bool
-    ensures { result ≡ all 8 (λ p. is_empty (port_of t j p)) }
+    ensures { result ≡ list_all (λ p. is_empty (port_of t j p)) (range_with_len 0 8) }
 {
-    let mut ok = true;
-    for p in 0..8 {
-        ok &= port_at(t, j, p) == Port::Empty;
-    }
-    ok
+    (0..8).all(|p| port_at(t, j, p) == Port::Empty)
 }
 
 fn root_placed(t: Tree) -> bool
@@ -129,13 +122,9 @@ fn interconnect_keeps(t: Tree, j: u8) -> bool
 }
 
 fn interconnects_keep(t: Tree) -> bool
-    ensures { result ≡ all 15 (interconnect_keeps t) }
+    ensures { result ≡ list_all (interconnect_keeps t) (range_with_len 0 15) }
 {
-    let mut ok = true;
-    for j in 0..15 {
-        ok &= interconnect_keeps(t, j);
-    }
-    ok
+    (0..15).all(|j| interconnect_keeps(t, j))
 }
 
 fn used_accelerator(t: Tree, a: u8) -> bool
@@ -177,13 +166,9 @@ fn accelerator_keeps(t: Tree, a: u8) -> bool
 }
 
 fn accelerators_keep(t: Tree) -> bool
-    ensures { result ≡ all 32 (accelerator_keeps t) }
+    ensures { result ≡ list_all (accelerator_keeps t) (range_with_len 0 32) }
 {
-    let mut ok = true;
-    for a in 0..32 {
-        ok &= accelerator_keeps(t, a);
-    }
-    ok
+    (0..32).all(|a| accelerator_keeps(t, a))
 }
 
 // A configuration keeps its rules.
@@ -223,13 +208,9 @@ fn record_keeps(t: Tree, s: State, a: u8) -> bool
 }
 
 fn records_keep(t: Tree, s: State) -> bool
-    ensures { result ≡ all 32 (record_keeps t s) }
+    ensures { result ≡ list_all (record_keeps t s) (range_with_len 0 32) }
 {
-    let mut ok = true;
-    for a in 0..32 {
-        ok &= record_keeps(t, s, a);
-    }
-    ok
+    (0..32).all(|a| record_keeps(t, s, a))
 }
 
 // One less, 0 for 0.
@@ -253,13 +234,9 @@ fn turn_keeps(t: Tree, s: State, j: u8) -> bool
 }
 
 fn turns_keep(t: Tree, s: State) -> bool
-    ensures { result ≡ all 15 (turn_keeps t s) }
+    ensures { result ≡ list_all (turn_keeps t s) (range_with_len 0 15) }
 {
-    let mut ok = true;
-    for j in 0..15 {
-        ok &= turn_keeps(t, s, j);
-    }
-    ok
+    (0..15).all(|j| turn_keeps(t, s, j))
 }
 
 // A state keeps its rules in this configuration.

@@ -5,6 +5,7 @@ use lib.Dec.{leb}
 use Rattle.model.specs.declared.Interconnect.{Interconnect}
 use Rattle.folds.specs.Fold.{within}
 use Rattle.rules.specs.Rules.{used_interconnect}
+use Rattle.folds.proofs.Listed.{all_listed}
 use Rattle.model.proofs.Lists.{and_cong}
 use Rattle.rules.proofs.used_interconnect.Goals as goal
 
@@ -15,4 +16,4 @@ returns c =
     (c.in_limits.ensures ∙ ap (λ (x : Interconnect). within 1 x.granularity 16) c.interconnect_at-x.ensures)
     c.placed.ensures)
     (ap (λ (k : ℕ). leb k 4) c.level_of.ensures))
-    c.ports_carry.ensures
+    (c.ports_carry.ensures ∙ all_listed 8 _)
