@@ -79,9 +79,9 @@ impl Ports {
         let carried = table.carried[i * 8 + turn.port as usize];
         self.pass_down(j, turn);
         match carried.port {
-            Port::Empty => 255,
-            Port::Acc(a) => a,
             Port::Int(k) => self.choose(table, levels - 1, k),
+            Port::Acc(a) => a,
+            Port::Empty => 255,
         }
     }
 }

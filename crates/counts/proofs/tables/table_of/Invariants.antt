@@ -8,4 +8,4 @@ abbrev pub invariant-loop-j : goal.invariant-loop-j
 invariant-loop-j l = Filled 15 (granularity_of l.t) l.granularity l.j × Filled 15 (parent_number l.t) l.parent_port l.j
 
 abbrev pub invariant-loop-a : goal.invariant-loop-a
-invariant-loop-a l = Filled 32 (own_number l.t) l.own_port l.a × Filled 32 (limit_of l.t l.channel) l.limit l.a × Filled 32 (budget_of l.t) l.budget l.a
+invariant-loop-a l = Filled 32 (own_number l.t) l.own_port l.a × Filled 32 (limit_of l.t l.fn.channel) l.limit l.a × Filled 32 (budget_of l.t) l.budget l.a
