@@ -1,4 +1,4 @@
--- Laws of digits and of equal bytes, read at a position: what stands there says what the rest of the bytes says. By the
+-- Laws of digits, read at a position: what stands there says what the rest of the bytes says. By the
 -- clauses of the definitions through `drop-cons`; the value of digits by their places.
 use Prim.Native.Nat.{ℕ, suc, ◌+◌, ◌-◌, ◌*◌, ◌^◌, ◌≤◌, ◌<◌}
 use mathlib.Core.Bool.{true, false}
@@ -7,16 +7,13 @@ use mathlib.Core.Path.{◌≡◌, refl, ◌∙◌, ap}
 use native.Mathlib.Nat.{add-mul, mul_assoc, mul_comm, pow-suc}
 use native.Mathlib.Numerals.{add-one}
 use native.Mathlib.Omega.{arith}
+use lib.Dec.{leb}
 use lib.ListN.{length, get_or, drop, length-drop, drop_of_length-le}
 use lib.Seq.{drop-cons}
-use borrow.Author.Tests.{lt-ltb, le-ltb, le-leb, lt-leb}
-use Rattle.folds.proofs.Folds.{picked, passed}
+use borrow.Author.Tests.{le-leb, le-ltb, leb-true, lt-leb, lt-ltb}
+use Rattle.folds.proofs.Folds.{both, picked, passed}
 use Rattle.text.specs.declared.Field.TheVariants.{Malformed, Dash}
-use Rattle.text.specs.Text.{same, all_digits, decimal, leading_zero, digits_of, field_of}
-
-pub same_end : (a b : List ℕ) (i : ℕ) → length a ≤ i → length b ≤ i → same (drop i a) (drop i b) ≡ true
-unfolding same
-same_end a b i h k = rw (drop_of_length-le a h, drop_of_length-le b k)
+use Rattle.text.specs.Text.{same, all_digits, decimal, leading_zero, is_digit, digits_of, field_of}
 
 pub digits_end : (s : List ℕ) (i : ℕ) → length s ≤ i → all_digits (drop i s) ≡ true
 unfolding all_digits
@@ -33,6 +30,21 @@ digits_high s i h k l = rw (drop-cons s i 0 h, le-leb 48 (get_or s i 0) k, lt-le
 pub digits_next : (s : List ℕ) (i : ℕ) → i < length s → 48 ≤ get_or s i 0 → get_or s i 0 ≤ 57 → all_digits (drop i s) ≡ all_digits (drop (i + 1) s)
 unfolding all_digits
 digits_next s i h k l = rw (add-one, drop-cons s i 0 h, le-leb 48 (get_or s i 0) k, le-leb (get_or s i 0) 57 l) refl
+
+-- where a byte is no digit, and where it is one
+pub digits_not : (s : List ℕ) (i : ℕ) → i < length s → is_digit (get_or s i 0) ≡ false → all_digits (drop i s) ≡ false
+unfolding all_digits
+digits_not s i h e = rw (drop-cons s i 0 h, e) refl
+
+pub digits_on : (s : List ℕ) (i : ℕ) → i < length s → is_digit (get_or s i 0) ≡ true → all_digits (drop i s) ≡ all_digits (drop (i + 1) s)
+unfolding all_digits
+digits_on s i h e = rw (add-one, drop-cons s i 0 h, e) refl
+
+pub digit_low : (b : ℕ) → is_digit b ≡ true → 48 ≤ b
+digit_low b e = leb-true 48 b (both (leb 48 b) (leb b 57) e).0
+
+pub digit_high : (b : ℕ) → is_digit b ≡ true → b - 48 ≤ 9
+digit_high b e = omega (arith, leb-true b 57 (both (leb 48 b) (leb b 57) e).1)
 
 pub decimal_end : (s : List ℕ) (i v : ℕ) → i ≡ length s → v * 10 ^ (length s - i) + decimal (drop i s) ≡ v
 unfolding decimal

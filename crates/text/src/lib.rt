@@ -2,7 +2,7 @@
 #![tactic(auto)]
 
 ghost use Rattle.std.specs.Prelude.{◌≡◌, ◌==◌, ◌||◌, ◌+◌, ◌≤◌, length, drop, position};
-ghost use Rattle.text.specs.Text.{part_length, field_length, same, digits_of, field_of};
+ghost use Rattle.text.specs.Text.{part_length, field_length, same, is_digit, digits_of, field_of};
 
 // What a field says: "-", a number, or neither.
 #[derive(Clone, Copy, PartialEq, Eq)]
@@ -47,6 +47,12 @@ pub fn same_bytes(a: &[u8], b: &[u8]) -> bool
     a == b
 }
 
+fn is_digit(b: u8) -> bool
+    ensures { result ≡ is_digit b }
+{
+    (b'0' <= b) & (b <= b'9')
+}
+
 // The number that at most ten digits write, held in 64 bits: ten digits may be above every limit of 32 bits.
 fn read_digits(s: &[u8]) -> Field
     requires { length s.now ≤ 10 }
@@ -54,7 +60,7 @@ fn read_digits(s: &[u8]) -> Field
 {
     let mut value: u64 = 0;
     for b in s {
-        if *b < b'0' || b'9' < *b {
+        if !is_digit(*b) {
             return Field::Malformed;
         }
         value = value * 10 + (*b - b'0') as u64;
