@@ -15,7 +15,6 @@ use std::io::Read;
 use std::rt::Files;
 use text::same_bytes;
 use usage::{Asked, Denied, Source};
-use waits::Waited;
 
 fn say_line(out: &impl Print, line: &[u8]) {
     let _ = out.write_all(line);
