@@ -96,8 +96,8 @@ pub struct State {
     pub channel: Channel,
 }
 
-// Why a file, a call or a state is refused, by the numbers of the papers' tables. 12 and 13 are none of these: they refuse a wait and the
-// text of a tree.
+// Why a file, a call or a state is refused. The discriminants rise by one: with a gap among them the compiler sets a table of numbers
+// into each function of the archive that answers one.
 #[derive(Clone, Copy, PartialEq, Eq)]
 pub enum Refusal {
     Shape = 1,
@@ -111,14 +111,15 @@ pub enum Refusal {
     Budget = 9,
     LastSlot = 10,
     Rules = 11,
-    NoJob = 14,
-    Burst = 15,
-    Page = 16,
+    NoJob = 12,
+    Burst = 13,
+    Page = 14,
 }
 
-// The number of a refusal.
+// The number of a refusal in the papers' tables. 12 and 13 are none of these: they refuse a wait and the text of a tree.
 pub fn number(r: Refusal) -> u8
     ensures { result ≡ number_of r }
 {
-    r as u8
+    let place = r as u8;
+    if 11 < place { place + 2 } else { place }
 }
