@@ -5,7 +5,7 @@
 
 use answers::channel_number;
 use burst::Burst;
-use input::page_text;
+use input::filled;
 use inquiry::Reply;
 use model::Channel;
 use plan::Printed;
@@ -410,7 +410,7 @@ fn load_all(rt: &(impl Files + Print), stdin: &mut impl Read, errors: &impl Prin
 // The text of a tree in the page; of a refused tree the first byte of the page, which is left as it was, and the refusal.
 fn show_printed(out: &impl Print, r: Printed, page: &[u8; 65536]) {
     if r.number == 0 {
-        say_line(out, page_text(page, r.bytes));
+        say_line(out, filled(page, r.bytes));
         return;
     }
     say_line(out, &page[..1]);
