@@ -38,25 +38,12 @@ pub fn word<'a>(words: &impl Env, i: usize, buf: &'a mut [u8; 131072]) -> &'a [u
     &buf[..n]
 }
 
-// The first n bytes, or all where there are fewer.
-fn first_bytes(s: &[u8], n: usize) -> &[u8]
-    ensures { result.now ≡ take n s.now }
+// The part of a buffer that was filled, a text in a page or a file: its first n bytes, or all where there are fewer. The buffer is lent
+// as an array: a caller's part of it then needs no proof.
+pub fn filled<const N: usize>(buf: &[u8; N], n: usize) -> &[u8]
+    ensures { result.now ≡ take n buf.now }
 {
-    &s[..n.min(s.len())]
-}
-
-// A text that was put into a page. Page and buffer are lent as arrays: a caller's part of them then needs no proof.
-pub fn page_text(page: &[u8; 65536], n: usize) -> &[u8]
-    ensures { result.now ≡ take n page.now }
-{
-    first_bytes(page, n)
-}
-
-// A file that was read into a buffer, which is one byte longer than a file may be.
-pub fn file_bytes(file: &[u8; 65537], n: usize) -> &[u8]
-    ensures { result.now ≡ take n file.now }
-{
-    first_bytes(file, n)
+    &buf[..n.min(N)]
 }
 
 // What a read or a write of at most n bytes answered: its error where it failed, else how many bytes it moved; a read that moves none
@@ -149,7 +136,7 @@ fn say_cause(errors: &impl Print, cause: &Error) {
     let mut text = [0u8; 512];
     let n = cause_text(cause, &mut text);
     say(errors, b": ");
-    say(errors, first_bytes(&text, n));
+    say(errors, filled(&text, n));
     say(errors, b"\n");
 }
 

@@ -7,7 +7,7 @@
 ghost use Rattle.std.specs.Prelude.{◌≡◌, ℕ, List, take, replicate, IfSome};
 ghost use Rattle.std.specs.Fn.{FnOnceReturnsAtMut};
 
-use input::{file_bytes, page_text};
+use input::filled;
 use plan::{PlanError, refused_line, refused_number};
 use std::io::{IsTerminal, Read};
 use std::rt::{Env, Files};
@@ -36,7 +36,7 @@ pub fn put_text<'a, F: FnOnce(&mut [u8; 65536]) -> usize>(
     ensures { (n : ℕ) × (put : List ℕ) × FnOnceReturnsAtMut F.FnOnce text page.old n put × (result.now ≡ take n put) }
 {
     let n = text(page);
-    page_text(page, n)
+    filled(page, n)
 }
 
 // Writes the text on standard output as it is put into an empty page, or says why it cannot be written; answers whether all of it was.
@@ -84,7 +84,7 @@ pub fn load<'a>(
     ensures { IfSome result (λ f. f.name.now ≡ name.now) }
 {
     let n = input::load(name, s.out, stdin, s.errors, buf)?;
-    let bytes = file_bytes(buf, n);
+    let bytes = filled(buf, n);
     Some(NamedFile { name, bytes })
 }
 
@@ -107,7 +107,7 @@ fn print_tree<F: FnOnce(&[u8], &mut [u8; 65536]) -> Result<usize, PlanError>>(
     let mut page = [0u8; 65536];
     match print(file.bytes, &mut page) {
         Ok(n) => {
-            input::write_out(s.out, s.errors, page_text(&page, n));
+            input::write_out(s.out, s.errors, filled(&page, n));
         }
         Err(e) => refuse(s, file, e),
     }

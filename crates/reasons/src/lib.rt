@@ -108,5 +108,5 @@ pub fn reason_text(trace: bool, s: &[u8], number: u8, line: u32, out: &mut [u8; 
 pub fn explain(errors: &impl Print, name: &[u8], trace: bool, s: &[u8], number: u8, line: u32) {
     let mut page = [0u8; 65536];
     let n = reason_text(trace, s, number, line, &mut page);
-    input::say_of(errors, name, input::page_text(&page, n));
+    input::say_of(errors, name, input::filled(&page, n));
 }

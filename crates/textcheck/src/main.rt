@@ -5,7 +5,7 @@
 
 use answers::channel_number;
 use burst::Burst;
-use input::page_text;
+use input::filled;
 use model::Channel;
 use plan::{PlanError, refused_line, refused_number};
 use printing::put_text;
@@ -410,7 +410,7 @@ fn load_all(rt: &(impl Files + Print), stdin: &mut impl Read, errors: &impl Prin
 // The text of a tree in the page; of a refused tree the first byte of the page, which is left as it was, and the refusal.
 fn show_printed(out: &impl Print, r: Result<usize, PlanError>, page: &[u8; 65536]) {
     match r {
-        Ok(n) => say_line(out, page_text(page, n)),
+        Ok(n) => say_line(out, filled(page, n)),
         Err(e) => {
             say_line(out, &page[..1]);
             show(
