@@ -22,6 +22,7 @@ use splitting::Part;
 use usage::Denied;
 use waits::{Waited, WhyError};
 
+// Numbers for kinds and refusals, in this struct and those below: the C interface.
 // What a reader answers. `file` says which file is refused: 0 neither, 1 the tree, 2 the trace.
 #[repr(C)]
 #[derive(Clone, Copy)]
@@ -111,6 +112,7 @@ pub fn channel_number(channel: Channel) -> u8
 }
 
 // The channel of a number, for a caller that has checked that it is one: any but 0 gives the write channel.
+// No TryFrom: it answers every number, which its clause promises, and the exports refuse the others before.
 pub fn channel_of(number: u8) -> Channel
     ensures { result ≡ channel_of number }
 {

@@ -64,7 +64,7 @@ impl Ports {
     }
 
     // The choice from interconnect j, over at most `levels` levels: the accelerator served, 255 for none, where an empty port
-    // leads. One transaction passes each interconnect on the way down.
+    // leads. One transaction passes each interconnect on the way down. No Option: the number is the byte that a run writes of the slot.
     pub fn choose(&mut self, table: &Table, levels: u8, j: u8) -> u8
         ensures { choice result self.new ≡ choose_on levels table.now j self.old }
     {

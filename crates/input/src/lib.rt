@@ -86,6 +86,7 @@ pub fn read_all(from: &mut impl Read, buf: &mut [u8]) -> Result<usize, Error>
     ensures { IfOk result (λ n. n ≤ length buf.new) }
 {
     let mut done = 0;
+    // A `while`: each turn goes on by as much as the system moved.
     while done < buf.len() {
         let more = read_some(from, &mut buf[done..])?;
         if more == 0 {
@@ -182,6 +183,7 @@ fn write_some(out: &impl Print, text: &[u8]) -> Result<usize, Error>
 // Writes a text on standard output, after a short write the rest.
 fn write_whole(out: &impl Print, text: &[u8]) -> Result<(), Error> {
     let mut sent = 0;
+    // A `while`: each turn goes on by as much as the system moved.
     while sent < text.len() {
         let more = write_some(out, &text[sent..])?;
         if more == 0 {

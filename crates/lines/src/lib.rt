@@ -110,6 +110,7 @@ pub fn read_line(s: &[u8]) -> Line
 {
     let mut end = part_end(s, 0, 9);
     let mut r = begun(kind_of(&s[0..end]));
+    // A `while`: a field begins where the one before it ends, so no index is counted.
     while end < s.len() {
         let at = end + 1;
         end = part_end(s, at, 9);

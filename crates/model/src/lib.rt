@@ -17,7 +17,7 @@ pub enum Port {
     Int(u8),
 }
 
-// A port as an element of an array.
+// A port as an element of an array: the project's scope names this form, enum Port inside a port struct, and arrays of such structs.
 #[derive(Clone, Copy)]
 pub struct PortCell {
     pub port: Port,

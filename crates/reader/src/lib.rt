@@ -21,6 +21,7 @@ pub fn read_tree(s: &[u8]) -> Result<Tree, FileError>
     let mut at = 0;
     let mut n: u32 = 1;
     let mut t = empty_tree();
+    // A `while`: a line begins where the one before it ends, so no index is counted.
     while at < s.len() {
         let end = part_end(s, at, 10);
         if end == s.len() {

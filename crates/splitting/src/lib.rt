@@ -145,7 +145,7 @@ fn tree_denied(error: FileError) -> Result<u32, Denied<Part>>
 }
 
 // Cuts a burst into pieces of the burst length of the tree that is read from `tree`: how many, and of each the start address and the
-// beats; the entries after them are 0. A refusal leaves both arrays as they were.
+// beats; the entries after them are 0. A refusal leaves both arrays as they were. Two arrays side by side: the C interface lends them.
 #[tactic(auto, unfolding(crate::specs::Splitting::reply_from, crate::specs::Splitting::starts_from, crate::specs::Splitting::beats_from))]
 pub fn split_file(
     tree: &[u8],

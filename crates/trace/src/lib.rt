@@ -138,10 +138,12 @@ pub fn read_requests(accs: u8, s: &[u8]) -> Result<(), FileError>
     let mut last: u32 = 0;
     let mut at = 0;
     let mut n: u32 = 1;
+    // A `while`: a line begins where the one before it ends, so no index is counted.
     while at < s.len() {
         let Some(l) = offer_at(s, at) else {
             return Err(FileError::Refused(Refusal::Shape, n));
         };
+        // The line is put beside the refusal here: with `map_err` over a closure the proof did not close.
         let r = match offer_line(accs, last, &totals, l) {
             Ok(r) => r,
             Err(why) => return Err(FileError::Refused(why, n)),

@@ -26,6 +26,7 @@ pub struct Choice {
 // The next port after the last one among the live ports, 7 followed by 0; 8 if none is live. The set stands twice, one after
 // the other, and is moved so that bit 0 is the port after the last one: its lowest bit tells how many ports lie before the next.
 // No Option: its callers go on with the number as it is, and read an empty port there.
+// The 8 stays a number: the clause cites `next_port` of specs/Turns.antt, whose value it is.
 pub fn next_port(set: u8, last: u8) -> u8
     ensures { result ≡ next_port set last }
 {
