@@ -153,6 +153,7 @@ fn all_older(delay: u8, returning: [u32; 32]) -> [u32; 32]
     requires { delay ≤ 15 }
     ensures { result ≡ map (older delay) returning }
 {
+    // A `for` in place of the array's `map`, with which the proof did not close.
     let mut r = returning;
     for x in r.iter_mut() {
         *x = one_older(delay, *x);

@@ -161,6 +161,7 @@ fn weight_beneath(t: Tree, weights: [u8; 32], levels: u8, port: Port) -> u32
             if levels == 0 {
                 return 0;
             }
+            // A `for` in place of a chain: a closure that recurses gets no proof.
             let mut sum: u32 = 0;
             for p in 0..8 {
                 sum += weight_beneath(t, weights, levels - 1, port_at(t, j, p));

@@ -4,7 +4,7 @@
 // write a text of its tree to standard output. A refusal is one line there, and one line in words on standard error.
 #![tactic(auto)]
 
-ghost use Rattle.std.specs.Prelude.{◌≡◌, ℕ, List, take, replicate, IfSome};
+ghost use Rattle.std.specs.Prelude.{◌≡◌, ◌≤◌, ℕ, List, take, replicate, IfSome};
 ghost use Rattle.std.specs.Fn.{FnOnceReturnsAtMut};
 
 use input::filled;
@@ -58,19 +58,21 @@ pub fn say_text<F: FnOnce(&mut [u8; 65536]) -> usize>(s: &Streams<impl Print, im
     input::say(s.errors, put_text(&mut [0u8; 65536], text));
 }
 
-// The pages of a text of which there are `count`, from 0, until one cannot be written.
+// The pages of a text of which there are `count`, from 0, until one cannot be written; answers how many were written.
 pub fn show_pages<F: Fn(u32, &mut [u8; 65536]) -> usize>(
     s: &Streams<impl Print, impl Print>,
     count: u32,
     text: F,
-)
+) -> u32
     requires { F.IsAlwaysCallable text }
+    ensures { result ≤ count }
 {
     for page in 0..count {
         if !show_text(s, |out| text(page, out)) {
-            return;
+            return page;
         }
     }
+    count
 }
 
 // Reads the file of that name into the buffer, standard input where the name is "-", or says why it cannot be read. One byte more than

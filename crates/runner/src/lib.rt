@@ -62,7 +62,7 @@ pub struct Wait {
 }
 
 // What a run answers, how it ended, or what is refused: a line of the trace, 0 for a size, or the configuration, which breaks its rules;
-// and what the run tells of one transaction.
+// and what the run tells of one transaction: no wait on a refusal, as `told_of` of specs/Wait.antt has it, so the wait stands beside the answer.
 #[derive(Clone, Copy)]
 pub struct RunWait {
     pub answer: Result<RunEnd, FileError>,

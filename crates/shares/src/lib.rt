@@ -15,6 +15,7 @@ use model::{Channel, Tree};
 fn limits(t: Tree, channel: Channel) -> [u8; 32]
     ensures { weight_in result ≡ limit_of t channel }
 {
+    // A `for` over the places: with std's `array::from_fn` the proof did not close.
     let mut table = [0u8; 32];
     for i in 0..32usize {
         table[i] = limit_of(t, channel, i as u8);
