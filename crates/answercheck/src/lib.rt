@@ -135,7 +135,14 @@ pub fn same_written(x: Written, y: Written) -> bool
 pub fn same_slices(a: &[u8], b: &[u8]) -> bool
     ensures { result ≡ same_slices a.now b.now }
 {
-    a == b
+    if a.len() != b.len() {
+        return false;
+    }
+    let mut same = true;
+    for i in 0..a.len() {
+        same &= a[i] == b[i];
+    }
+    same
 }
 
 // Have two pages the same bytes?

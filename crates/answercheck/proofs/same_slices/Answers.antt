@@ -1,6 +1,5 @@
 -- `same_slices` meets its contract: as long, and the loop has compared each byte before the next one.
 use mathlib.Core.Path.{refl, sym}
-use native.Mathlib.Omega.{arith}
 use lib.Dec.{eqb}
 use lib.ListN.{get_or}
 use Rattle.model.proofs.Sums.{all_none, all_turn}
@@ -8,10 +7,8 @@ use borrow.Author.Rules.{rules}
 use Rattle.answercheck.proofs.same_slices.Goals as goal
 
 pub loop-i-init : goal.loop-i-init
-loop-i-init c = (search rules, search rules, sym (all_none _))
+loop-i-init c = (search rules, sym (all_none _))
 
 pub loop-i-preserved : goal.loop-i-preserved
 loop-i-preserved c =
-    let a = c.args in
-    let l = c.loop-i in
-    (omega arith, l.invariant.1, all_turn _ (λ j. eqb (get_or a.a.now j 0) (get_or a.b.now j 0)) _ _ l.invariant.2 refl)
+    (c.loop-i.invariant.0, all_turn _ (λ j. eqb (get_or c.args.a.now j 0) (get_or c.args.b.now j 0)) _ _ c.loop-i.invariant.1 refl)

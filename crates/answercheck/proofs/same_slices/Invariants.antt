@@ -1,5 +1,4 @@
 -- `same_slices` meets its contract: as long, and the loop has compared each byte before the next one.
-use Prim.Native.Nat.{◌≤◌, ◌-◌}
 use mathlib.Core.Path.{◌≡◌}
 use lib.Dec.{eqb}
 use lib.ListN.{length, get_or}
@@ -7,7 +6,4 @@ use Rattle.folds.specs.Fold.{all}
 use Rattle.answercheck.proofs.same_slices.Given as goal
 
 abbrev pub invariant-loop-i : goal.invariant-loop-i
-invariant-loop-i l = (l.i ≤ length l.a) × (length l.a ≡ length l.b) × (l.same ≡ all l.i (λ j. eqb (get_or l.a j 0) (get_or l.b j 0)))
-
-abbrev pub decreases-loop-i : goal.decreases-loop-i
-decreases-loop-i l = length l.a - l.i
+invariant-loop-i l = (length l.a ≡ length l.b) × (l.same ≡ all l.i (λ j. eqb (get_or l.a j 0) (get_or l.b j 0)))
