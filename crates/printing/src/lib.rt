@@ -1,7 +1,8 @@
 // What the programs do with files and texts: a file is read, a text is put into a page and written, page by page where it has several.
 // The text is a function that puts it into a page; what is written is outside of every contract (std), so the clauses say that this
-// function put it, into an empty page. And what the programs of one tree file do, `report` and `rewrite`: they read the file, standard input without a name or with "-", and
-// write a text of its tree to standard output. A refusal is one line there, and one line in words on standard error.
+// function put it, into an empty page. And what the programs of one tree file do, `report` and `rewrite`: they read the file, standard
+// input without a name or with "-", and write a text of its tree to standard output. A refusal is one line there, and one line in words
+// on standard error.
 #![tactic(auto)]
 
 ghost use Rattle.std.specs.Prelude.{◌≡◌, ◌≤◌, ℕ, List, take, replicate, IfSome};

@@ -56,14 +56,14 @@ fn put_list(t: Tree, a: u8, bytes: &[u8], from: usize, until: usize, out: &mut [
     requires { (until ≤ length bytes.now) × (length out.old ≤ 65536) }
     ensures { out.new ≡ list_over (entries t a (drop from (take until bytes.now))) out.old }
 {
-    let mut i = from;
-    let mut p: usize = 0;
-    while i < until && p + 1 < out.len() {
+    for i in from..until {
+        let p = (i - from) * 2;
+        if out.len() <= p + 1 {
+            return;
+        }
         let b = bytes[i];
         out[p] = b;
         out[p + 1] = met(t, a, b);
-        i += 1;
-        p += 2;
     }
 }
 
