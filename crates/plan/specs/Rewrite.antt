@@ -8,7 +8,9 @@
 --                      answers of its tree
 -- rewrite_buffer q d   the buffer d then
 -- refusal_of e, prints x   the error e of `report` and `rewrite`, and what they answer, in numbers
-use Rattle.std.specs.Prelude.{ℕ, List, Result, Ok, Err}
+-- ReportRefused q e    e is the refusal of the file whose reading is q
+-- RewriteRefused q n e   so it is, or the file is accepted, and e is what the writer answers of its tree for a buffer of n bytes
+use Rattle.std.specs.Prelude.{ℕ, List, Result, Ok, Err, ◌≡◌}
 use Rattle.lines.specs.Answer.{FileAnswer, Accepted, Refused, Broken, file_error, answer_number, answer_line}
 use Rattle.placing.specs.Placing.{TreeRead}
 use Rattle.writer.specs.Writer.{Wrote, refused_at, denied, wrote, write_of, write_buffer}
@@ -52,3 +54,11 @@ refusal_of (Write e) = wrote_as (write_means (Err e))
 abbrev pub prints : Result ℕ PlanError → Printed
 prints (Ok n) = record { bytes = n; number = 0; line = 0 }
 prints (Err e) = refusal_of e
+
+abbrev pub ReportRefused : TreeRead → PlanError → Type 0
+ReportRefused q (File e) = file_error e ≡ q.answer
+ReportRefused q (Write e) = ⊥
+
+abbrev pub RewriteRefused : TreeRead → ℕ → PlanError → Type 0
+RewriteRefused q n (File e) = file_error e ≡ q.answer
+RewriteRefused q n (Write e) = (q.answer ≡ Accepted) × (write_means (Err e) ≡ write_of q.tree n)

@@ -1,11 +1,11 @@
 // A tree file read, and its report or its written text put into a lent buffer.
 #![tactic(auto)]
 
-ghost use Rattle.std.specs.Prelude.{◌≡◌, length};
+ghost use Rattle.std.specs.Prelude.{◌≡◌, length, IfErr};
 ghost use Rattle.reader.specs.TreeFile.{read_tree};
 ghost use Rattle.plan.specs.declared.PlanError.TheVariants.{File, Write};
 ghost use Rattle.plan.specs.Plan.{Printing};
-ghost use Rattle.plan.specs.Rewrite.{refusal_of, prints, rewrite_of, rewrite_buffer};
+ghost use Rattle.plan.specs.Rewrite.{refusal_of, prints, ReportRefused, RewriteRefused, rewrite_of, rewrite_buffer};
 
 use lines::{FileError, answer_line, answer_number};
 use listing::report_text;
@@ -59,13 +59,15 @@ pub fn refused_line(e: PlanError) -> u32
 
 // Reads the tree in `input` and writes its report into `out`: how many bytes it has; a refusal leaves `out` as it was.
 pub fn report(input: &[u8], out: &mut [u8; 65536]) -> Result<usize, PlanError>
-    ensures { Printing (read_tree input.now) out.old out.new (prints result).bytes (prints result).number (prints result).line }
+    ensures error { IfErr result (ReportRefused (read_tree input.now)) }
+    ensures text { Printing (read_tree input.now) out.old out.new (prints result).bytes (prints result).number (prints result).line }
 {
     Ok(report_text(read_tree(input)?, out))
 }
 
 // Reads the tree in `input` and writes it back into `out`: how many bytes the text has; a refusal leaves `out` as it was.
 pub fn rewrite(input: &[u8], out: &mut [u8]) -> Result<usize, PlanError>
+    ensures error { IfErr result (RewriteRefused (read_tree input.now) (length out.old)) }
     ensures answer { prints result ≡ rewrite_of (read_tree input.now) (length out.old) }
     ensures bytes { out.new ≡ rewrite_buffer (read_tree input.now) out.old }
 {
