@@ -38,9 +38,13 @@ module _ {a c : Text} (n : ℕ) where
   puts_digits h l p q =
       record { buffer = q.buffer ∙ p.buffer; part = put_digits n _ h l refl p.part q.part }
 
+-- the first part of a text is put at the start of its buffer
+pub puts_first : {m : ℕ} {a b : Text} {xs d : List ℕ} {n : ℕ} → a.out.now ≡ d → a.len ≡ 0 → Puts m a xs b → n ≡ b.len → Put m d 0 xs b.out.now n
+puts_first {m} {a} {b} {xs} {d} e z p k =
+    subst (λ (i : ℕ). Put m d 0 xs b.out.now i) (sym k)
+    (subst (λ (i : ℕ). Put m d i xs b.out.now b.len) z (subst (λ (r : List ℕ). Put m r a.len xs b.out.now b.len) e p.part))
+
 -- a text of a page that was empty: how long it is, and the page with it
 pub puts_laid : {m : ℕ} {a b : Text} {xs d : List ℕ} {n : ℕ} → a.out.now ≡ d → a.len ≡ 0 → Puts m a xs b → n ≡ b.len → m ≤ 65536 → length d ≡ 65536
     → Written xs d b.out.now n
-puts_laid {m} {a} {b} {xs} {d} e z p k h l =
-    let w : Written xs d b.out.now b.len = put_laid (subst (λ (i : ℕ). Put m d i xs b.out.now b.len) z (subst (λ (r : List ℕ). Put m r a.len xs b.out.now b.len) e p.part)) h l in
-    record { page = w.page; bytes = k ∙ w.bytes; room = omega (arith, w.room) }
+puts_laid e z p k h l = put_laid (puts_first e z p k) h l

@@ -4,6 +4,7 @@
 ghost use Rattle.std.specs.Prelude.{◌≡◌, [], ◌∷◌, ◌++◌, ◌+◌, ◌≤◌, length};
 ghost use Rattle.text.specs.Write.{decimal_text};
 ghost use Rattle.put.specs.Page.{Written};
+ghost use Rattle.put.specs.Put.{Put};
 ghost use Rattle.put.specs.Texts.{Puts};
 
 // A text in a lent buffer: the first `len` bytes of it.
@@ -67,9 +68,10 @@ impl<'a> Text<'a> {
     }
 }
 
-// A page whose text is these bytes, and how many they are.
+// A page whose text is these bytes, as far as the page goes, and how many of them it has.
 pub fn put_text(out: &mut [u8; 65536], s: &[u8]) -> usize
-    ensures { length s.now ≤ 65536 → Written s.now out.old out.new result }
+    ensures stored { Put (length s.now) out.old 0 s.now out.new result }
+    ensures page { length s.now ≤ 65536 → Written s.now out.old out.new result }
 {
     let mut text = Text::new(out);
     text.bytes(s);
