@@ -11,7 +11,8 @@ ghost use Rattle.waits.specs.Answers.{why_means};
 ghost use Rattle.bounds.specs.Bounds.{meaning_of};
 ghost use Rattle.burst.specs.Answers.{join_outcome};
 ghost use Rattle.lines.specs.Answer.{file_answer};
-ghost use Rattle.answers.specs.Numbers.{channel_number, channel_of, file_refused, reading_of, accepted_count, count_of, outcome_of, refused_by, tree_refused, no_wait, wait_of, row_of, unbounded, cut_of, joined_of};
+ghost use Rattle.answers.specs.Numbers.{channel_number, channel_of, file_refused, reading_of, accepted_count, count_of, outcome_of, refused_by};
+ghost use Rattle.answers.specs.Numbers.{tree_refused, no_wait, wait_of, row_of, unbounded, cut_of, joined_of};
 
 use bounds::Figures;
 use burst::joiner::{JoinReply, Progress};
