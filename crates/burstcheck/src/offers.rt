@@ -8,7 +8,7 @@ use callcheck::returns::give_all;
 use callcheck::states::altered;
 use generator::bursts::some_piece;
 use generator::number_below;
-use machine::{fresh, slot, zero_state};
+use machine::{fresh, slot};
 use model::access::{admitted_of, allowance_of, last_of, waiting_of};
 use model::{Channel, State, Tree};
 use second::Wrong;
@@ -164,9 +164,9 @@ fn try_calls(t: Tree, s: State, n: usize, d: &mut [usize; 16384]) -> State {
     state
 }
 
-// The starting state of a channel, or one of zeros where the configuration breaks its rules.
+// The starting state of a channel, or the one that comes with a refusal.
 fn first_state(t: Tree, c: Channel) -> State {
-    fresh(t, c).unwrap_or(zero_state(c))
+    fresh(t, c).state
 }
 
 // Offered bursts from a fresh state on, on a tree that is in the rows; the state that they lead to.

@@ -18,7 +18,7 @@ use crate::states::{
     with_returns,
 };
 use generator::number_below;
-use machine::{fresh, offer, slot, zero_state};
+use machine::{fresh, offer, slot};
 use model::access::{accelerator_at, admitted_of, allowance_of, last_of, returns_of, waiting_of};
 use model::{Channel, Refusal, State, Tree, number};
 use second::Wrong;
@@ -305,17 +305,11 @@ fn try_last_slots(t: Tree, s: State, d: &mut [usize; 16384]) -> State {
     try_calls(t, next, 6, d)
 }
 
-// The start on a channel: the number of its answer, 0 where it is not refused, and the state, of zeros where it is.
-fn start(t: Tree, c: Channel) -> (usize, State) {
-    match fresh(t, c) {
-        Ok(state) => (0, state),
-        Err(r) => (number(r) as usize, zero_state(c)),
-    }
-}
-
-// The same in both, compared.
+// The start on a channel, in both, compared.
 fn try_start(t: Tree, channel: usize, d: &mut [usize; 16384]) -> State {
-    let (answer, state) = start(t, channel_of(channel));
+    let r = fresh(t, channel_of(channel));
+    let answer = offer_number(r.answer);
+    let state = r.state;
     let ours = start_one(d, channel);
     let same = same_state(state, t.bus.delay, d);
     note(d, DIFFERENCES, 0, (answer == ours) & same);

@@ -1,6 +1,5 @@
 // Bursts: split, joined and offered, by the library, and split and joined by its exports.
 use crate::results::{CUTS, JOINED};
-use crate::trials::tree_of;
 use alter::altered;
 use answercheck::exported::{same_cut, same_joined};
 use burst::Burst;
@@ -111,26 +110,25 @@ fn try_file(
 ) {
     tree_file(w, d);
     let r = read_tree(made(w, d));
-    try_exports(made(w, d), tree_of(r), d, starts, beats);
-    let Ok(t) = r else {
-        return;
-    };
-    try_on(with_some_length(t, d), d, starts, beats);
+    try_exports(made(w, d), r.tree, d, starts, beats);
+    if r.answer.is_ok() {
+        try_on(with_some_length(r.tree, d), d, starts, beats);
+    }
 }
 
 // Every size and count of beats on a small tree, as one of AXI4 and of AXI3; bursts about both limits offered on it, and on one whose bus
 // line is named bus3.
 fn try_small(d: &mut [usize; 16384], starts: &mut [u32; 256], beats: &mut [u32; 256]) {
-    let t = tree_of(read_tree(
+    let t = read_tree(
         b"bus\t8\t1\t4\t2\t2\t30\t25\t1\t1\t16\nint\t0\t-\t-\t1\nacc\t0\t0\t0\t4\t2\t10\t5\t1000\t2000\n",
-    ));
+    ).tree;
     try_lengths(t, d, starts, beats);
     try_older_lengths(t, d, starts, beats);
     try_band(t, d, starts, beats);
     try_limits(t, d);
-    let older = tree_of(read_tree(
+    let older = read_tree(
         b"bus3\t8\t1\t4\t2\t2\t30\t25\t1\t1\t8\nint\t0\t-\t-\t1\nacc\t0\t0\t0\t4\t2\t10\t5\t1000\t2000\n",
-    ));
+    ).tree;
     try_limits(older, d);
 }
 

@@ -1,7 +1,7 @@
 // Inputs that are not generated: the edge list of the reader's own check, document 01's case 11, return delays at their limits, the
 // record names of bus lines, and files and buffers at the size limit.
 use crate::results::{CASE11, CHANNEL_TURNS, DELAY_FILES, EDGES, NAME_FILES};
-use crate::trials::{tree_of, try_file_runs, try_tree};
+use crate::trials::{try_file_runs, try_tree};
 use callcheck::try_machine;
 use generator::limits::{DELAYS, NAMES, make_case, make_delay, make_name, make_wide_late};
 use generator::listed::heading_at;
@@ -28,7 +28,7 @@ fn try_on(
     size: usize,
 ) {
     read_book(tree, d, Wrong::Nothing);
-    let t = tree_of(read_tree(tree));
+    let t = read_tree(tree).tree;
     try_file_runs(tree, t, channel, s, d, out, size);
 }
 
@@ -58,7 +58,7 @@ fn try_file(
     size: usize,
 ) {
     if is_tree {
-        let _ = try_tree(s, d, out);
+        try_tree(s, d, out);
         return;
     }
     try_trace_file(channel, s, d, out, size);
@@ -98,7 +98,7 @@ pub fn try_listed(s: &[u8], d: &mut [usize; 16384], out: &mut [u8; 131074]) {
 pub fn try_case_11(w: &mut [u8; 16384], d: &mut [usize; 16384], out: &mut [u8; 131074]) {
     for i in 0..6 {
         make_case(w, d, i);
-        let _ = try_tree(made(w, d), d, out);
+        try_tree(made(w, d), d, out);
         add(d, CASE11, 0, 1);
     }
 }
@@ -106,9 +106,11 @@ pub fn try_case_11(w: &mut [u8; 16384], d: &mut [usize; 16384], out: &mut [u8; 1
 // A tree file that was made, and, if it is accepted, calls and runs on it.
 fn try_limit(w: &[u8; 16384], d: &mut [usize; 16384], out: &mut [u8; 131074]) {
     let n = size(d);
-    let Ok(t) = try_tree(file_in(w, n), d, out) else {
+    let r = try_tree(file_in(w, n), d, out);
+    let Ok(()) = r.answer else {
         return;
     };
+    let t = r.tree;
     try_machine(t, d);
     let s = b"o\t0\t0\t16\no\t0\t1\t9\no\t40\t0\t5\n";
     let channel = next_channel(d);
@@ -146,7 +148,7 @@ pub fn try_wide(w: &mut [u8; 16384], d: &mut [usize; 16384], out: &mut [u8; 1310
 // Runs on such a tree, where accelerator 31 alone holds transactions at last.
 fn try_made(w: &[u8; 16384], d: &mut [usize; 16384], out: &mut [u8; 131074]) {
     let n = size(d);
-    let t = tree_of(try_tree(file_in(w, n), d, out));
+    let t = try_tree(file_in(w, n), d, out).tree;
     let channel = next_channel(d);
     try_file_runs(file_in(w, n), t, channel, b"o\t0\t31\t16\n", d, out, 64);
     let all = b"o\t0\t0\t9\no\t0\t30\t2\no\t1\t31\t16\n";

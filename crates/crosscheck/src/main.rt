@@ -30,9 +30,11 @@ fn try_pair(
 ) {
     tree_file(w, d);
     let n = generator::size(d);
-    let Ok(t) = try_tree(file_in(w, n), d, out) else {
+    let r = try_tree(file_in(w, n), d, out);
+    let Ok(()) = r.answer else {
         return;
     };
+    let t = r.tree;
     try_machine(t, d);
     let channel = number_below(d, 2);
     trace_file(v, d, t.accs as usize, channel);

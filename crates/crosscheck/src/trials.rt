@@ -16,8 +16,8 @@ use callcheck::{busy_state, try_other};
 use generator::number_below;
 use lines::FileError;
 use model::Tree;
+use placing::TreeReply;
 use reader::read_tree;
-use records::empty_tree;
 use second::book::{READ, WRITE, cell, deepest, is_jobless, other, read_book, varied};
 use second::queues::{Ended, is_stuck, run_refusal};
 use second::requests::{lines, read_log};
@@ -109,20 +109,15 @@ fn note_reading(s: &[u8], answer: Result<(), FileError>, d: &mut [usize; 16384],
     note(d, WRONG, wrong as usize, same_said(answer, said));
 }
 
-// The tree that a file gives; the empty one where the file is refused.
-pub fn tree_of(r: Result<Tree, FileError>) -> Tree {
-    r.unwrap_or(empty_tree())
-}
-
 // A tree file. The rows are left with the second reader's tree.
 pub fn try_tree(
     s: &[u8],
     d: &mut [usize; 16384],
     out: &mut [u8; 131074],
-) -> Result<Tree, FileError> {
+) -> TreeReply {
     let r = read_tree(s);
-    let t = tree_of(r);
-    let answer = r.and(Ok(()));
+    let t = r.tree;
+    let answer = r.answer;
     note_reading(s, answer, d, Wrong::OrderFirst);
     note_reading(s, answer, d, Wrong::LongLetIn);
     note_reading(s, answer, d, Wrong::LongRefused);

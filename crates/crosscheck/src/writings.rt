@@ -2,7 +2,6 @@
 // are read as the same tree and written as the same text.
 use crate::compare::over;
 use crate::results::{TEXTS, WRITING_TURNS, WRITINGS, WRITTEN};
-use crate::trials::tree_of;
 use answercheck::exported::same_page;
 use answercheck::{OURS, same_bytes, same_said, same_slices, same_written, written_by, written_of};
 use generator::shuffle::{other_text, text_in};
@@ -117,13 +116,13 @@ fn text_of(out: &[u8; 131074], n: usize) -> &[u8] {
 // A text of the tree in the rows, whose written text is the first n bytes: it is read as the tree, and written as that text.
 fn try_text(s: &[u8], d: &mut [usize; 16384], out: &mut [u8; 131074], n: usize) {
     let r = read_tree(s);
-    let t = tree_of(r);
+    let t = r.tree;
     let tree = same_tree(t, d);
     note(
         d,
         DIFFERENCES,
         0,
-        same_said(r.and(Ok(())), accepted()) & tree,
+        same_said(r.answer, accepted()) & tree,
     );
     let w = library_written(t, out, OURS, n);
     let same = same_written(w, written_by(0, 0, n));

@@ -116,8 +116,9 @@ pub fn inquire(
     ensures answer { result ≡ reply_from (read_tree tree.now) channel trace.now a k }
     ensures list { out.new ≡ list_from (read_tree tree.now) channel trace.now a k out.old }
 {
-    match read_tree(tree) {
-        Ok(t) => reply_of(why(t, channel, trace, a, k, out)),
+    let read = read_tree(tree);
+    match read.answer {
+        Ok(()) => reply_of(why(read.tree, channel, trace, a, k, out)),
         Err(e) => refused(Part::Tree, answer_number(Err(e)), answer_line(Err(e))),
     }
 }

@@ -48,14 +48,21 @@ fn fresh_state(t: Tree, channel: Channel) -> State
     state
 }
 
-// The starting state of a channel, of a configuration that keeps its rules; else refusal 11.
-pub fn fresh(t: Tree, channel: Channel) -> Result<State, Refusal>
-    ensures { fresh_outcome channel result ≡ freshened t channel }
+// The starting state of a channel, of a configuration that keeps its rules; else refusal 11, with a state of zeros.
+pub fn fresh(t: Tree, channel: Channel) -> Reply<()>
+    ensures { fresh_outcome result ≡ freshened t channel }
 {
-    if tree_keeps(t) {
-        return Ok(fresh_state(t, channel));
+    if !tree_keeps(t) {
+        let why = Refusal::Rules;
+        return Reply {
+            answer: Err(why),
+            state: zero_state(channel),
+        };
     }
-    Err(Refusal::Rules)
+    Reply {
+        answer: Ok(()),
+        state: fresh_state(t, channel),
+    }
 }
 
 // One more transaction of accelerator a waits and counts against its budget.

@@ -4,7 +4,7 @@
 -- TreeRead             a tree file's answer, with the tree that it gives; on a refusal the tree is the empty one
 -- refused_at r n        refused by r at line n; the tree given beside it is the empty one
 -- given t              accepted, with tree t
--- tree_read r           what the result r of a reader says: the tree that it gives, or its error, with the empty tree
+-- tree_read r           answer and tree of a reader's reply r
 -- bus_line n t a v      a bus line, a bus3 line where a is true: "One bus line comes first"; "bus3 is a record name beside bus, with its fields
 --                      and its place" (document 02, item 7)
 -- int_in_order t l       an int line comes after the bus line and before any acc line ("then int lines 0, 1, 2 and on
@@ -18,7 +18,7 @@
 --                      after the last"
 -- record_line k n t l   a line of record k, by its name
 -- tree_line n t l       "Within a tree line: 1, then 2 field by field, 3, 4, 5"
-use Rattle.std.specs.Prelude.{ℕ, Result, Ok, Err, Bool, true, false, ◌&&◌, not, List, get_or, leb, ltb, eqb}
+use Rattle.std.specs.Prelude.{ℕ, Bool, true, false, ◌&&◌, not, List, get_or, leb, ltb, eqb}
 use Rattle.model.specs.declared.Tree.{Tree}
 use Rattle.model.specs.declared.Refusal.{Refusal}
 use Rattle.model.specs.declared.Refusal.TheVariants.{Shape, Limit, Order, Taken, Level}
@@ -28,10 +28,10 @@ use Rattle.rules.specs.Rules.{is_empty}
 use Rattle.lines.specs.declared.Kind.{Kind}
 use Rattle.lines.specs.declared.Kind.TheVariants.{NoRecord, BusLine, IntLine, AccLine, OfferLine, Bus3Line}
 use Rattle.lines.specs.declared.Line.{Line}
-use Rattle.lines.specs.declared.FileError.{FileError}
-use Rattle.lines.specs.Answer.{FileAnswer, Accepted, Refused, file_error}
+use Rattle.lines.specs.Answer.{FileAnswer, Accepted, Refused, file_answer}
 use Rattle.model.specs.Builders.{with_bus}
 use Rattle.records.specs.Records.{empty_tree, bus_of, with_root, with_child, with_acc}
+use Rattle.placing.specs.declared.TreeReply.{TreeReply}
 use Rattle.lines.specs.Lines.{value_at, dash_at, shaped, limits_kept, in_tree}
 
 pub record TreeRead : Type 0 where
@@ -44,9 +44,8 @@ refused_at r n = record { answer = Refused r n; tree = empty_tree }
 abbrev pub given : Tree → TreeRead
 given t = record { answer = Accepted; tree = t }
 
-abbrev pub tree_read : Result Tree FileError → TreeRead
-tree_read (Ok t) = given t
-tree_read (Err e) = record { answer = file_error e; tree = empty_tree }
+abbrev pub tree_read : TreeReply → TreeRead
+tree_read r = record { answer = file_answer r.answer; tree = r.tree }
 
 unfoldable pub bus_line : ℕ → Tree → Bool → List ℕ → TreeRead
 bus_line n t axi3 v = pick (ltb 0 t.bus.window) (refused_at Order n) (given (with_bus t (bus_of axi3 v)))

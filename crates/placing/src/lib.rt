@@ -8,21 +8,47 @@ ghost use Rattle.rules.specs.Rules.{is_empty};
 ghost use Rattle.model.specs.Tree.{port_of, phi_of};
 ghost use Rattle.lines.specs.Lines.{bus_kind, limits_kept, in_tree};
 ghost use Rattle.records.specs.Records.{has_room};
-ghost use Rattle.placing.specs.Placing.{tree_read, bus_line, int_in_order, root_rule, child_line, int_line, acc_line, finish, tree_line};
+ghost use Rattle.placing.specs.Placing.{tree_read, refused_at, given, bus_line, int_in_order, root_rule, child_line, int_line, acc_line, finish, tree_line};
 
 use lines::{FileError, Kind, Line, limits_kept, shape_kept};
 use model::access::{accelerator_at, level_of, port_at};
 use model::{Port, Refusal, Tree};
-use records::{store_acc, store_bus, store_child, store_root};
+use records::{empty_tree, store_acc, store_bus, store_child, store_root};
 
-fn bus_line(n: u32, t: Tree, axi3: bool, v: [u64; 11]) -> Result<Tree, FileError>
+// A tree file's answer, with the tree that it gives. On a refusal the tree is empty.
+#[derive(Clone, Copy)]
+pub struct TreeReply {
+    pub answer: Result<(), FileError>,
+    pub tree: Tree,
+}
+
+// Refused at line n, with the empty tree.
+pub fn refused(r: Refusal, n: u32) -> TreeReply
+    ensures { tree_read result ≡ refused_at r n }
+{
+    TreeReply {
+        answer: Err(FileError::Refused(r, n)),
+        tree: empty_tree(),
+    }
+}
+
+fn accepted(t: Tree) -> TreeReply
+    ensures { tree_read result ≡ given t }
+{
+    TreeReply {
+        answer: Ok(()),
+        tree: t,
+    }
+}
+
+fn bus_line(n: u32, t: Tree, axi3: bool, v: [u64; 11]) -> TreeReply
     requires { limits_kept (bus_kind axi3) v ≡ true }
     ensures { tree_read result ≡ bus_line n t axi3 v }
 {
     if 0 < t.bus.window {
-        return Err(FileError::Refused(Refusal::Order, n));
+        return refused(Refusal::Order, n);
     }
-    Ok(store_bus(t, axi3, v))
+    accepted(store_bus(t, axi3, v))
 }
 
 // Parent and port of the root are "-", those of any other interconnect numbers, the parent the smaller one.
@@ -52,36 +78,36 @@ fn is_free(t: Tree, j: u8, p: u8) -> bool
     }
 }
 
-fn child_line(n: u32, t: Tree, v: [u64; 11]) -> Result<Tree, FileError>
+fn child_line(n: u32, t: Tree, v: [u64; 11]) -> TreeReply
     requires { has_room t v ≡ true }
     ensures { tree_read result ≡ child_line n t v }
 {
     let parent = v[1] as u8;
     let port = v[2] as u8;
     if !is_free(t, parent, port) {
-        return Err(FileError::Refused(Refusal::Taken, n));
+        return refused(Refusal::Taken, n);
     }
     if 4 <= level_of(t, parent) {
-        return Err(FileError::Refused(Refusal::Level, n));
+        return refused(Refusal::Level, n);
     }
-    Ok(store_child(t, v))
+    accepted(store_child(t, v))
 }
 
-fn int_line(n: u32, t: Tree, l: Line) -> Result<Tree, FileError>
+fn int_line(n: u32, t: Tree, l: Line) -> TreeReply
     requires { limits_kept Kind.IntLine l.values ≡ true }
     ensures { tree_read result ≡ int_line n t l }
 {
     let v = l.values;
     if !int_in_order(t, l) {
-        return Err(FileError::Refused(Refusal::Order, n));
+        return refused(Refusal::Order, n);
     }
     if v[0] == 0 {
-        return Ok(store_root(t, v));
+        return accepted(store_root(t, v));
     }
     child_line(n, t, v)
 }
 
-fn acc_line(n: u32, t: Tree, v: [u64; 11]) -> Result<Tree, FileError>
+fn acc_line(n: u32, t: Tree, v: [u64; 11]) -> TreeReply
     requires { limits_kept Kind.AccLine v ≡ true }
     ensures { tree_read result ≡ acc_line n t v }
 {
@@ -89,16 +115,16 @@ fn acc_line(n: u32, t: Tree, v: [u64; 11]) -> Result<Tree, FileError>
     let j = v[1] as u8;
     let p = v[2] as u8;
     if t.ints <= j {
-        return Err(FileError::Refused(Refusal::Order, n));
+        return refused(Refusal::Order, n);
     }
     let x = accelerator_at(t, a);
     if 0 < x.phi {
-        return Err(FileError::Refused(Refusal::Order, n));
+        return refused(Refusal::Order, n);
     }
     if !is_free(t, j, p) {
-        return Err(FileError::Refused(Refusal::Taken, n));
+        return refused(Refusal::Taken, n);
     }
-    Ok(store_acc(t, v))
+    accepted(store_acc(t, v))
 }
 
 // Each accelerator number below the highest was read.
@@ -113,13 +139,13 @@ fn no_gap(t: Tree) -> bool
 }
 
 // The end of the file: nothing may be missing. n is the line after the last.
-pub fn finished(n: u32, t: Tree) -> Result<Tree, FileError>
+pub fn finished(n: u32, t: Tree) -> TreeReply
     ensures { tree_read result ≡ finish n t }
 {
     if (0 < t.bus.window) & (0 < t.ints) & (0 < t.accs) & no_gap(t) {
-        return Ok(t);
+        return accepted(t);
     }
-    Err(FileError::Refused(Refusal::Order, n))
+    refused(Refusal::Order, n)
 }
 
 fn in_tree(kind: Kind) -> bool
@@ -129,22 +155,22 @@ fn in_tree(kind: Kind) -> bool
 }
 
 // One line of a tree file, line n, on the tree read so far.
-pub fn tree_line(n: u32, t: Tree, l: Line) -> Result<Tree, FileError>
+pub fn tree_line(n: u32, t: Tree, l: Line) -> TreeReply
     ensures { tree_read result ≡ tree_line n t l }
 {
     let kind = l.kind;
     let v = l.values;
     if !(in_tree(kind) & shape_kept(l)) {
-        return Err(FileError::Refused(Refusal::Shape, n));
+        return refused(Refusal::Shape, n);
     }
     if !limits_kept(kind, v) {
-        return Err(FileError::Refused(Refusal::Limit, n));
+        return refused(Refusal::Limit, n);
     }
     match kind {
         Kind::BusLine => bus_line(n, t, false, v),
         Kind::IntLine => int_line(n, t, l),
         Kind::AccLine => acc_line(n, t, v),
         Kind::Bus3Line => bus_line(n, t, true, v),
-        Kind::NoRecord | Kind::OfferLine => Err(FileError::Refused(Refusal::Shape, n)),
+        Kind::NoRecord | Kind::OfferLine => refused(Refusal::Shape, n),
     }
 }

@@ -62,7 +62,9 @@ pub fn report(input: &[u8], out: &mut [u8; 65536]) -> Result<usize, PlanError>
     ensures error { IfErr result (ReportRefused (read_tree input.now)) }
     ensures text { Printing (read_tree input.now) out.old out.new (prints result).bytes (prints result).number (prints result).line }
 {
-    Ok(report_text(read_tree(input)?, out))
+    let read = read_tree(input);
+    read.answer?;
+    Ok(report_text(read.tree, out))
 }
 
 // Reads the tree in `input` and writes it back into `out`: how many bytes the text has; a refusal leaves `out` as it was.
@@ -71,5 +73,7 @@ pub fn rewrite(input: &[u8], out: &mut [u8]) -> Result<usize, PlanError>
     ensures answer { prints result ≡ rewrite_of (read_tree input.now) (length out.old) }
     ensures bytes { out.new ≡ rewrite_buffer (read_tree input.now) out.old }
 {
-    Ok(write_tree(read_tree(input)?, out)?)
+    let file = read_tree(input);
+    file.answer?;
+    Ok(write_tree(file.tree, out)?)
 }

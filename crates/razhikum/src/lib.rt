@@ -66,16 +66,17 @@ pub fn razhikum_version() -> u32
 pub fn razhikum_read_tree(tree: &[u8]) -> Reading
     ensures { result ≡ tree_reading (read_tree tree.now) }
 {
-    let answer = read_tree(tree).and(Ok(()));
-    reading_of(1, answer)
+    let read = read_tree(tree);
+    reading_of(1, read.answer)
 }
 
 // Whether the tree file and, on its tree, the trace file are accepted, or which of them is refused, why and where.
 pub fn razhikum_read_trace(tree: &[u8], trace: &[u8]) -> Reading
     ensures { result ≡ trace_reading (read_tree tree.now) trace.now }
 {
-    match read_tree(tree) {
-        Ok(t) => reading_of(2, read_trace(t, trace)),
+    let read = read_tree(tree);
+    match read.answer {
+        Ok(()) => reading_of(2, read_trace(read.tree, trace)),
         Err(error) => reading_of(1, Err(error)),
     }
 }
@@ -84,10 +85,8 @@ pub fn razhikum_read_trace(tree: &[u8], trace: &[u8]) -> Reading
 pub fn razhikum_count(tree: &[u8]) -> Count
     ensures { result ≡ count_from (read_tree tree.now) }
 {
-    match read_tree(tree) {
-        Ok(t) => count_of(Ok(()), t.accs),
-        Err(error) => count_of(Err(error), 0),
-    }
+    let read = read_tree(tree);
+    count_of(read.answer, read.tree.accs)
 }
 
 // The report of a tree file, put at the beginning of `out`; a refusal is answered by number and line, and leaves `out` as it was.
@@ -111,8 +110,9 @@ fn run_on(tree: &[u8], channel: Channel, trace: &[u8], out: &mut [u8]) -> Outcom
     ensures answer { result ≡ outcome_from (read_tree tree.now) channel trace.now out.old }
     ensures bytes { out.new ≡ buffer_from (read_tree tree.now) channel trace.now out.old }
 {
-    match read_tree(tree) {
-        Ok(t) => outcome_of(run(t, channel, trace, out)),
+    let read = read_tree(tree);
+    match read.answer {
+        Ok(()) => outcome_of(run(read.tree, channel, trace, out)),
         Err(error) => tree_refused(Err(error)),
     }
 }
@@ -141,8 +141,9 @@ fn why_on(
     ensures answer { result ≡ wait_from (read_tree tree.now) channel trace.now accelerator number out.old }
     ensures bytes { out.new ≡ list_from (read_tree tree.now) channel trace.now accelerator number out.old }
 {
-    match read_tree(tree) {
-        Ok(t) => wait_of(why(t, channel, trace, accelerator, number, out)),
+    let read = read_tree(tree);
+    match read.answer {
+        Ok(()) => wait_of(why(read.tree, channel, trace, accelerator, number, out)),
         Err(error) => no_wait(2, answer_number(Err(error)), answer_line(Err(error))),
     }
 }
@@ -171,8 +172,9 @@ pub fn razhikum_why(
 pub fn razhikum_bound(tree: &[u8], accelerator: u8) -> Row
     ensures { result ≡ row_from (read_tree tree.now) accelerator }
 {
-    match read_tree(tree) {
-        Ok(t) => row_of(bound(t, accelerator)),
+    let read = read_tree(tree);
+    match read.answer {
+        Ok(()) => row_of(bound(read.tree, accelerator)),
         Err(error) => unbounded(answer_number(Err(error)), answer_line(Err(error))),
     }
 }

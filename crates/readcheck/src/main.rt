@@ -53,11 +53,11 @@ fn figure_bus(out: &impl Print, b: Bus) {
 fn try_tree(out: &impl Print, name: &[u8], s: &[u8]) {
     words(out, name);
     let r = read_tree(s);
-    show(out, r.and(Ok(())));
-    if let Ok(t) = r {
-        figure(out, t.ints as u64);
-        figure(out, t.accs as u64);
-        figure_bus(out, t.bus);
+    show(out, r.answer);
+    if r.answer.is_ok() {
+        figure(out, r.tree.ints as u64);
+        figure(out, r.tree.accs as u64);
+        figure_bus(out, r.tree.bus);
     }
     words(out, b"\n");
 }
@@ -142,7 +142,7 @@ fn try_files(out: &impl Print, t: Tree, s: &[u8]) {
 fn report_tree() -> Tree {
     read_tree(
         b"bus\t8\t1\t4\t2\t2\t30\t25\t1\t1\t16\nint\t0\t-\t-\t1\nacc\t0\t0\t0\t4\t2\t10\t5\t1000\t2000\nacc\t1\t0\t3\t4\t2\t1\t0\t0\t100\n",
-    ).unwrap_or(empty_tree())
+    ).tree
 }
 
 // The files at the limits of sizes and totals, by their numbers in `generator`, and their names.

@@ -12,12 +12,14 @@ use Rattle.model.specs.declared.Tree.{Tree}
 use Rattle.model.specs.declared.Refusal.TheVariants.{Shape, Limit}
 use Rattle.folds.proofs.Folds.{picked, passed}
 use Rattle.lines.specs.declared.FileError.{FileError}
-use Rattle.lines.specs.declared.FileError.TheVariants.{Refused, Broken}
-use Rattle.std.specs.Prelude.{Err}
-use Rattle.placing.specs.Placing.{TreeRead, tree_read, given, refused_at, finish, tree_line}
+use Rattle.lines.specs.declared.FileError.TheVariants.{Refused as refused, Broken as broken}
+use Rattle.lines.specs.Answer.{FileAnswer, file_error, file_answer}
+use Rattle.std.specs.Prelude.{Result, Ok, Err}
+use Rattle.placing.specs.declared.TreeReply.{TreeReply}
 use Rattle.lines.specs.Lines.{line_of}
 use Rattle.lines.proofs.Limits.{nonempty}
 use Rattle.records.specs.Records.{empty_tree}
+use Rattle.placing.specs.Placing.{TreeRead, tree_read, refused_at, finish, tree_line}
 use Rattle.reader.specs.TreeFile.{onward, read_lines, read_tree}
 
 pub tree_size : (s : List ℕ) → 65536 < length s → read_tree s ≡ refused_at Limit 0
@@ -52,10 +54,14 @@ module _ (n : ℕ) (t : Tree) (s : List ℕ) (at e : ℕ) (h : at < length s) (q
       ap₂ (read_lines n t) r.0 r.1
 
 -- after an accepted line reading goes on
-pub goes_on : (t : Tree) (r next : TreeRead) → given t ≡ r → onward r.answer r next ≡ next
-goes_on t r next h = ap (λ (x : TreeRead). onward x.answer x next) (sym h)
+pub goes_on : (y : TreeReply) (r next : TreeRead) → tree_read y ≡ r → (u : Unit {0}) → y.answer ≡ Ok u → onward r.answer r next ≡ next
+goes_on y r next e u a =
+    ap (λ (k : FileAnswer). onward k r next) (sym (ap (λ (z : TreeRead). z.answer) e) ∙ ap (λ (z : Result (Unit {0}) FileError). file_answer z) a)
 
 -- after a refused line it ends
-pub ends : (e : FileError) (r next : TreeRead) → tree_read (Err e) ≡ r → onward r.answer r next ≡ tree_read (Err e)
-ends (Refused x n) r next h = ap (λ (y : TreeRead). onward y.answer y next) (sym h)
-ends Broken r next h = ap (λ (y : TreeRead). onward y.answer y next) (sym h)
+pub ends : (y : TreeReply) (r next : TreeRead) → tree_read y ≡ r → (x : FileError) → y.answer ≡ Err x → onward r.answer r next ≡ tree_read y
+ends y r next e x a = go x (sym (ap (λ (z : TreeRead). z.answer) e) ∙ ap (λ (z : Result (Unit {0}) FileError). file_answer z) a)
+  where
+    go : (x : FileError) → r.answer ≡ file_error x → onward r.answer r next ≡ tree_read y
+    go (refused z m) f = ap (λ (k : FileAnswer). onward k r next) f ∙ sym e
+    go broken f = ap (λ (k : FileAnswer). onward k r next) f ∙ sym e

@@ -22,7 +22,8 @@ use Rattle.lines.specs.Answer.{FileAnswer, Accepted, Refused, Broken, file_error
 use Rattle.trace.specs.declared.Request.{Request}
 use Rattle.trace.specs.TraceFile.{read_trace, requests}
 use Rattle.model.specs.Builders.{zero_state}
-use Rattle.machine.specs.Answers.{fresh_outcome}
+use Rattle.machine.specs.declared.Reply.{Reply}
+use Rattle.machine.specs.Answers.{fresh_means, fresh_outcome}
 use Rattle.machine.specs.Machine.{started, not_started, Beginning, beginning, fresh_state, freshened}
 use Rattle.runner.specs.Run.{Trail, run_for, Ending, refused_at, broken, done, stopped, end_after, end_of, answered, over, overwritten, ran_of, buffer_after}
 use Rattle.runner.specs.Answers.{run_means}
@@ -44,14 +45,17 @@ module _ (t : Tree) (ch : Channel) where
       clash cc
   unbegun_by false n s e = refl
 
-  module _ (r : Result State Refusal) (e : fresh_outcome ch r ≡ freshened t ch) where
-    pub begun : (s : State) → r ≡ Ok s → (tree_keeps t ≡ true) × (s ≡ fresh_state t ch)
-    unfolding freshened
-    begun s f = begun_by (tree_keeps t) s (sym (ap (fresh_outcome ch) f) ∙ e)
+  module _ (r : Reply (Unit {0})) (e : fresh_outcome r ≡ freshened t ch) where
+    by_answer : (a : Result (Unit {0}) Refusal) → r.answer ≡ a → beginning (fresh_means a) r.state ≡ freshened t ch
+    by_answer a f = ap (λ (x : Result (Unit {0}) Refusal). beginning (fresh_means x) r.state) (sym f) ∙ e
 
-    pub unbegun : (x : Refusal) → r ≡ Err x → tree_keeps t ≡ false
+    pub begun : (u : Unit {0}) → r.answer ≡ Ok u → (tree_keeps t ≡ true) × (r.state ≡ fresh_state t ch)
     unfolding freshened
-    unbegun x f = unbegun_by (tree_keeps t) (number_of x) (zero_state ch) (sym (ap (fresh_outcome ch) f) ∙ e)
+    begun u f = begun_by (tree_keeps t) r.state (by_answer (Ok u) f)
+
+    pub unbegun : (x : Refusal) → r.answer ≡ Err x → tree_keeps t ≡ false
+    unfolding freshened
+    unbegun x f = unbegun_by (tree_keeps t) (number_of x) r.state (by_answer (Err x) f)
 
 module _ (t : Tree) (ch : Channel) (s d : List ℕ) where
   pub ran_broken : tree_keeps t ≡ false → (broken 11 ≡ ran_of t ch s (length d)) × (d ≡ buffer_after t ch s d)

@@ -158,7 +158,8 @@ pub fn run_wait(t: Tree, channel: Channel, trace: &[u8], a: u8, k: u32, out: &mu
     ensures bytes { out.new ≡ buffer_after t channel trace.now out.old }
     ensures wait { wait_of result.wait ≡ told_of t channel trace.now a k (length out.old) }
 {
-    let Ok(start) = fresh(t, channel) else {
+    let start = fresh(t, channel);
+    let Ok(()) = start.answer else {
         return untold(FileError::Broken);
     };
     if 65536 < out.len() {
@@ -167,7 +168,7 @@ pub fn run_wait(t: Tree, channel: Channel, trace: &[u8], a: u8, k: u32, out: &mu
     match read_requests(t.accs, trace) {
         Ok(()) => {
             let number = number_asked(t.accs, a, k);
-            run_slots(t, channel, start, trace, a, number, out)
+            run_slots(t, channel, start.state, trace, a, number, out)
         }
         Err(error) => untold(error),
     }

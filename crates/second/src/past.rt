@@ -4,7 +4,7 @@ use crate::book::{acc_row, accs, cell, int_row};
 use crate::queues::{run_over, run_refusal, since};
 use crate::{Said, Wrong, answer};
 
-// What is answer of a transaction: the number and line of a refusal, or 0; how many slots it waited, and the slot of its admission.
+// What is said of a transaction: the number and line of a refusal, or 0; how many slots it waited, and the slot of its admission.
 #[derive(Clone, Copy)]
 pub struct Told {
     pub number: usize,

@@ -157,8 +157,9 @@ pub fn split_file(
     ensures starts { starts.new ≡ starts_from (read_tree tree.now) b starts.old }
     ensures beats { beats.new ≡ beats_from (read_tree tree.now) b beats.old }
 {
-    match read_tree(tree) {
-        Ok(t) => reply_in(t, b, starts, beats),
+    let read = read_tree(tree);
+    match read.answer {
+        Ok(()) => reply_in(read.tree, b, starts, beats),
         Err(error) => tree_denied(error),
     }
 }

@@ -21,16 +21,16 @@ pub overflow_cast-p : goal.overflow_cast-p
 overflow_cast-p c = omega (arith, most AccLine c.args.v c.requires 2 (lit< tt))
 
 pub returns-then-t-j : goal.returns-then-t-j
-returns-then-t-j c = sym (acc_unknown _ _ _ c.if-t-j.true)
+returns-then-t-j c = c.refused.ensures ∙ sym (acc_unknown _ _ _ c.if-t-j.true)
 
 pub returns-then-x-gt0 : goal.returns-then-x-gt0
 returns-then-x-gt0 c =
-    sym (acc_twice _ _ _ c.if-t-j.false (subst (λ (x : Accelerator). 0 < x.phi) c.accelerator_at-x.ensures c.if-x-gt0.true))
+    c.refused-then-x-gt0.ensures ∙ sym (acc_twice _ _ _ c.if-t-j.false (subst (λ (x : Accelerator). 0 < x.phi) c.accelerator_at-x.ensures c.if-x-gt0.true))
 
 pub returns-then-not-is_free : goal.returns-then-not-is_free
 returns-then-not-is_free c =
-    sym (acc_taken _ _ _ c.if-t-j.false (subst (λ (x : Accelerator). x.phi ≤ 0) c.accelerator_at-x.ensures c.if-x-gt0.false) (sym c.is_free.ensures ∙ c.if-not-is_free.true))
+    c.refused-then-not-is_free.ensures ∙ sym (acc_taken _ _ _ c.if-t-j.false (subst (λ (x : Accelerator). x.phi ≤ 0) c.accelerator_at-x.ensures c.if-x-gt0.false) (sym c.is_free.ensures ∙ c.if-not-is_free.true))
 
 pub returns : goal.returns
 returns c =
-    ap given (c.store_acc.ensures ∙ acc_stored_lem c.args.t c.args.v c.requires) ∙ sym (acc_given _ _ _ c.if-t-j.false (subst (λ (x : Accelerator). x.phi ≤ 0) c.accelerator_at-x.ensures c.if-x-gt0.false) (sym c.is_free.ensures ∙ c.if-not-is_free.false))
+    c.accepted.ensures ∙ ap given (c.store_acc.ensures ∙ acc_stored_lem c.args.t c.args.v c.requires) ∙ sym (acc_given _ _ _ c.if-t-j.false (subst (λ (x : Accelerator). x.phi ≤ 0) c.accelerator_at-x.ensures c.if-x-gt0.false) (sym c.is_free.ensures ∙ c.if-not-is_free.false))

@@ -18,12 +18,12 @@ overflow_cast-port c = omega (arith, most IntLine c.args.v (room_kept c.args.t c
 
 pub returns-then-not-is_free : goal.returns-then-not-is_free
 returns-then-not-is_free c =
-    sym (child_taken _ _ _ (sym c.is_free.ensures ∙ c.if-not-is_free.true))
+    c.refused.ensures ∙ sym (child_taken _ _ _ (sym c.is_free.ensures ∙ c.if-not-is_free.true))
 
 pub returns-then-level_of-ge4 : goal.returns-then-level_of-ge4
 returns-then-level_of-ge4 c =
-    sym (child_deep _ _ _ (sym c.is_free.ensures ∙ c.if-not-is_free.false) (subst (λ (k : ℕ). 4 ≤ k) c.level_of.ensures c.if-level_of-ge4.true))
+    c.refused-then-level_of-ge4.ensures ∙ sym (child_deep _ _ _ (sym c.is_free.ensures ∙ c.if-not-is_free.false) (subst (λ (k : ℕ). 4 ≤ k) c.level_of.ensures c.if-level_of-ge4.true))
 
 pub returns : goal.returns
 returns c =
-    ap given (c.store_child.ensures ∙ child_stored_lem c.args.t c.args.v c.requires) ∙ sym (child_given _ _ _ (sym c.is_free.ensures ∙ c.if-not-is_free.false) (subst (λ (k : ℕ). k < 4) c.level_of.ensures c.if-level_of-ge4.false))
+    c.accepted.ensures ∙ ap given (c.store_child.ensures ∙ child_stored_lem c.args.t c.args.v c.requires) ∙ sym (child_given _ _ _ (sym c.is_free.ensures ∙ c.if-not-is_free.false) (subst (λ (k : ℕ). k < 4) c.level_of.ensures c.if-level_of-ge4.false))

@@ -9,9 +9,9 @@ use Rattle.placing.proofs.finished.Goals as goal
 pub returns-then-t-no_gap : goal.returns-then-t-no_gap
 unfolding finish
 returns-then-t-no_gap c =
-    sym (picked _ _ _ (ap (λ (g : Bool). ltb 0 c.args.t.bus.window && ltb 0 c.args.t.ints && ltb 0 c.args.t.accs && g) (sym c.no_gap.ensures) ∙ c.if-t-no_gap.true))
+    c.accepted.ensures ∙ sym (picked _ _ _ (ap (λ (g : Bool). ltb 0 c.args.t.bus.window && ltb 0 c.args.t.ints && ltb 0 c.args.t.accs && g) (sym c.no_gap.ensures) ∙ c.if-t-no_gap.true))
 
 pub returns : goal.returns
 unfolding finish
 returns c =
-    sym (passed _ _ _ (ap (λ (g : Bool). ltb 0 c.args.t.bus.window && ltb 0 c.args.t.ints && ltb 0 c.args.t.accs && g) (sym c.no_gap.ensures) ∙ c.if-t-no_gap.false))
+    c.refused.ensures ∙ sym (passed _ _ _ (ap (λ (g : Bool). ltb 0 c.args.t.bus.window && ltb 0 c.args.t.ints && ltb 0 c.args.t.accs && g) (sym c.no_gap.ensures) ∙ c.if-t-no_gap.false))

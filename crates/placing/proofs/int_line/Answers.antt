@@ -11,11 +11,12 @@ use Rattle.placing.proofs.int_line.Goals as goal
 
 pub returns-then-not-int_in_order : goal.returns-then-not-int_in_order
 returns-then-not-int_in_order c =
-    sym (int_order _ _ _ (sym c.int_in_order.ensures ∙ c.if-not-int_in_order.true))
+    c.refused.ensures ∙ sym (int_order _ _ _ (sym c.int_in_order.ensures ∙ c.if-not-int_in_order.true))
 
 pub returns-then-v-eq0 : goal.returns-then-v-eq0
 returns-then-v-eq0 c =
-    ap given (c.store_root.ensures ∙ root_stored_lem _ _ (has_room_lem c.args.t c.args.l.values c.requires (omega (arith, next_number c.args.n c.args.t c.args.l (sym c.int_in_order.ensures ∙ c.if-not-int_in_order.false), most IntLine c.args.l.values c.requires 0 (lit< tt)))))
+    c.accepted.ensures
+    ∙ ap given (c.store_root.ensures ∙ root_stored_lem _ _ (has_room_lem c.args.t c.args.l.values c.requires (omega (arith, next_number c.args.n c.args.t c.args.l (sym c.int_in_order.ensures ∙ c.if-not-int_in_order.false), most IntLine c.args.l.values c.requires 0 (lit< tt)))))
     ∙ sym (int_root _ _ _ (sym c.int_in_order.ensures ∙ c.if-not-int_in_order.false) c.if-v-eq0.true)
 
 pub child_line-requires : goal.child_line-requires

@@ -22,11 +22,13 @@ placed n t l k e f g b h i = line_record n t l k e (sym (shape l f g) ∙ b) (sy
 
 pub returns-then-not-in_tree-shape_kept : goal.returns-then-not-in_tree-shape_kept
 returns-then-not-in_tree-shape_kept c =
-    sym (line_shape _ _ c.args.l (sym (shape c.args.l c.in_tree.ensures c.shape_kept.ensures) ∙ c.if-not-in_tree-shape_kept.true))
+    c.refused.ensures
+    ∙ sym (line_shape _ _ c.args.l (sym (shape c.args.l c.in_tree.ensures c.shape_kept.ensures) ∙ c.if-not-in_tree-shape_kept.true))
 
 pub returns-then-not-limits_kept : goal.returns-then-not-limits_kept
 returns-then-not-limits_kept c =
-    sym (line_limit _ _ c.args.l
+    c.refused-then-not-limits_kept.ensures
+    ∙ sym (line_limit _ _ c.args.l
     (sym (shape c.args.l c.in_tree.ensures c.shape_kept.ensures) ∙ c.if-not-in_tree-shape_kept.false)
     (sym c.limits_kept.ensures ∙ c.if-not-limits_kept.true))
 
