@@ -19,7 +19,7 @@ use crate::results::show;
 use crate::trials::{try_altered, try_file_runs, try_tree};
 use callcheck::try_machine;
 use generator::{buffer_size, file_in, made, number_below, start, trace_file, tree_file};
-use input::read_all;
+use input::read_full;
 
 // A generated tree, in w, and, if it is accepted, a generated trace for one of the channels, in v.
 fn try_pair(
@@ -62,9 +62,8 @@ fn main(rt: HostRuntime) {
     let mut out = [0u8; 131074];
     try_generated(&mut d, &mut out);
     let mut page = [0u8; 65537];
-    if let Ok(n) = read_all(&mut rt.stdin(), &mut page) {
-        try_listed(&page[..n], &mut d, &mut out);
-    }
+    let n = read_full(&mut rt.stdin(), &mut page);
+    try_listed(&page[..n], &mut d, &mut out);
     try_long(&mut page, &mut d, &mut out);
     try_bursts(&mut d);
     show(&rt, &d);

@@ -110,11 +110,7 @@ fn note_reading(s: &[u8], answer: Result<(), FileError>, d: &mut [usize; 16384],
 }
 
 // A tree file. The rows are left with the second reader's tree.
-pub fn try_tree(
-    s: &[u8],
-    d: &mut [usize; 16384],
-    out: &mut [u8; 131074],
-) -> TreeReply {
+pub fn try_tree(s: &[u8], d: &mut [usize; 16384], out: &mut [u8; 131074]) -> TreeReply {
     let r = read_tree(s);
     let t = r.tree;
     let answer = r.answer;

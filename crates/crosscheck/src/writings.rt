@@ -118,12 +118,7 @@ fn try_text(s: &[u8], d: &mut [usize; 16384], out: &mut [u8; 131074], n: usize) 
     let r = read_tree(s);
     let t = r.tree;
     let tree = same_tree(t, d);
-    note(
-        d,
-        DIFFERENCES,
-        0,
-        same_said(r.answer, accepted()) & tree,
-    );
+    note(d, DIFFERENCES, 0, same_said(r.answer, accepted()) & tree);
     let w = library_written(t, out, OURS, n);
     let same = same_written(w, written_by(0, 0, n));
     note(d, DIFFERENCES, 0, same & same_bytes(out, n));

@@ -97,6 +97,23 @@ pub fn read_all(from: &mut impl Read, buf: &mut [u8]) -> Result<usize, Error>
     Ok(done)
 }
 
+// Reads into the buffer until it is full, the file ends or a read fails, and answers how many bytes were read: those before a read that
+// failed count.
+pub fn read_full(from: &mut impl Read, buf: &mut [u8]) -> usize
+    ensures { result ≤ length buf.new }
+{
+    let mut done = 0;
+    // A `while`: each turn goes on by as much as the system moved.
+    while done < buf.len() {
+        let part = from.read(&mut buf[done..]).unwrap_or(0);
+        if part == 0 {
+            return done;
+        }
+        done += part;
+    }
+    done
+}
+
 // Reads the file of that name, which is closed where it is let go.
 fn read_named(path: &str, files: &impl Files, buf: &mut [u8]) -> Result<usize, Error>
     ensures { IfOk result (λ n. n ≤ length buf.new) }

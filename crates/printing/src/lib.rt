@@ -99,16 +99,14 @@ fn refuse(s: &Streams<impl Print, impl Print>, file: NamedFile<'_>, e: PlanError
     reasons::explain(s.errors, file.name, false, file.bytes, number, line);
 }
 
-// Writes what `print` puts into a page of the file's tree, or its refusal.
-fn print_tree<F: FnOnce(&[u8], &mut [u8; 65536]) -> Result<usize, PlanError>>(
+// Writes what the program prints of the file's tree, or its refusal.
+fn print_tree<P: TreeProgram>(
     s: &Streams<impl Print, impl Print>,
     file: NamedFile<'_>,
-    print: F,
-)
-    requires { F.IsAlwaysCallable print }
-{
+    program: &P,
+) {
     let mut page = [0u8; 65536];
-    match print(file.bytes, &mut page) {
+    match program.print(file.bytes, &mut page) {
         Ok(n) => {
             input::write_out(s.out, s.errors, filled(&page, n));
         }
@@ -116,37 +114,34 @@ fn print_tree<F: FnOnce(&[u8], &mut [u8; 65536]) -> Result<usize, PlanError>>(
     }
 }
 
-fn print_file<F: FnOnce(&[u8], &mut [u8; 65536]) -> Result<usize, PlanError> + Drop>(
+fn print_file<P: TreeProgram>(
     s: &Streams<impl Files + Print, impl Print>,
     stdin: &mut impl Read,
     name: &[u8],
-    print: F,
-)
-    requires { F.IsAlwaysCallable print }
-{
+    program: &P,
+) {
     let mut buf = [0u8; 65537];
     let Some(file) = load(s, stdin, name, &mut buf) else {
         return;
     };
-    print_tree(s, file, print);
+    print_tree(s, file, program);
 }
 
-// What the first three words ask of a program of one tree file: its usage, its help, or what it prints of the file's tree.
-pub fn run<
-    U: FnOnce(&mut [u8; 65536]) -> usize + Drop,
-    H: FnOnce(&mut [u8; 65536]) -> usize + Drop,
-    F: FnOnce(&[u8], &mut [u8; 65536]) -> Result<usize, PlanError> + Drop,
->(
+// A program of one tree file: its usage and its help, each put into a page, and what it prints of the file's tree.
+pub trait TreeProgram {
+    fn usage(&self, page: &mut [u8; 65536]) -> usize;
+
+    fn help(&self, page: &mut [u8; 65536]) -> usize;
+
+    fn print(&self, tree: &[u8], page: &mut [u8; 65536]) -> Result<usize, PlanError>;
+}
+
+// What the first three words ask of the program: its usage, its help, or what it prints of the file's tree.
+pub fn run<P: TreeProgram>(
     s: &Streams<impl Env + Files + Print, impl Print>,
     stdin: &mut (impl Read + IsTerminal),
-    usage: U,
-    help: H,
-    print: F,
-)
-    requires usage { U.IsAlwaysCallable usage }
-    requires help { H.IsAlwaysCallable help }
-    requires print { F.IsAlwaysCallable print }
-{
+    program: &P,
+) {
     let mut first = [0u8; 131072];
     let mut second = [0u8; 131072];
     let mut third = [0u8; 131072];
@@ -160,11 +155,11 @@ pub fn run<
         terminal,
     );
     match asked {
-        Asked::Usage => say_text(s, usage),
+        Asked::Usage => say_text(s, |page| program.usage(page)),
         Asked::Help => {
-            show_text(s, help);
+            show_text(s, |page| program.help(page));
         }
-        Asked::Run(Source::Input) => print_file(s, stdin, b"-", print),
-        Asked::Run(Source::File) => print_file(s, stdin, name, print),
+        Asked::Run(Source::Input) => print_file(s, stdin, b"-", program),
+        Asked::Run(Source::File) => print_file(s, stdin, name, program),
     }
 }

@@ -6,7 +6,7 @@
 #![tactic(auto)]
 
 use generator::pages::long_file;
-use input::read_all;
+use input::read_full;
 use lines::FileError;
 use model::{Bus, Tree};
 use reader::read_tree;
@@ -176,9 +176,8 @@ fn main(rt: HostRuntime) {
     let out = &rt;
     let t = report_tree();
     let mut input = [0u8; 65536];
-    if let Ok(n) = read_all(&mut rt.stdin(), &mut input) {
-        try_files(out, t, &input[..n]);
-    }
+    let n = read_full(&mut rt.stdin(), &mut input);
+    try_files(out, t, &input[..n]);
     try_long(out, t);
     try_broken(out);
 }

@@ -2,18 +2,29 @@
 // output. A refusal is one line there, and one line in words on standard error.
 #![tactic(auto)]
 
-use printing::{Streams, run};
+use plan::PlanError;
+use printing::{Streams, TreeProgram, run};
+
+struct Report;
+
+impl TreeProgram for Report {
+    fn usage(&self, page: &mut [u8; 65536]) -> usize {
+        usage::report_usage(page)
+    }
+
+    fn help(&self, page: &mut [u8; 65536]) -> usize {
+        usage::report_help(page)
+    }
+
+    fn print(&self, tree: &[u8], page: &mut [u8; 65536]) -> Result<usize, PlanError> {
+        plan::report(tree, page)
+    }
+}
 
 fn main(rt: HostRuntime) {
     let s = &Streams {
         out: &rt,
         errors: &rt.stderr(),
     };
-    run(
-        s,
-        &mut rt.stdin(),
-        usage::report_usage,
-        usage::report_help,
-        plan::report,
-    );
+    run(s, &mut rt.stdin(), &Report);
 }

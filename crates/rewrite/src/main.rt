@@ -2,18 +2,29 @@
 // A refusal is one line there, and one line in words on standard error.
 #![tactic(auto)]
 
-use printing::{Streams, run};
+use plan::PlanError;
+use printing::{Streams, TreeProgram, run};
+
+struct Rewrite;
+
+impl TreeProgram for Rewrite {
+    fn usage(&self, page: &mut [u8; 65536]) -> usize {
+        usage::rewrite_usage(page)
+    }
+
+    fn help(&self, page: &mut [u8; 65536]) -> usize {
+        usage::rewrite_help(page)
+    }
+
+    fn print(&self, tree: &[u8], page: &mut [u8; 65536]) -> Result<usize, PlanError> {
+        plan::rewrite(tree, page)
+    }
+}
 
 fn main(rt: HostRuntime) {
     let s = &Streams {
         out: &rt,
         errors: &rt.stderr(),
     };
-    run(
-        s,
-        &mut rt.stdin(),
-        usage::rewrite_usage,
-        usage::rewrite_help,
-        |tree, page| plan::rewrite(tree, page),
-    );
+    run(s, &mut rt.stdin(), &Rewrite);
 }

@@ -74,7 +74,9 @@ fn apart(from: u32, until: u32) -> u32
     until.saturating_sub(from)
 }
 
-// The answer by what a run told of transaction k of accelerator a and its bytes: nothing is written before the service is known.
+// The answer by what a run told of transaction k of accelerator a and its bytes: nothing is written before the service is known. Not
+// inlined: its copies of the tree would lie on the stack below the reader and the run.
+#[inline(never)]
 fn explain(
     t: Tree,
     a: u8,
