@@ -30,20 +30,20 @@ fn carried_of(t: Tree) -> [PortCell; 120]
 pub fn table_of(t: Tree, channel: Channel) -> Table
     ensures { result ≡ table_of t channel }
 {
-    let mut granularity = [0u8; 15];
+    let mut granularity = [0u16; 15];
     let mut parent_port = [0u16; 15];
     for j in 0..15u8 {
         let x = interconnect_at(t, j);
-        granularity[j as usize] = x.granularity;
+        granularity[j as usize] = x.granularity as u16;
         parent_port[j as usize] = port_number(x.parent, x.port);
     }
     let mut own_port = [0u16; 32];
-    let mut limit = [0u8; 32];
+    let mut limit = [0u16; 32];
     let mut budget = [0u16; 32];
     for a in 0..32u8 {
         let x = accelerator_at(t, a);
         own_port[a as usize] = port_number(x.interconnect, x.port);
-        limit[a as usize] = limit_of(t, channel, a);
+        limit[a as usize] = limit_of(t, channel, a) as u16;
         budget[a as usize] = x.budget;
     }
     Table {
