@@ -8,6 +8,7 @@ ghost use Rattle.admit.specs.Admitting.{answer_on, offered_on, offers_of, is_in,
 use counts::{Ports, Table};
 use machine::limits_answer;
 use model::Refusal;
+use rules::less_one;
 
 // What a run keeps in place of a state: how many transactions of each accelerator are outstanding, admitted in this window and held, and
 // what is kept of the ports.
@@ -32,7 +33,7 @@ impl Arrays {
         let limit = table.limit[i] as u32;
         let budget = table.budget[i] as u32;
         limits_answer(limit, outstanding, budget, admitted)?;
-        self.held[i] = self.held[i].saturating_sub(1);
+        self.held[i] = less_one(self.held[i]);
         self.outstanding[i] = outstanding + 1;
         self.admitted[i] = admitted + 1;
         self.ports.add_along(table, table.own_port[i]);
@@ -65,7 +66,7 @@ impl Arrays {
         while (a < 32) | (rest != 0) {
             self.offer_held(a as u8, table);
             a = u32::trailing_zeros(rest);
-            rest &= rest.saturating_sub(1);
+            rest &= less_one(rest);
         }
     }
 }

@@ -85,7 +85,7 @@ module _ (j : ℕ) (x : Turn) (b : x.port < 8) (k : ℕ) (d : j < k) (e : Ports)
   -- the turn of another interconnect is as it was
   pass_turn : (w : Table) → turn_at w (pass j x e) k ≡ turn_at w e k
   pass_turn w =
-      let g : ℕ = get_or w.granularity k 0 in
+      let g : ℕ = min 255 (get_or w.granularity k 0) in
       let live = get_or-set_other e.live (c / 8) k _ 0 (λ q. omega (arith, at_j)) in
       let last = get_or-set_other e.last j k x.port 0 (λ q. omega arith) in
       let allowance = get_or-set_other e.allowance j k (x.allowance - 1) 0 (λ q. omega arith) in

@@ -142,17 +142,17 @@ module _ (t : Tree) (s : State) (w : Table) (d : Ports) (M : Matches t s w d) wh
         ap (port_on (get_or d.live j 0) (get_or d.last j 0)) allowance_same
         ∙ ap₂ (λ (x y : ℕ). pick (goes_on s j) x y) last_same next_same
 
-    granularity_same : get_or w.granularity j 0 ≡ granularity_of t j
-    granularity_same = M.table.granularity j lj
+    granularity_same : min 255 (get_or w.granularity j 0) ≡ granularity_of t j
+    granularity_same = omega (arith, M.table.granularity j lj, (S.granularity j h).1)
 
     -- the allowance of the turn, were its port p
     abbrev allowance_by : ℕ → ℕ
-    allowance_by p = pick (ltb 0 (get_or d.allowance j 0)) (get_or d.allowance j 0) (min (get_or w.granularity j 0) (count_at d.under j p))
+    allowance_by p = pick (ltb 0 (get_or d.allowance j 0)) (get_or d.allowance j 0) (min (min 255 (get_or w.granularity j 0)) (count_at d.under j p))
 
     allowance_from : allowance_by (turn_port t s j) ≡ turn_allowance t s j
     unfolding turn_allowance
     allowance_from =
-        ap (λ (a : ℕ). pick (ltb 0 a) a (min (get_or w.granularity j 0) (count_at d.under j (turn_port t s j)))) allowance_same
+        ap (λ (a : ℕ). pick (ltb 0 a) a (min (min 255 (get_or w.granularity j 0)) (count_at d.under j (turn_port t s j)))) allowance_same
         ∙ ap₂ (λ (x y : ℕ). pick (goes_on s j) (allowance_of s j) (min x y)) granularity_same
         (passed _ _ _ (le-ltb 7 (turn_port t s j) (omega (arith, T.port))) ∙ M.counts.count j (turn_port t s j) h T.port)
 

@@ -1,9 +1,11 @@
 -- The table of a configuration by its parts: entry i of a list of entries is that of i.
-use Prim.Native.Nat.{ℕ, ◌<◌}
+use Prim.Native.Nat.{ℕ, ◌+◌, ◌≤◌, ◌<◌, min}
+use mathlib.Core.List.{List}
 use mathlib.Core.Path.{◌≡◌, sym, ◌∙◌, ap, ap₂, subst}
 use native.Mathlib.Omega.{arith}
-use lib.ListN.{get_or}
-use Rattle.folds.proofs.Entries.{entries_at, entries_or}
+use lib.ListN.{get_or, set}
+use Rattle.folds.specs.Fold.{entries}
+use Rattle.folds.proofs.Entries.{Filled, filled_more, entries_at, entries_or}
 use Rattle.model.specs.declared.Tree.{Tree}
 use Rattle.model.specs.declared.Channel.{Channel}
 use Rattle.model.specs.declared.PortCell.{PortCell}
@@ -49,3 +51,25 @@ table_same v w c g p o l b =
     ap₂ (λ x y. record { carried = x; granularity = y; parent_port = v.parent_port; own_port = v.own_port; limit = v.limit; budget = v.budget }) c g
     ∙ ap₂ (λ x y. record { carried = w.carried; granularity = w.granularity; parent_port = x; own_port = y; limit = v.limit; budget = v.budget }) p o
     ∙ ap₂ (λ x y. record { carried = w.carried; granularity = w.granularity; parent_port = w.parent_port; own_port = w.own_port; limit = x; budget = y }) l b
+
+-- the table w as it is filled for channel c of t: what each port carries, the arrays of fifteen below j or to their end, the others below a
+abbrev pub FilledTo : Tree → Channel → Table → ℕ → ℕ → Type 0
+FilledTo t c w j a =
+    (w.carried ≡ entries 120 (carried_by t))
+    × Filled 15 (granularity_of t) w.granularity (min 15 j)
+    × Filled 15 (parent_number t) w.parent_port (min 15 j)
+    × Filled 32 (own_number t) w.own_port a
+    × Filled 32 (limit_of t c) w.limit a
+    × Filled 32 (budget_of t) w.budget a
+
+-- an array of fifteen has one entry more where j is below fifteen, and is full past that
+pub most_more : (f : ℕ → ℕ) (l : List ℕ) (j x : ℕ) → j < 15 → x ≡ f j → Filled 15 f l (min 15 j) → Filled 15 f (set l j x) (min 15 (j + 1))
+most_more f l j x h e d =
+    let p : min 15 j ≡ j = omega arith in
+    let q : j + 1 ≡ min 15 (j + 1) = omega arith in
+    subst (Filled 15 f (set l j x)) q (filled_more 15 f l j x h e (subst (Filled 15 f l) p d))
+
+pub most_past : (f : ℕ → ℕ) (l : List ℕ) (j : ℕ) → 15 ≤ j → Filled 15 f l (min 15 j) → Filled 15 f l (min 15 (j + 1))
+most_past f l j h d =
+    let p : min 15 j ≡ min 15 (j + 1) = omega arith in
+    subst (Filled 15 f l) p d

@@ -41,7 +41,8 @@ abbrev pub turn_on : List ℕ → (j g v l o : ℕ) → Turn
 turn_on u j g v l o = record { port = port_on v l o; allowance = pick (ltb 0 o) o (min g (count_at u j (port_on v l o))) }
 
 abbrev pub turn_at : Table → Ports → ℕ → Turn
-turn_at w d j = turn_on d.under j (get_or w.granularity j 0) (get_or d.live j 0) (get_or d.last j 0) (get_or d.allowance j 0)
+turn_at w d j =
+    turn_on d.under j (min 255 (get_or w.granularity j 0)) (get_or d.live j 0) (get_or d.last j 0) (get_or d.allowance j 0)
 
 abbrev pub pass : ℕ → Turn → Ports → Ports
 pass j x d =

@@ -45,7 +45,10 @@ impl Ports {
         let port = next_port(self.live[i], self.last[i]);
         Turn {
             port: port,
-            allowance: grant(table.granularity[i], self.count_at(j, port) as u32),
+            allowance: grant(
+                table.granularity[i].min(255) as u8,
+                self.count_at(j, port) as u32,
+            ),
         }
     }
 

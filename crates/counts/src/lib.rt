@@ -15,10 +15,10 @@ use model::PortCell;
 #[derive(Clone, Copy)]
 pub struct Table {
     pub carried: [PortCell; 120],
-    pub granularity: [u8; 15],
+    pub granularity: [u16; 15],
     pub parent_port: [u16; 15],
     pub own_port: [u16; 32],
-    pub limit: [u8; 32],
+    pub limit: [u16; 32],
     pub budget: [u16; 32],
 }
 

@@ -30,28 +30,26 @@ fn carried_of(t: Tree) -> [PortCell; 120]
 pub fn table_of(t: Tree, channel: Channel) -> Table
     ensures { result ≡ table_of t channel }
 {
-    let mut granularity = [0u8; 15];
-    let mut parent_port = [0u16; 15];
-    for j in 0..15u8 {
-        let x = interconnect_at(t, j);
-        granularity[j as usize] = x.granularity;
-        parent_port[j as usize] = port_number(x.parent, x.port);
-    }
-    let mut own_port = [0u16; 32];
-    let mut limit = [0u8; 32];
-    let mut budget = [0u16; 32];
-    for a in 0..32u8 {
-        let x = accelerator_at(t, a);
-        own_port[a as usize] = port_number(x.interconnect, x.port);
-        limit[a as usize] = limit_of(t, channel, a);
-        budget[a as usize] = x.budget;
-    }
-    Table {
+    let mut table = Table {
         carried: carried_of(t),
-        granularity: granularity,
-        parent_port: parent_port,
-        own_port: own_port,
-        limit: limit,
-        budget: budget,
+        granularity: [0; 15],
+        parent_port: [0; 15],
+        own_port: [0; 32],
+        limit: [0; 32],
+        budget: [0; 32],
+    };
+    // The interconnects in the loop of the accelerators: the compiler unrolls a loop of fifteen rounds in whole, and copies the
+    // configuration part by part for it.
+    for a in 0..32u8 {
+        if a < 15 {
+            let x = interconnect_at(t, a);
+            table.granularity[a as usize] = x.granularity as u16;
+            table.parent_port[a as usize] = port_number(x.parent, x.port);
+        }
+        let x = accelerator_at(t, a);
+        table.own_port[a as usize] = port_number(x.interconnect, x.port);
+        table.limit[a as usize] = limit_of(t, channel, a) as u16;
+        table.budget[a as usize] = x.budget;
     }
+    table
 }

@@ -8,6 +8,7 @@ ghost use Rattle.runner.specs.Arrays.{arrays_from, slot_on, serve_on, left_on, s
 use crate::{DueLines, IDLE, NextLine, SlotEnd};
 use admit::Arrays;
 use counts::{Ports, Table};
+use rules::less_one;
 use trace::request_at;
 
 // Adds the lines due in this slot to the held counts.
@@ -80,7 +81,7 @@ fn left_after(window: u32, left: u32) -> u32
     if left == 1 {
         return window;
     }
-    left.saturating_sub(1)
+    less_one(left)
 }
 
 // The accelerator whose answer comes home before the slot that follows these bytes, one a slot: the one served `delay` + 1 slots
@@ -101,7 +102,7 @@ fn come_home(home: u8, outstanding: &mut [u32; 32])
 {
     let i = home as usize;
     if i < 32 {
-        outstanding[i] = outstanding[i].saturating_sub(1);
+        outstanding[i] = less_one(outstanding[i]);
     }
 }
 

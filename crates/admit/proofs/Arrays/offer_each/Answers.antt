@@ -11,7 +11,7 @@ pub loop-a-smaller : goal.loop-a-smaller
 loop-a-smaller c =
     let k = c in
     let l = k.loop-a in
-    left_less k.args.table.now l.rest _ l.invariant.1 c.saturating_sub-rest.ensures l.a k.loop-a-test.true
+    left_less k.args.table.now l.rest _ l.invariant.1 c.less_one-rest.ensures l.a k.loop-a-test.true
 
 pub loop-a-preserved : goal.loop-a-preserved
 loop-a-preserved c =
@@ -19,8 +19,8 @@ loop-a-preserved c =
     let x = k.args in
     let l = k.loop-a in (
       omega (arith, trailing_le 32 l.rest),
-      omega (arith, and_le_l l.rest c.saturating_sub-rest.result),
-      in_lowest x.table.now l.rest _ l.invariant.1 c.saturating_sub-rest.ensures _
+      omega (arith, and_le_l l.rest c.less_one-rest.result),
+      in_lowest x.table.now l.rest _ l.invariant.1 c.less_one-rest.ensures _
           ∙ ap (offers_in x.table.now (is_in l.rest) 32) c.offer_held.ensures ∙ l.invariant.2,
     )
 
