@@ -104,7 +104,9 @@ pub fn reason_text(trace: bool, s: &[u8], number: u8, line: u32, out: &mut [u8; 
     text.len()
 }
 
-// Says on standard error, for every program, why the file of that name, a tree or, if `trace`, a trace, is refused.
+// Says on standard error, for every program, why the file of that name, a tree or, if `trace`, a trace, is refused. Not inlined: a program
+// needs the page on its stack for a refusal alone.
+#[inline(never)]
 pub fn explain(errors: &impl Print, name: &[u8], trace: bool, s: &[u8], number: u8, line: u32) {
     let mut page = [0u8; 65536];
     let n = reason_text(trace, s, number, line, &mut page);

@@ -4,7 +4,7 @@
 
 ghost use Rattle.std.specs.Prelude.{◌≡◌, ◌-◌};
 ghost use Rattle.std.specs.List.{list_all, range_with_len};
-ghost use Rattle.folds.specs.Fold.{within};
+ghost use Rattle.folds.specs.Fold.{all, within};
 ghost use Rattle.model.specs.Tree.{beat_limit, port_of};
 ghost use Rattle.rules.specs.Rules.{bus_keeps, is_empty, carries, root_placed, child_placed, is_placed, used_interconnect, unused_interconnect, interconnect_keeps, used_accelerator, unused_accelerator, accelerator_keeps, tree_keeps, on_the_way, record_keeps, turn_keeps, state_keeps, keeps};
 
@@ -67,9 +67,13 @@ fn ports_carry(t: Tree, j: u8) -> bool
 }
 
 fn ports_empty(t: Tree, j: u8) -> bool
-    ensures { result ≡ list_all (λ p. is_empty (port_of t j p)) (range_with_len 0 8) }
+    ensures { result ≡ all 8 (λ p. is_empty (port_of t j p)) }
 {
-    (0..8).all(|p| port_at(t, j, p) == Port::Empty)
+    let mut ok = true;
+    for p in 0..8 {
+        ok &= port_at(t, j, p) == Port::Empty;
+    }
+    ok
 }
 
 fn root_placed(t: Tree) -> bool
@@ -122,9 +126,13 @@ fn interconnect_keeps(t: Tree, j: u8) -> bool
 }
 
 fn interconnects_keep(t: Tree) -> bool
-    ensures { result ≡ list_all (interconnect_keeps t) (range_with_len 0 15) }
+    ensures { result ≡ all 15 (interconnect_keeps t) }
 {
-    (0..15).all(|j| interconnect_keeps(t, j))
+    let mut ok = true;
+    for j in 0..15 {
+        ok &= interconnect_keeps(t, j);
+    }
+    ok
 }
 
 fn used_accelerator(t: Tree, a: u8) -> bool
@@ -166,9 +174,13 @@ fn accelerator_keeps(t: Tree, a: u8) -> bool
 }
 
 fn accelerators_keep(t: Tree) -> bool
-    ensures { result ≡ list_all (accelerator_keeps t) (range_with_len 0 32) }
+    ensures { result ≡ all 32 (accelerator_keeps t) }
 {
-    (0..32).all(|a| accelerator_keeps(t, a))
+    let mut ok = true;
+    for a in 0..32 {
+        ok &= accelerator_keeps(t, a);
+    }
+    ok
 }
 
 // A configuration keeps its rules.

@@ -1,19 +1,18 @@
 -- Where a part or a field ends, as the first position at which a test holds; equal bytes, as the slices compare them. By the clauses of
 -- the definitions.
 use Prim.Native.Nat.{ℕ, suc, ◌+◌, ◌-◌, ◌≤◌, min}
-use mathlib.Core.Bool.{Bool, true, false, ◌&&◌, ◌||◌, cond}
+use mathlib.Core.Bool.{Bool, true, false, ◌&&◌, ◌||◌, and-false, cond}
 use mathlib.Core.List.{List, [], ◌∷◌}
 use mathlib.Core.Path.{◌≡◌, refl, ap, sym, ◌∙◌}
 use native.Mathlib.Decide.{dec_lt}
 use native.Mathlib.Omega.{arith}
 use lib.Dec.{eqb}
 use lib.ListN.{length, take, drop, drop_of_length-le, length-drop}
-use lib.Pointwise.{pointwise}
 use lib.Seq.{take_all}
 use borrow.Author.Tests.{lt-ltb, le-ltb}
 use Rattle.std.specs.Prelude.{Some, None}
 use Rattle.std.specs.Option.{unwrap_or}
-use Rattle.std.specs.List.{position, position_or_len}
+use Rattle.std.specs.List.{list_all, zip, position, position_or_len}
 use Rattle.std.proofs.lemmas.List.Recursion.{is_position_or_len}
 use Rattle.folds.specs.Fold.{pick}
 use Rattle.text.specs.Text.{part_length, field_length, same}
@@ -66,9 +65,16 @@ module _ (s : List ℕ) (at m : ℕ) (e : m ≡ min at (length s)) where
   pub field_ended : unwrap_or (position (λ b. eqb b 9 || eqb b 10) left) (length left) ≡ field_length (drop at s)
   field_ended = found_or (λ b. eqb b 9 || eqb b 10) left (field_length left) (field_found left) (field_most left) ∙ ap field_length left_is
 
-pub same_pointwise : (a b : List ℕ) → pointwise eqb a b ≡ same a b
+pub same_paired : (a b : List ℕ) → length a ≡ length b → list_all (λ p. eqb p.0 p.1) (zip a b) ≡ same a b
 unfolding same
-same_pointwise [] [] = refl
-same_pointwise [] (y ∷ b) = refl
-same_pointwise (x ∷ a) [] = refl
-same_pointwise (x ∷ a) (y ∷ b) = ap (λ (t : Bool). eqb x y && t) (same_pointwise a b)
+same_paired [] [] e = refl
+same_paired [] (y ∷ b) e = absurd (omega (arith, e))
+same_paired (x ∷ a) [] e = absurd (omega (arith, e))
+same_paired (x ∷ a) (y ∷ b) e = ap (λ (t : Bool). eqb x y && t) (same_paired a b (omega (arith, e)))
+
+pub same_long : (a b : List ℕ) → (length a ≡ length b → ⊥) → same a b ≡ false
+unfolding same
+same_long [] [] h = absurd (h refl)
+same_long [] (y ∷ b) h = refl
+same_long (x ∷ a) [] h = refl
+same_long (x ∷ a) (y ∷ b) h = rw (same_long a b (λ e. h (ap suc e))) (and-false (eqb x y))

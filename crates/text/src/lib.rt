@@ -2,6 +2,7 @@
 #![tactic(auto)]
 
 ghost use Rattle.std.specs.Prelude.{◌≡◌, ◌==◌, ◌||◌, ◌+◌, ◌≤◌, length, drop, position};
+ghost use Rattle.std.specs.List.{list_all, zip};
 ghost use Rattle.text.specs.Text.{part_length, field_length, same, is_digit, digits_of, field_of};
 
 // What a field says: "-", a number, or neither.
@@ -40,11 +41,18 @@ pub fn field_end(s: &[u8], at: usize) -> usize
     at + first_field_end(rest).unwrap_or(rest.len())
 }
 
+// Whether the bytes are equal as far as both go.
+fn pairs_same(a: &[u8], b: &[u8]) -> bool
+    ensures { result ≡ list_all (λ p. p.0 == p.1) (zip a.now b.now) }
+{
+    a.iter().zip(b).all(|(x, y)| x == y)
+}
+
 // Whether two byte strings are equal.
 pub fn same_bytes(a: &[u8], b: &[u8]) -> bool
     ensures { result ≡ same a.now b.now }
 {
-    a == b
+    a.len() == b.len() && pairs_same(a, b)
 }
 
 fn is_digit(b: u8) -> bool

@@ -1,8 +1,7 @@
 -- `tree_keeps` meets its contract: a configuration of a program has arrays of their lengths, and the rest is tested.
-use mathlib.Core.Path.{sym, ◌∙◌}
+use mathlib.Core.Path.{sym}
 use borrow.Author.Rules.{rules}
 use Rattle.rules.specs.Rules.{tree_keeps}
-use Rattle.folds.proofs.Listed.{all_listed}
 use Rattle.model.proofs.Lists.{long, and_cong}
 use Rattle.rules.proofs.Sized.{eight_cells, sized_tree_yes}
 use Rattle.rules.proofs.tree_keeps.Goals as goal
@@ -14,4 +13,4 @@ returns c =
     let z = sized_tree_yes t (search (rules, long)) (search (rules, long)) (λ j. search (rules, eight_cells)) in
     and_cong (and_cong (and_cong (and_cong (and_cong (sym z) c.bus_keeps.ensures)
     c.in_limits.ensures) c.in_limits-2.ensures)
-    (c.interconnects_keep.ensures ∙ all_listed 15 _)) (c.accelerators_keep.ensures ∙ all_listed 32 _)
+    c.interconnects_keep.ensures) c.accelerators_keep.ensures
