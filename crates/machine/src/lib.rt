@@ -141,7 +141,7 @@ fn none_waits(s: State) -> bool
     ensures { result ≡ none_waits s }
 {
     let mut ok = true;
-    for a in 0..32u8 {
+    for a in 0..32 {
         ok &= waiting_of(s, a) == 0;
     }
     ok
