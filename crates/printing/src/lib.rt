@@ -41,8 +41,6 @@ pub fn put_text<'a, F: FnOnce(&mut [u8; 65536]) -> usize>(
 }
 
 // Writes the text on standard output as it is put into an empty page, or says why it cannot be written; answers whether all of it was.
-// Not inlined: the page would lie on the stack below what its caller calls before.
-#[inline(never)]
 pub fn show_text<F: FnOnce(&mut [u8; 65536]) -> usize>(
     s: &Streams<impl Print, impl Print>,
     text: F,
