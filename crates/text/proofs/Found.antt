@@ -8,6 +8,7 @@ use native.Mathlib.Decide.{dec_lt}
 use native.Mathlib.Omega.{arith}
 use lib.Dec.{eqb}
 use lib.ListN.{length, take, drop, drop_of_length-le, length-drop}
+use lib.Pointwise.{pointwise}
 use lib.Seq.{take_all}
 use borrow.Author.Tests.{lt-ltb, le-ltb}
 use Rattle.std.specs.Prelude.{Some, None}
@@ -64,6 +65,13 @@ module _ (s : List ℕ) (at m : ℕ) (e : m ≡ min at (length s)) where
 
   pub field_ended : unwrap_or (position (λ b. eqb b 9 || eqb b 10) left) (length left) ≡ field_length (drop at s)
   field_ended = found_or (λ b. eqb b 9 || eqb b 10) left (field_length left) (field_found left) (field_most left) ∙ ap field_length left_is
+
+pub same_pointwise : (a b : List ℕ) → pointwise eqb a b ≡ same a b
+unfolding same
+same_pointwise [] [] = refl
+same_pointwise [] (y ∷ b) = refl
+same_pointwise (x ∷ a) [] = refl
+same_pointwise (x ∷ a) (y ∷ b) = ap (λ (t : Bool). eqb x y && t) (same_pointwise a b)
 
 pub same_paired : (a b : List ℕ) → length a ≡ length b → list_all (λ p. eqb p.0 p.1) (zip a b) ≡ same a b
 unfolding same
