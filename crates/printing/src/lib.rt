@@ -99,19 +99,30 @@ fn refuse(s: &Streams<impl Print, impl Print>, file: NamedFile<'_>, e: PlanError
     reasons::explain(s.errors, file.name, false, file.bytes, number, line);
 }
 
+// Writes what `print` puts into a page of the file's tree, or its refusal.
+fn print_bytes<F: FnOnce(&[u8], &mut [u8; 65536]) -> Result<usize, PlanError>>(
+    s: &Streams<impl Print, impl Print>,
+    file: NamedFile<'_>,
+    print: F,
+)
+    requires { F.IsAlwaysCallable print }
+{
+    let mut page = [0u8; 65536];
+    match print(file.bytes, &mut page) {
+        Ok(n) => {
+            input::write_out(s.out, s.errors, filled(&page, n));
+        }
+        Err(e) => refuse(s, file, e),
+    }
+}
+
 // Writes what the program prints of the file's tree, or its refusal.
 fn print_tree<P: TreeProgram>(
     s: &Streams<impl Print, impl Print>,
     file: NamedFile<'_>,
     program: &P,
 ) {
-    let mut page = [0u8; 65536];
-    match program.print(file.bytes, &mut page) {
-        Ok(n) => {
-            input::write_out(s.out, s.errors, filled(&page, n));
-        }
-        Err(e) => refuse(s, file, e),
-    }
+    print_bytes(s, file, |tree, page| program.print(tree, page));
 }
 
 fn print_file<P: TreeProgram>(
@@ -127,6 +138,22 @@ fn print_file<P: TreeProgram>(
     print_tree(s, file, program);
 }
 
+// The same of a text that is put by `print`.
+fn print_read<F: FnOnce(&[u8], &mut [u8; 65536]) -> Result<usize, PlanError> + Drop>(
+    s: &Streams<impl Files + Print, impl Print>,
+    stdin: &mut impl Read,
+    name: &[u8],
+    print: F,
+)
+    requires { F.IsAlwaysCallable print }
+{
+    let mut buf = [0u8; 65537];
+    let Some(file) = load(s, stdin, name, &mut buf) else {
+        return;
+    };
+    print_bytes(s, file, print);
+}
+
 // A program of one tree file: its usage and its help, each put into a page, and what it prints of the file's tree.
 pub trait TreeProgram {
     fn usage(&self, page: &mut [u8; 65536]) -> usize;
@@ -136,24 +163,34 @@ pub trait TreeProgram {
     fn print(&self, tree: &[u8], page: &mut [u8; 65536]) -> Result<usize, PlanError>;
 }
 
+// What the first three words ask of a program of one tree file, with the first, which may be the file's name.
+fn asked<'a>(
+    words: &impl Env,
+    stdin: &impl IsTerminal,
+    first: &'a mut [u8; 131072],
+) -> (Asked<Source>, &'a [u8]) {
+    let mut second = [0u8; 131072];
+    let mut third = [0u8; 131072];
+    let name = input::word(words, 1, first);
+    let terminal = stdin.is_terminal();
+    let asked = usage::file_asked(
+        input::words(words),
+        name,
+        input::word(words, 2, &mut second),
+        input::word(words, 3, &mut third),
+        terminal,
+    );
+    (asked, name)
+}
+
 // What the first three words ask of the program: its usage, its help, or what it prints of the file's tree.
-pub fn run<P: TreeProgram>(
+pub fn run_program<P: TreeProgram>(
     s: &Streams<impl Env + Files + Print, impl Print>,
     stdin: &mut (impl Read + IsTerminal),
     program: &P,
 ) {
     let mut first = [0u8; 131072];
-    let mut second = [0u8; 131072];
-    let mut third = [0u8; 131072];
-    let name = input::word(s.out, 1, &mut first);
-    let terminal = stdin.is_terminal();
-    let asked = usage::file_asked(
-        input::words(s.out),
-        name,
-        input::word(s.out, 2, &mut second),
-        input::word(s.out, 3, &mut third),
-        terminal,
-    );
+    let (asked, name) = asked(s.out, stdin, &mut first);
     match asked {
         Asked::Usage => say_text(s, |page| program.usage(page)),
         Asked::Help => {
@@ -161,5 +198,33 @@ pub fn run<P: TreeProgram>(
         }
         Asked::Run(Source::Input) => print_file(s, stdin, b"-", program),
         Asked::Run(Source::File) => print_file(s, stdin, name, program),
+    }
+}
+
+// The same of a program that is lent as its three functions, each called once at most.
+pub fn run<
+    U: FnOnce(&mut [u8; 65536]) -> usize + Drop,
+    H: FnOnce(&mut [u8; 65536]) -> usize + Drop,
+    F: FnOnce(&[u8], &mut [u8; 65536]) -> Result<usize, PlanError> + Drop,
+>(
+    s: &Streams<impl Env + Files + Print, impl Print>,
+    stdin: &mut (impl Read + IsTerminal),
+    usage: U,
+    help: H,
+    print: F,
+)
+    requires usage { U.IsAlwaysCallable usage }
+    requires help { H.IsAlwaysCallable help }
+    requires print { F.IsAlwaysCallable print }
+{
+    let mut first = [0u8; 131072];
+    let (asked, name) = asked(s.out, stdin, &mut first);
+    match asked {
+        Asked::Usage => say_text(s, usage),
+        Asked::Help => {
+            show_text(s, help);
+        }
+        Asked::Run(Source::Input) => print_read(s, stdin, b"-", print),
+        Asked::Run(Source::File) => print_read(s, stdin, name, print),
     }
 }

@@ -3,7 +3,7 @@
 #![tactic(auto)]
 
 use plan::PlanError;
-use printing::{Streams, TreeProgram, run};
+use printing::{Streams, TreeProgram, run_program};
 
 struct Rewrite;
 
@@ -26,5 +26,5 @@ fn main(rt: HostRuntime) {
         out: &rt,
         errors: &rt.stderr(),
     };
-    run(s, &mut rt.stdin(), &Rewrite);
+    run_program(s, &mut rt.stdin(), &Rewrite);
 }

@@ -1,6 +1,7 @@
 // A program that writes every text the programs print: help and usage, the report, the rewriting and refusals of tree files,
 // simulations of refused, done and stopped runs of both channels by the word SLOTS, waits, bursts in pieces, and refusals in words;
-// what the programs do by their words; and which files can be read. The file `stdout` holds them, written apart from the definitions.
+// what the programs do by their words; which files can be read; and what is done of a program that is lent as three functions. The file
+// `stdout` holds them, written apart from the definitions.
 #![tactic(auto)]
 
 use answers::channel_number;
@@ -8,11 +9,11 @@ use burst::Burst;
 use input::filled;
 use model::Channel;
 use plan::{PlanError, refused_line, refused_number};
-use printing::put_text;
+use printing::{Streams, put_text};
 use simulation::{Part, Simulation};
 use std::io;
-use std::io::Read;
-use std::rt::Files;
+use std::io::{IsTerminal, Read};
+use std::rt::{Env, Files};
 use text::same_bytes;
 use usage::{Asked, Denied, Source};
 
@@ -944,6 +945,66 @@ fn programs(out: &impl Print, tree: &[u8]) {
     older_refused(out);
 }
 
+// What reads as a standard input that holds these bytes, and is a terminal or not.
+#[derive(Drop)]
+struct Given<'a> {
+    bytes: &'a [u8],
+    terminal: bool,
+}
+
+impl Read for Given<'_> {
+    fn read(&mut self, buf: &mut [u8]) -> io::Result<usize> {
+        let n = self.bytes.len().min(buf.len());
+        let (now, later) = self.bytes.split_at(n);
+        buf[..n].copy_from_slice(now);
+        self.bytes = later;
+        Ok(n)
+    }
+}
+
+impl IsTerminal for Given<'_> {
+    fn is_terminal(&self) -> bool {
+        self.terminal
+    }
+}
+
+// What `printing::run` does with no word, of a program that is lent as its three functions: on both outputs, here the one.
+fn run_lent(rt: &(impl Env + Files + Print), bytes: &[u8], terminal: bool) {
+    let s = &Streams {
+        out: rt,
+        errors: rt,
+    };
+    printing::run(
+        s,
+        &mut Given { bytes, terminal },
+        usage::report_usage,
+        usage::report_help,
+        plan::report,
+    );
+    printing::run(
+        s,
+        &mut Given { bytes, terminal },
+        usage::rewrite_usage,
+        usage::rewrite_help,
+        |tree, page| plan::rewrite(tree, page),
+    );
+}
+
+// A tree, a file that is refused, and a terminal.
+fn run_all_lent(rt: &(impl Env + Files + Print)) {
+    run_lent(
+        rt,
+        b"bus\t8\t1\t4\t2\t2\t30\t25\t1\t1\t16\nint\t0\t-\t-\t1\nacc\t1\t0\t3\t4\t2\t1\t0\t0\t100\nacc\t0\t0\t0\t4\t2\t10\t5\t1000\t2000\n",
+        false,
+    );
+    run_lent(
+        rt,
+        b"bus\t8\t1\t4\t2\t2\t30\t25\t1\t1\t16\nint\t0\t-\t-\t17\n",
+        false,
+    );
+    run_lent(rt, b"", true);
+}
+
 fn main(rt: HostRuntime) {
     let out = &rt;
     show_usage(out);
@@ -963,4 +1024,5 @@ fn main(rt: HostRuntime) {
     say_limits(out);
     say_numbers(out);
     say_older(out);
+    run_all_lent(&rt);
 }
