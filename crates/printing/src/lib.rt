@@ -138,8 +138,8 @@ fn print_file<P: TreeProgram>(
     print_tree(s, file, program);
 }
 
-// The same of a text that is put by `print`.
-fn print_read<F: FnOnce(&[u8], &mut [u8; 65536]) -> Result<usize, PlanError> + Drop>(
+// Reads the file of that name, and writes what `print` puts into a page of its tree, or its refusal.
+fn print_named<F: FnOnce(&[u8], &mut [u8; 65536]) -> Result<usize, PlanError> + Drop>(
     s: &Streams<impl Files + Print, impl Print>,
     stdin: &mut impl Read,
     name: &[u8],
@@ -201,7 +201,8 @@ pub fn run_program<P: TreeProgram>(
     }
 }
 
-// The same of a program that is lent as its three functions, each called once at most.
+// What the first three words ask of a program that is lent as three functions, each of which is called once at most: its usage, its help,
+// or what it prints of the file's tree.
 pub fn run<
     U: FnOnce(&mut [u8; 65536]) -> usize + Drop,
     H: FnOnce(&mut [u8; 65536]) -> usize + Drop,
@@ -224,7 +225,7 @@ pub fn run<
         Asked::Help => {
             show_text(s, help);
         }
-        Asked::Run(Source::Input) => print_read(s, stdin, b"-", print),
-        Asked::Run(Source::File) => print_read(s, stdin, name, print),
+        Asked::Run(Source::Input) => print_named(s, stdin, b"-", print),
+        Asked::Run(Source::File) => print_named(s, stdin, name, print),
     }
 }

@@ -11,6 +11,10 @@ use model::Channel;
 use plan::{PlanError, refused_line, refused_number};
 use printing::{Streams, put_text};
 use simulation::{Part, Simulation};
+use std::alloc::Allocator;
+use std::env::FillError;
+use std::fmt::Display;
+use std::fs::{Metadata, OpenOptions};
 use std::io;
 use std::io::{IsTerminal, Read};
 use std::rt::{Env, Files};
@@ -968,11 +972,103 @@ impl IsTerminal for Given<'_> {
     }
 }
 
-// What `printing::run` does with no word, of a program that is lent as its three functions: on both outputs, here the one.
-fn run_lent(rt: &(impl Env + Files + Print), bytes: &[u8], terminal: bool) {
+// The system, but that the program was started with this word, or with none.
+#[derive(Drop)]
+struct Worded<'a, R> {
+    rt: &'a R,
+    word: Option<&'a [u8]>,
+}
+
+impl<R> Env for Worded<'_, R> {
+    fn arg(&self, i: usize, buf: &mut [u8]) -> Result<usize, FillError> {
+        let Some(word) = self.word else {
+            return Err(FillError::NotPresent);
+        };
+        if i != 1 {
+            return Err(FillError::NotPresent);
+        }
+        if buf.len() < word.len() {
+            return Err(FillError::TooLong);
+        }
+        buf[..word.len()].copy_from_slice(word);
+        Ok(word.len())
+    }
+
+    fn var(&self, _name: &str, _buf: &mut [u8]) -> Result<usize, FillError> {
+        Err(FillError::NotPresent)
+    }
+
+    fn var_at(&self, _i: usize, _buf: &mut [u8]) -> Result<usize, FillError> {
+        Err(FillError::NotPresent)
+    }
+}
+
+impl<R: Print> Print for Worded<'_, R> {
+    fn print<D: Display + Drop>(&self, value: D) -> io::Result<()> {
+        self.rt.print(value)
+    }
+
+    fn println<D: Display + Drop>(&self, value: D) -> io::Result<()> {
+        self.rt.println(value)
+    }
+
+    fn write_all(&self, bytes: &[u8]) -> io::Result<()> {
+        self.rt.write_all(bytes)
+    }
+}
+
+impl<R: Files> Files for Worded<'_, R> {
+    type File = R::File;
+
+    type Dir = R::Dir;
+
+    fn open_file(&self, how: &OpenOptions, path: &str) -> io::Result<R::File> {
+        self.rt.open_file(how, path)
+    }
+
+    fn open_dir(&self, path: &str) -> io::Result<R::Dir> {
+        self.rt.open_dir(path)
+    }
+
+    fn metadata(&self, path: &str) -> io::Result<Metadata> {
+        self.rt.metadata(path)
+    }
+
+    fn symlink_metadata(&self, path: &str) -> io::Result<Metadata> {
+        self.rt.symlink_metadata(path)
+    }
+
+    fn copy(&self, from: &str, to: &str) -> io::Result<u64> {
+        self.rt.copy(from, to)
+    }
+
+    fn rename(&self, from: &str, to: &str) -> io::Result<()> {
+        self.rt.rename(from, to)
+    }
+
+    fn remove_file(&self, path: &str) -> io::Result<()> {
+        self.rt.remove_file(path)
+    }
+
+    fn create_dir(&self, path: &str) -> io::Result<()> {
+        self.rt.create_dir(path)
+    }
+
+    fn remove_dir(&self, path: &str) -> io::Result<()> {
+        self.rt.remove_dir(path)
+    }
+
+    fn remove_dir_all<B: Allocator>(&self, alloc: B, path: &str) -> io::Result<()> {
+        self.rt.remove_dir_all(alloc, path)
+    }
+}
+
+// What `printing::run` does with that word, of a program that is lent as its three functions: on both outputs, here the one.
+fn run_lent(rt: &(impl Files + Print), word: Option<&[u8]>, bytes: &[u8], terminal: bool) {
+    let system = &Worded { rt, word };
     let s = &Streams {
-        out: rt,
-        errors: rt,
+        out: system,
+        errors: system,
     };
     printing::run(
         s,
@@ -990,19 +1086,23 @@ fn run_lent(rt: &(impl Env + Files + Print), bytes: &[u8], terminal: bool) {
     );
 }
 
-// A tree, a file that is refused, and a terminal.
-fn run_all_lent(rt: &(impl Env + Files + Print)) {
+// A tree and a file that is refused, on standard input; a terminal there; the help; a file by its name.
+fn run_all_lent(rt: &(impl Files + Print)) {
     run_lent(
         rt,
+        None,
         b"bus\t8\t1\t4\t2\t2\t30\t25\t1\t1\t16\nint\t0\t-\t-\t1\nacc\t1\t0\t3\t4\t2\t1\t0\t0\t100\nacc\t0\t0\t0\t4\t2\t10\t5\t1000\t2000\n",
         false,
     );
     run_lent(
         rt,
+        None,
         b"bus\t8\t1\t4\t2\t2\t30\t25\t1\t1\t16\nint\t0\t-\t-\t17\n",
         false,
     );
-    run_lent(rt, b"", true);
+    run_lent(rt, None, b"", true);
+    run_lent(rt, Some(b"--help"), b"", true);
+    run_lent(rt, Some(b"five.txt"), b"", true);
 }
 
 fn main(rt: HostRuntime) {
